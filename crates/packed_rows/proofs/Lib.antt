@@ -1,0 +1,9 @@
+pub mod Lists
+pub mod Bits
+pub mod RowPixels
+pub mod Texts
+pub mod StoredRows
+pub mod Blackened
+pub mod StoredBitmaps
+pub mod Counts
+pub mod Copied

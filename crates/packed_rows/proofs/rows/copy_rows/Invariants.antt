@@ -1,0 +1,5 @@
+use Rattle.packed_rows.proofs.Copied.{IsCopied}
+use Rattle.packed_rows.proofs.rows.copy_rows.Given as goal
+
+abbrev pub invariant-loop-to : goal.invariant-loop-to
+invariant-loop-to l = IsCopied l.stride l.y l.to l.initial.bytes l.bytes

@@ -1,0 +1,4 @@
+pub mod Bitmap
+pub mod Packing
+pub mod Stored
+pub mod Changes

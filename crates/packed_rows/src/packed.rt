@@ -1,0 +1,146 @@
+//! A bitmap of packed rows.
+
+ghost use Rattle.std.specs.Prelude.{◌≡◌, ◌+◌, ◌^◌, ◌<◌, ◌≤◌, [], IfOk, slice_index_or};
+ghost use Rattle.std.specs.List.{flat_map};
+ghost use Rattle.packed_rows.specs.Bitmap.{is_black};
+ghost use Rattle.packed_rows.specs.Changes.{white_bitmap, with_black, with_copies, black_count};
+ghost use Rattle.packed_rows.specs.Packing.{row_text, pixels_of, IsPadded};
+
+use crate::row::{is_black, row_bytes};
+use crate::rows::{Span, blacken_rows, copy_rows};
+use std::alloc::{AllocError as NoMemory, Global};
+use std::marker::Model;
+
+/// A bitmap, seen as its width, its height and its rows of pixels. Its rows lie side by side.
+#[derive(Drop)]
+pub struct PackedBitmap {
+    width: u32,
+    height: u32,
+    bytes: Vec<u8>,
+}
+
+impl Model for PackedBitmap {
+    ghost use Rattle.packed_rows.specs.Bitmap.{Bitmap};
+    ghost use Rattle.packed_rows.specs.Stored.{bitmap_of, IsStored};
+
+    ghost Value = { Bitmap };
+
+    ghost view = { λ b. bitmap_of b.width b.height b.bytes.items };
+
+    ghost invariant = { λ b. IsStored b.width b.height b.bytes.items };
+}
+
+impl PackedBitmap {
+    /// A bitmap of white pixels, in one zeroed allocation. The only call that takes memory.
+    pub fn white(alloc: Global, width: u32, height: u32) -> Result<PackedBitmap, NoMemory>
+        requires narrow { width < 2 ^ 16 }
+        requires low { height < 2 ^ 16 }
+        ensures white { IfOk result (λ b. b ≡ white_bitmap width height) }
+    {
+        let bytes = vec![in alloc; 0; row_bytes(width) * height as usize]?;
+        Ok(PackedBitmap {
+            width,
+            height,
+            bytes,
+        })
+    }
+
+    /// How many pixels a row has.
+    pub fn width(&self) -> u32
+        ensures value { result ≡ self.now.width }
+        ensures narrow { result < 2 ^ 16 }
+    {
+        self.width
+    }
+
+    /// How many rows there are.
+    pub fn height(&self) -> u32
+        ensures value { result ≡ self.now.height }
+        ensures low { result < 2 ^ 16 }
+    {
+        self.height
+    }
+
+    /// Whether pixel `x` of row `y` is black.
+    pub fn is_black(&self, x: u32, y: u32) -> bool
+        requires in_row { x < self.now.width }
+        requires inside { y < self.now.height }
+        ensures { result ≡ is_black self.now x y }
+    {
+        is_black(self.row(y), x as usize)
+    }
+
+    /// Makes the pixels of some columns black in some rows, and leaves the others as they are.
+    pub fn blacken(&mut self, columns: Span, rows: Span)
+        requires columns_ordered { columns.from ≤ columns.until }
+        requires columns_inside { columns.until ≤ self.old.width }
+        requires rows_ordered { rows.from ≤ rows.until }
+        requires rows_inside { rows.until ≤ self.old.height }
+        ensures { self.new ≡ with_black self.old columns.from columns.until rows.from rows.until }
+    {
+        blacken_rows(&mut self.bytes, row_bytes(self.width), columns, rows);
+    }
+
+    /// Makes the rows below row `y`, so many of them, copies of it.
+    pub fn copy_down(&mut self, y: usize, copies: usize)
+        requires { y + copies < self.old.height }
+        ensures { self.new ≡ with_copies self.old y copies }
+    {
+        copy_rows(&mut self.bytes, row_bytes(self.width), y, copies);
+    }
+
+    /// The bytes of row `y`: eight pixels a byte, the first in the high bit, 1 for black, and zero bits behind the last.
+    pub fn row(&self, y: u32) -> &[u8]
+        requires { y < self.now.height }
+        ensures text { result.now ≡ row_text (slice_index_or self.now.rows y []) }
+        ensures dots { pixels_of self.now.width result.now ≡ slice_index_or self.now.rows y [] }
+        ensures padded { IsPadded self.now.width result.now }
+    {
+        let stride = row_bytes(self.width);
+        let start = y as usize * stride;
+        &self.bytes[start..start + stride]
+    }
+
+    /// The bytes of all rows, one after another.
+    pub fn rows(&self) -> &[u8]
+        ensures { result.now ≡ flat_map row_text self.now.rows }
+    {
+        &self.bytes
+    }
+
+    /// How many pixels are black.
+    pub fn count(&self) -> u64
+        ensures { result ≡ black_count self.now }
+    {
+        let mut count = 0;
+        for byte in &self.bytes {
+            count += u64::from(byte.count_ones());
+        }
+        count
+    }
+}
+
+#[cfg(test)]
+mod tests {
+    use super::*;
+    use std::test::Fail;
+
+    #[test]
+    fn rows_are_blackened_and_copied(rt: HostRuntime) -> Result<(), Fail> {
+        let mut bitmap = PackedBitmap::white(rt.alloc(), 10, 4)?;
+        assert_eq!(rt; bitmap.width(), 10);
+        assert_eq!(rt; bitmap.height(), 4);
+        assert_eq!(rt; bitmap.count(), 0);
+        bitmap.blacken(Span { from: 6, until: 10 }, Span { from: 1, until: 2 });
+        assert_eq!(rt; bitmap.rows(), [0, 0, 0x03, 0xc0, 0, 0, 0, 0].as_slice());
+        bitmap.copy_down(1, 1);
+        assert_eq!(rt;
+            bitmap.rows(),
+            [0, 0, 0x03, 0xc0, 0x03, 0xc0, 0, 0].as_slice()
+        );
+        assert_eq!(rt; bitmap.row(2), [0x03, 0xc0].as_slice());
+        assert!(rt; bitmap.is_black(6, 2) && !bitmap.is_black(5, 2));
+        assert_eq!(rt; bitmap.count(), 8);
+        Ok(())
+    }
+}
