@@ -1,0 +1,9 @@
+use Rattle.outside.proofs.Growth.{failed_now}
+use Rattle.outside.proofs.Pieces.{flushed}
+use Rattle.outside.proofs.gather.Gather.flush.Goals as goal
+
+pub returns-clause-gathers : goal.returns-clause-gathers
+returns-clause-gathers g c start before text h = record {
+  gathered = flushed c.write_all-result.result c.args.self.now.failed c.is_err-self.result _ start _ _ text c.if-self.false c.is_err-self.ensures.value c.write_all-result.ensures.grew h.gathered;
+  cause = failed_now c.write_all-result.result before _ _ c.args.self.now.failed c.is_err-self.result c.is_err-self.ensures.value h.cause c.write_all-result.ensures.cause;
+}

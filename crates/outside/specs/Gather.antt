@@ -1,0 +1,28 @@
+-- A text that is written in pieces.
+use Rattle.std.specs.Prelude.{◌≡◌, ◌++◌, ℕ, true, List, Option, take, MatchBool}
+use Rattle.std.specs.Io.KnownBytes.{Appends}
+use Rattle.outside.specs.Counts.{HasCause}
+use Rattle.outside.specs.Streams.{AppendsPrefix}
+use Rattle.outside.specs.declared.gather.Gather.{Gather}
+
+-- what is put and not yet written
+abbrev pub held : Gather → List ℕ
+held g = take g.used g.piece
+
+-- what is told grew by a front of the text; the rest is held
+pub record IsHeld (held : List ℕ) (start now : Option (List ℕ)) (text : List ℕ) : Type 0 where
+  pub front : List ℕ
+  pub grew : Appends start now front
+  pub text_is : text ≡ front ++ held
+
+-- since the start the text was put: it is written or held, or a front of it is written
+abbrev pub Gathered : Gather → Option (List ℕ) → Option (List ℕ) → List ℕ → Type 0
+Gathered g start now text =
+    MatchBool g.failed (AppendsPrefix start now text) (IsHeld (held g) start now text)
+
+-- Since what is told was `start` and the count of faults `before`, the text was put and no other
+-- byte was written: `written` and `now` are what is told and the count since then.
+pub record Gathers (start : Option (List ℕ)) (before : ℕ) (g : Gather)
+    (written : Option (List ℕ)) (now : ℕ) (text : List ℕ) : Type 0 where
+  pub gathered : Gathered g start written text
+  pub cause : HasCause before now (g.failed ≡ true)

@@ -1,0 +1,4 @@
+pub mod Counts
+pub mod Streams
+pub mod Gather
+pub mod Library

@@ -1,0 +1,82 @@
+//! The calls of a `Gather`.
+ghost use Rattle.std.specs.Prelude.{◌≡◌, ◌⊎◌, ◌≤◌, ◌+◌, ◌++◌, ℕ, List, Option, []};
+ghost use Rattle.outside.specs.Streams.{Writes};
+ghost use Rattle.outside.specs.Gather.{Gathers};
+
+use super::{Gather, PIECE};
+use crate::{Failed, Output, write_all};
+
+impl Gather {
+    /// Nothing was put.
+    pub fn new() -> Gather
+        ensures { (written : Option (List ℕ)) (faults : ℕ)
+            → Gathers written faults result written faults [] }
+    {
+        Gather {
+            piece: [0; PIECE],
+            used: 0,
+            failed: false,
+        }
+    }
+
+    // Writes what is held.
+    fn flush<O: Output>(&mut self, out: &mut O)
+        ensures gathers { (start : Option (List ℕ)) (before : ℕ) (text : List ℕ)
+            → Gathers start before self.old (O.written out.old) (O.faults out.old) text
+            → Gathers start before self.new (O.written out.new) (O.faults out.new) text }
+        ensures used { self.new.used ≡ 0 }
+    {
+        if self.failed {
+            self.used = 0;
+            return;
+        }
+        let result = write_all(out, &self.piece[..self.used]);
+        self.used = 0;
+        self.failed = result.is_err();
+    }
+
+    // Writes what is held where there is no room for so many bytes behind it.
+    fn make_room<O: Output>(&mut self, out: &mut O, size: usize)
+        ensures gathers { (start : Option (List ℕ)) (before : ℕ) (text : List ℕ)
+            → Gathers start before self.old (O.written out.old) (O.faults out.old) text
+            → Gathers start before self.new (O.written out.new) (O.faults out.new) text }
+        ensures room { self.new.used + size ≤ 16384 ⊎ (self.new.used ≡ 0) }
+    {
+        if size > PIECE - self.used {
+            self.flush(out);
+        }
+    }
+
+    /// Puts the bytes behind what was put before. More bytes than are gathered for one write go to
+    /// the output at once, uncopied.
+    pub fn put<O: Output>(&mut self, out: &mut O, bytes: &[u8])
+        ensures { (start : Option (List ℕ)) (before : ℕ) (text longer : List ℕ)
+            → Gathers start before self.old (O.written out.old) (O.faults out.old) text
+            → longer ≡ text ++ bytes.now
+            → Gathers start before self.new (O.written out.new) (O.faults out.new) longer }
+    {
+        self.make_room(out, bytes.len());
+        if self.failed {
+            return;
+        }
+        if bytes.len() > PIECE - self.used {
+            let result = write_all(out, bytes);
+            self.failed = result.is_err();
+            return;
+        }
+        let end = self.used + bytes.len();
+        self.piece[self.used..end].copy_from_slice(bytes);
+        self.used = end;
+    }
+
+    /// Writes what is still held. `Failed` where a write failed, now or at an earlier `put`: then a
+    /// front of the text was written.
+    pub fn finish<O: Output>(mut self, out: &mut O) -> Result<(), Failed>
+        ensures { (start : Option (List ℕ)) (before : ℕ) (text : List ℕ)
+            → Gathers start before self (O.written out.old) (O.faults out.old) text
+            → Writes start (O.written out.new) before (O.faults out.new) text result }
+    {
+        self.flush(out);
+        if self.failed { Err(Failed) } else { Ok(()) }
+    }
+}

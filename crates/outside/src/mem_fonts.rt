@@ -1,0 +1,102 @@
+//! Font sources in memory: one of which chosen calls fail, and one that never fails.
+ghost use Rattle.std.specs.Prelude.{◌≡◌, ◌↔◌, Some, Contains, IfOk, IsErrOf};
+ghost use Rattle.std.specs.Option.{option_map};
+ghost use Rattle.outside.specs.Counts.{HasCause, next_count};
+ghost use Rattle.outside.specs.Library.{IsFileOf};
+
+use crate::memory::is_listed;
+use crate::{FileName, FontSource, Library, LoadStop};
+use std::sync::Arc;
+
+/// A library of which the numbered loads fail.
+#[derive(Drop)]
+pub struct MemFonts {
+    library: Arc<Library>,
+    fails: Vec<u64>,
+    loads: u64,
+    faults: u64,
+}
+
+impl MemFonts {
+    /// The loads that `fails` names, from 1, fail.
+    pub fn new(library: Arc<Library>, fails: Vec<u64>) -> MemFonts
+        ensures library { result.library.value ≡ library.value }
+        ensures fails { result.fails.items ≡ fails.items }
+        ensures unused { (result.loads ≡ 0) × (result.faults ≡ 0) }
+    {
+        MemFonts {
+            library,
+            fails,
+            loads: 0,
+            faults: 0,
+        }
+    }
+}
+
+impl FontSource for MemFonts {
+    ghost library = { λ m. Some m.library.value };
+
+    ghost faults = { λ m. m.faults };
+
+    ghost loads = { λ m. m.loads };
+
+    fn load(&mut self, name: &FileName) -> Result<Option<Vec<u8>>, LoadStop>
+        ensures file { IfOk result (λ found. IsFileOf (Some self.old.library.value) name.now
+            (option_map (λ bytes. bytes.items) found)) }
+        ensures same_library { Some self.new.library.value ≡ Some self.old.library.value }
+        ensures cause { HasCause self.old.faults self.new.faults (IsErrOf result LoadStop.Failed) }
+        ensures counted { self.new.loads ≡ next_count self.old.loads }
+
+        // The loads are counted from 1, and exactly those that are listed fail.
+        ensures listed { (result ≡ Err LoadStop.Failed)
+            ↔ Contains self.old.fails.items self.new.loads }
+        ensures faulty { result ≡ Err LoadStop.Failed
+            → self.new.faults ≡ next_count self.old.faults }
+        ensures keeps { self.new.fails ≡ self.old.fails }
+    {
+        self.loads = self.loads.saturating_add(1);
+        if is_listed(&self.fails, self.loads) {
+            self.faults = self.faults.saturating_add(1);
+            return Err(LoadStop::Failed);
+        }
+        Ok(self.library.copy_of(name)?)
+    }
+}
+
+/// A library of which no load fails, but for want of memory.
+#[derive(Drop)]
+pub struct SureFonts {
+    library: Arc<Library>,
+    loads: u64,
+}
+
+impl SureFonts {
+    /// A source of the library's files.
+    pub fn new(library: Arc<Library>) -> SureFonts
+        ensures library { result.library.value ≡ library.value }
+        ensures unused { result.loads ≡ 0 }
+    {
+        SureFonts { library, loads: 0 }
+    }
+}
+
+impl FontSource for SureFonts {
+    ghost library = { λ s. Some s.library.value };
+
+    ghost faults = { λ _. 0 };
+
+    ghost loads = { λ s. s.loads };
+
+    fn load(&mut self, name: &FileName) -> Result<Option<Vec<u8>>, LoadStop>
+        ensures file { IfOk result (λ found. IsFileOf (Some self.old.library.value) name.now
+            (option_map (λ bytes. bytes.items) found)) }
+        ensures same_library { Some self.new.library.value ≡ Some self.old.library.value }
+        ensures cause { HasCause 0 0 (IsErrOf result LoadStop.Failed) }
+        ensures counted { self.new.loads ≡ next_count self.old.loads }
+
+        ensures never_fails { ¬ (result ≡ Err LoadStop.Failed) }
+    {
+        self.loads = self.loads.saturating_add(1);
+        Ok(self.library.copy_of(name)?)
+    }
+}
