@@ -1,0 +1,211 @@
+//! The conversion of lengths.
+
+ghost use Rattle.std.specs.Prelude.{◌≡◌, ◌+◌, ◌*◌, ◌/◌, ◌^◌, ◌<◌, ◌≤◌, ◌<ℤ◌, ◌↔◌, pos, unsigned_abs, IfOk, IsErr};
+ghost use Rattle.std.specs.Int.{div_ceil};
+ghost use Rattle.pixel_round.specs.Pixels.{conversion, nearest, round, ceil, IsUsable};
+
+use crate::units::Units;
+use std::error::Error;
+use std::fmt;
+use std::marker::Model;
+
+/// A unit would be more than 512 dots.
+#[derive(Clone, Copy, Debug, PartialEq, Eq)]
+pub struct Scale;
+
+impl fmt::Display for Scale {
+    fn fmt<W: fmt::Write>(&self, f: &mut fmt::Formatter<W>) -> fmt::Result {
+        f.write_str("a DVI unit is more than 512 dots")
+    }
+}
+
+impl Error for Scale {}
+
+/// How many dots one DVI unit is, as an exact fraction that is at most 512.
+#[derive(Clone, Copy, Debug)]
+pub struct Conv {
+    top: u128,
+    bottom: u128,
+}
+
+impl Model for Conv {
+    ghost use Rattle.std.specs.Prelude.{◌<◌, ◌≤◌, ◌*◌, ◌^◌};
+    ghost use Rattle.pixel_round.specs.Pixels.{Fraction};
+
+    ghost Value = { Fraction };
+
+    ghost view = { λ c. record { top = c.top; bottom = c.bottom } };
+
+    ghost invariant = { λ c. (0 < c.top) × (0 < c.bottom) × (c.top ≤ 512 * c.bottom) × (c.bottom < 2 ^ 59) };
+
+    ghost inverse = { λ c. record { top = c.top; bottom = c.bottom } };
+}
+
+impl Conv {
+    /// The conversion of a document at a resolution. The fractions of a preamble are positive numbers of four bytes with a
+    /// sign, and the resolution is 1 to 4800 dots to the inch.
+    ///
+    /// `Scale` is answered exactly where a unit would be more than 512 dots.
+    pub fn new(units: &Units) -> Result<Conv, Scale>
+        requires num { (0 < units.now.num) × (units.now.num < 2 ^ 31) }
+        requires den { (0 < units.now.den) × (units.now.den < 2 ^ 31) }
+        requires mag { (0 < units.now.mag) × (units.now.mag < 2 ^ 31) }
+        requires res { (0 < units.now.res) × (units.now.res ≤ 4800) }
+        ensures made { IfOk result (λ c. c ≡ conversion units.now) }
+        ensures usable { IfOk result IsUsable }
+        ensures refused { IsErr result ↔ (512 * (conversion units.now).bottom < (conversion units.now).top) }
+    {
+        let top = u128::from(units.num) * u128::from(units.res) * u128::from(units.mag);
+        let bottom = 254000000 * u128::from(units.den);
+        if top > 512 * bottom {
+            return Err(Scale);
+        }
+        Ok(Conv { top, bottom })
+    }
+
+    /// A length or a motion in whole dots: the nearest number, and of two such numbers the one farther from zero.
+    ///
+    /// Knuth, DVItype, "Translation to symbolic form" (pixel_round).
+    pub fn round(&self, x: i64) -> i64
+        requires { unsigned_abs x ≤ 2 ^ 31 }
+        ensures value { result ≡ round self.now x }
+        ensures bounded { unsigned_abs result ≤ 512 * unsigned_abs x + 1 }
+    {
+        let dots = self.nearest(x.unsigned_abs());
+        if x < 0 { -dots } else { dots }
+    }
+
+    /// The side of a rule in whole dots: the least number that isn't below it.
+    ///
+    /// Knuth, DVItype, "Translation to symbolic form" (rule_pixels).
+    pub fn ceil(&self, x: i64) -> i64
+        requires { unsigned_abs x ≤ 2 ^ 31 }
+        ensures value { result ≡ ceil self.now x }
+        ensures bounded { unsigned_abs result ≤ 512 * unsigned_abs x + 1 }
+        ensures has_a_dot { pos 0 <ℤ x → pos 0 <ℤ result }
+    {
+        let size = x.unsigned_abs();
+        if x < 0 {
+            -self.floor(size)
+        } else {
+            self.least(size)
+        }
+    }
+
+    // The nearest whole number of dots of a size, halves up.
+    fn nearest(&self, size: u64) -> i64
+        requires { size ≤ 2 ^ 31 }
+        ensures value { result ≡ pos (nearest self.now size) }
+        ensures bounded { nearest self.now size ≤ 512 * size + 1 }
+    {
+        ((2 * u128::from(size) * self.top + self.bottom) / (2 * self.bottom)) as i64
+    }
+
+    // The greatest whole number of dots that isn't above a size.
+    fn floor(&self, size: u64) -> i64
+        requires { size ≤ 2 ^ 31 }
+        ensures value { result ≡ pos (size * self.now.top / self.now.bottom) }
+        ensures bounded { size * self.now.top / self.now.bottom ≤ 512 * size }
+    {
+        (u128::from(size) * self.top / self.bottom) as i64
+    }
+
+    // The least whole number of dots that isn't below a size.
+    fn least(&self, size: u64) -> i64
+        requires { size ≤ 2 ^ 31 }
+        ensures value { result ≡ pos (div_ceil (size * self.now.top) self.now.bottom) }
+        ensures bounded { div_ceil (size * self.now.top) self.now.bottom ≤ 512 * size }
+        ensures has_a_dot { 0 < size → 0 < div_ceil (size * self.now.top) self.now.bottom }
+    {
+        (u128::from(size) * self.top).div_ceil(self.bottom) as i64
+    }
+}
+
+#[cfg(test)]
+mod tests {
+    use super::*;
+
+    // One half of a dot for a unit: 1270 * 300 * 1000 = 381000000 over 254000000 * 3 = 762000000. The halves go away from zero,
+    // and a rule's side goes up.
+    #[test]
+    fn converts_by_one_half(rt: HostRuntime) -> Result<(), Scale> {
+        let conv = Conv::new(&Units {
+            num: 1270,
+            den: 3,
+            mag: 1000,
+            res: 300,
+        })?;
+        for (x, nearest, least) in [
+            (1, 1, 1),
+            (-1, -1, 0),
+            (3, 2, 2),
+            (-3, -2, -1),
+            (4, 2, 2),
+            (-5, -3, -2),
+            (0, 0, 0),
+        ] {
+            assert_eq!(rt; conv.round(x), nearest, "round {x}");
+            assert_eq!(rt; conv.ceil(x), least, "ceil {x}");
+        }
+        Ok(())
+    }
+
+    // TeX's units at 300 dots to the inch: 25400000 * 300 * 1000 over 254000000 * 473628672 is 625 / 9867264, so that 7893 units
+    // are 0.49995 dots, 7894 are 0.50001, 4933632 are 312.5 and 2^31 are 136023.246.
+    #[test]
+    fn converts_tex_units(rt: HostRuntime) -> Result<(), Scale> {
+        let conv = Conv::new(&Units {
+            num: 25400000,
+            den: 473628672,
+            mag: 1000,
+            res: 300,
+        })?;
+        for (x, nearest, least) in [
+            (7893, 0, 1),
+            (7894, 1, 1),
+            (-7894, -1, 0),
+            (4933632, 313, 313),
+            (-4933632, -313, -312),
+            (2147483648, 136023, 136024),
+            (-2147483648, -136023, -136023),
+        ] {
+            assert_eq!(rt; conv.round(x), nearest, "round {x}");
+            assert_eq!(rt; conv.ceil(x), least, "ceil {x}");
+        }
+        Ok(())
+    }
+
+    // 32512 * 4000 * 1000 is 130048000000, which is 512 * 254000000: just as many as may be.
+    #[test]
+    fn refuses_more_than_512_dots(rt: HostRuntime) {
+        assert_eq!(rt;
+            Conv::new(&Units {
+                num: 2147483647,
+                den: 1,
+                mag: 1000,
+                res: 300
+            })
+            .is_err(),
+            true
+        );
+        assert_eq!(rt;
+            Conv::new(&Units {
+                num: 32513,
+                den: 1,
+                mag: 1000,
+                res: 4000
+            })
+            .is_err(),
+            true
+        );
+        match Conv::new(&Units {
+            num: 32512,
+            den: 1,
+            mag: 1000,
+            res: 4000,
+        }) {
+            Ok(conv) => assert_eq!(rt; conv.round(-2147483648), -1099511627776),
+            Err(Scale) => assert!(rt; false, "512 dots a unit are refused"),
+        }
+    }
+}

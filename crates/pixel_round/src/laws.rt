@@ -1,0 +1,14 @@
+//! Laws over the two conversions, each a clause of a function without a body.
+
+ghost use Rattle.pixel_round.specs.Pixels.{OnlyOneIsRound, RoundIsNearest, CeilIsLeast, ConvertedAreBounded, SidesHaveDots};
+
+/// One conversion gives the nearest number, and the one farther from zero of two such numbers, which tells it; the other the
+/// least number that isn't below. Where a unit is at most 512 dots, both are of a bounded size; a side above zero has a dot.
+#[tactic(auto, using(crate::proofs::Conversion::round_is_nearest))]
+pub fn conversions()
+    ensures nearest { RoundIsNearest }
+    ensures only_one { OnlyOneIsRound }
+    ensures least { CeilIsLeast }
+    ensures bounded { ConvertedAreBounded }
+    ensures has_a_dot { SidesHaveDots }
+{}
