@@ -1,0 +1,11 @@
+//! Reading bytes from the front of a slice: a cursor that gives numbers of one to four bytes, the
+//! byte that weighs most first, and stretches of bytes. Where fewer bytes are left than are asked
+//! for, it stays where it is.
+#![tactic(auto)]
+
+mod cursor;
+
+pub use cursor::{Cursor, Short};
+
+#[cfg(test)]
+mod tests;
