@@ -1,0 +1,13 @@
+use Rattle.dvi_commands.proofs.Prefix.{no_spelling_begins_another}
+use Rattle.dvi_commands.proofs.Told.{spelling_tells_the_command}
+use Rattle.dvi_commands.proofs.Refusals.{spelled_is_not_refused}
+use Rattle.dvi_commands.proofs.laws.spellings.Goals as goal
+
+pub returns-clause-apart : goal.returns-clause-apart
+returns-clause-apart c = no_spelling_begins_another
+
+pub returns-clause-told : goal.returns-clause-told
+returns-clause-told c = spelling_tells_the_command
+
+pub returns-clause-accepted : goal.returns-clause-accepted
+returns-clause-accepted c = spelled_is_not_refused
