@@ -1,0 +1,5 @@
+pub mod Cuts
+pub mod Least
+pub mod Rows
+pub mod Table
+pub mod Words

@@ -1,0 +1,4 @@
+pub mod Fits
+pub mod Tfm
+pub mod Layout
+pub mod Stops

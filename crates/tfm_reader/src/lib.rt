@@ -1,0 +1,16 @@
+//! The widths of a TFM file (Knuth, TFtoPL, "Font metric data"). All counts, indices and widths are
+//! judged at reading; the first fault of the file is answered. A width is found by the code's place
+//! in a table.
+#![tactic(auto)]
+
+mod faults;
+pub mod laws;
+mod layout;
+mod tables;
+mod tfm;
+
+pub use faults::{TfmFault, TfmStop};
+pub use tfm::Tfm;
+
+#[cfg(test)]
+mod tests;
