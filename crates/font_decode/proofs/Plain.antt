@@ -1,0 +1,92 @@
+-- File names of a font with a valid name stay in their folder.
+use Rattle.std.proofs.Common.{◌≡◌, ◌≢◌, ℕ, ◌+◌, ◌-◌, ◌%◌, ◌^◌, ◌<◌, ◌≤◌, true, List, [], ◌∷◌, ◌++◌, length, get_or, arith, refl, sym, subst, ◌∙◌, append_assoc, length-append}
+use Rattle.std.specs.Prelude.{◌&&◌, not, ◌==◌, All, slice_index, codes, decimal}
+use Rattle.std.specs.List.{list_all}
+use Rattle.std.specs.Int.{is_in_range}
+use Rattle.std.proofs.lemmas.Bool.{and_parts, leb-true, not-true, eqb-false}
+use Rattle.std.proofs.lemmas.List.Folds.{list_all-append}
+use Rattle.std.proofs.lemmas.List.Sums.{AllPass-from_list_all}
+use Rattle.std.proofs.lemmas.List.Elements.{All-cons}
+use Rattle.std.proofs.lemmas.Fmt.{decimal_by_steps}
+use Rattle.outside.specs.declared.keys.FontKey.{FontKey}
+use Rattle.font_decode.specs.Names.{is_name_byte, is_valid_name, is_resolution, tfm_name, vf_name, pk_name, dpi}
+use Rattle.font_decode.specs.Laws.{StaysInFolder, NamesStayInFolder}
+
+-- texts of such bytes
+abbrev IsPlain : List ℕ → Type 0
+IsPlain xs = list_all is_name_byte xs ≡ true
+
+plain_append : (xs ys : List ℕ) → IsPlain xs → IsPlain ys → IsPlain (xs ++ ys)
+plain_append xs ys p q = rw (list_all-append is_name_byte xs ys, p, q) refl
+
+digit : (n : ℕ) → n < 10 → is_name_byte (48 + n) ≡ true
+digit n lt = grind arith
+
+plain_decimal : (n : ℕ) → n < 2 ^ 64 → IsPlain (decimal n)
+plain_decimal n lt = decimal_by_steps (λ _ ds. IsPlain ds)
+    (λ k less. let one : is_name_byte (48 + k) ≡ true = digit k less in rw one refl)
+    (λ k ds _ before. let small : k % 10 < 10 = omega arith in let one : is_name_byte (48 + k % 10) ≡ true = digit (k % 10) small in
+    plain_append ds ((48 + k % 10) ∷ []) before (rw one refl))
+    n lt
+
+slash : (b : ℕ) → is_name_byte b ≡ true → b ≢ 47
+slash b h e = let no : is_name_byte 47 ≡ true = subst (λ (n : ℕ). is_name_byte n ≡ true) e h in absurd (cc)
+
+no_slash : (xs : List ℕ) → IsPlain xs → All (λ b. b ≢ 47) xs
+no_slash xs h = λ k d lt. slash (get_or xs k d) (AllPass-from_list_all is_name_byte xs h k d lt)
+
+-- ---- what a valid name gives
+
+valid : (k : FontKey) → is_valid_name k ≡ true → (0 < length k.name) × IsPlain k.name × (slice_index k.name 0 ≢ 46)
+valid k h =
+    let front = and_parts (k.area == 0 && is_in_range 1 100 (length k.name) && list_all is_name_byte k.name) (not (slice_index k.name 0 == 46)) h in
+    let sized = and_parts (k.area == 0 && is_in_range 1 100 (length k.name)) (list_all is_name_byte k.name) front.0 in
+    let ranged = and_parts (k.area == 0) (is_in_range 1 100 (length k.name)) sized.0 in
+    let least = leb-true 1 (length k.name) (and_parts _ _ ranged.1).0 in
+    (least, sized.1, eqb-false (slice_index k.name 0) 46 (not-true _ front.1))
+
+pub resolution_range : (n : ℕ) → is_resolution n ≡ true → (1 ≤ n) × (n ≤ 1000000)
+resolution_range n h = let parts = and_parts _ _ h in (leb-true 1 n parts.0, leb-true n 1000000 parts.1)
+
+-- ---- a name with an ending
+
+front_byte : (xs ys : List ℕ) → 0 < length xs → slice_index (xs ++ ys) 0 ≡ slice_index xs 0
+front_byte [] ys lt = absurd (omega (arith, lt))
+front_byte (x ∷ xs) ys lt = refl
+
+longer : (xs ys : List ℕ) → 0 < length xs → 0 < length (xs ++ ys)
+longer xs ys lt = rw (length-append xs ys) (omega (arith, lt))
+
+with_ending : (xs ys : List ℕ) → (0 < length xs) × IsPlain xs × (slice_index xs 0 ≢ 46) → IsPlain ys → StaysInFolder (xs ++ ys)
+with_ending xs ys (some, plain, dot) q = record {
+  some = longer xs ys some;
+  no_dot_in_front = λ e. dot (sym (front_byte xs ys some) ∙ e);
+  no_slash = no_slash (xs ++ ys) (plain_append xs ys plain q);
+  plain = plain_append xs ys plain q;
+}
+
+packed : (k : FontKey) (n : ℕ) → is_valid_name k ≡ true → n < 2 ^ 64 → StaysInFolder (pk_name k n)
+packed k n h lt =
+    let ending : IsPlain (codes "." ++ (decimal n ++ codes "pk")) = plain_append (codes ".") (decimal n ++ codes "pk") refl (plain_append (decimal n) (codes "pk") (plain_decimal n lt) refl) in
+    subst StaysInFolder (regrouped k.name (codes ".") (decimal n) (codes "pk")) (with_ending k.name (codes "." ++ (decimal n ++ codes "pk")) (valid k h) ending)
+  where
+    regrouped : (a b c d : List ℕ) → a ++ (b ++ (c ++ d)) ≡ ((a ++ b) ++ c) ++ d
+    regrouped a b c d = sym (append_assoc (a ++ b) c d ∙ append_assoc a b (c ++ d))
+
+all_five : (P : List ℕ → Type 0) (a b c d e : List ℕ) → P a → P b → P c → P d → P e → All P (a ∷ b ∷ c ∷ d ∷ e ∷ [])
+all_five P a b c d e pa pb pc pd pe =
+    All-cons P a (b ∷ c ∷ d ∷ e ∷ []) pa (All-cons P b (c ∷ d ∷ e ∷ []) pb (All-cons P c (d ∷ e ∷ []) pc (All-cons P d (e ∷ []) pd (All-cons P e [] pe none))))
+  where
+    none : All P []
+    none i y lt = absurd (omega (arith, lt))
+
+pub names_stay_in_folder : NamesStayInFolder
+names_stay_in_folder u k h r =
+    let range = resolution_range (dpi u k) r in
+    let ok = valid k h in
+    all_five StaysInFolder (tfm_name k) (vf_name k) (pk_name k (dpi u k)) (pk_name k (dpi u k + 1)) (pk_name k (dpi u k - 1))
+    (with_ending k.name (codes ".tfm") ok refl)
+    (with_ending k.name (codes ".vf") ok refl)
+    (packed k (dpi u k) h (omega (arith, range.1)))
+    (packed k (dpi u k + 1) h (omega (arith, range.1)))
+    (packed k (dpi u k - 1) h (omega (arith, range.1)))

@@ -1,0 +1,29 @@
+-- What is true of the names of files, and of what is found.
+use Rattle.std.specs.Prelude.{◌≡◌, ◌≢◌, ℕ, List, length, ◌<◌, ◌≤◌, IsTrue, All, AllPairs, slice_index}
+use Rattle.std.specs.List.{list_all}
+use Rattle.outside.specs.Library as library
+use Rattle.outside.specs.declared.keys.FontKey.{FontKey}
+use Rattle.pixel_round.specs.declared.units.Units.{Units}
+use Rattle.font_decode.specs.Names.{is_name_byte, is_valid_name, is_resolution, dpi, file_names}
+use Rattle.font_decode.specs.Files.{FontFiles, IsFound, looked_for}
+
+-- a name that leads out of no folder: neither empty nor `.` nor `..`, and with no `/`
+pub record StaysInFolder (name : List ℕ) : Type 0 where
+  pub some : 0 < length name
+  pub no_dot_in_front : slice_index name 0 ≢ 46
+  pub no_slash : All (λ b. b ≢ 47) name
+  pub plain : IsTrue (list_all is_name_byte name)
+
+abbrev pub NamesStayInFolder : Type 0
+NamesStayInFolder = (u : Units) (k : FontKey) → IsTrue (is_valid_name k) → IsTrue (is_resolution (dpi u k)) → All StaysInFolder (file_names u k)
+
+-- no two files of a font have the same name
+abbrev pub NamesAreDistinct : Type 0
+NamesAreDistinct = (u : Units) (k : FontKey) → IsTrue (is_resolution (dpi u k)) → AllPairs (λ a b. a ≢ b) (file_names u k)
+
+-- a library has one answer
+abbrev pub OneIsFound : Type 0
+OneIsFound = (l : library.Files) (u : Units) (k : FontKey) (f g : FontFiles) → IsFound l u k f → IsFound l u k g → f ≡ g
+
+abbrev pub FiveAtMost : Type 0
+FiveAtMost = (l : library.Files) (u : Units) (k : FontKey) → length (looked_for l u k) ≤ 5

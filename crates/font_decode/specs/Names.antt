@@ -1,0 +1,62 @@
+-- The names of a font's files: `name.tfm` (Knuth, TFtoPL), `name.vf` (Knuth, VFtoVP), and `name.300pk` for a PK font of 300 dots to the
+-- inch (Rokicki, PKtype; the name is that of dvips). Which names are looked for is this driver's own choice: those that stay in a folder.
+use Rattle.std.specs.Prelude.{ℕ, List, [], ◌∷◌, ◌++◌, ◌+◌, ◌-◌, ◌*◌, ◌^◌, ◌<◌, ◌≤◌, Bool, not, ◌&&◌, ◌||◌, ◌==◌, length, slice_index, codes, decimal}
+use Rattle.std.specs.List.{list_all}
+use Rattle.std.specs.Int.{is_in_range}
+use Rattle.fix_word.specs.Scale.{half_up}
+use Rattle.outside.specs.declared.keys.FontKey.{FontKey}
+use Rattle.pixel_round.specs.declared.units.Units.{Units}
+
+-- ---- what keys and units are given
+
+-- the sizes of a key are more than 0, and its area lies in its name
+pub record IsKey (k : FontKey) : Type 0 where
+  pub size : (1 ≤ k.size) × (k.size < 2 ^ 27)
+  pub design : (1 ≤ k.design) × (k.design < 2 ^ 27)
+  pub area : k.area ≤ length k.name
+
+-- the numbers of a preamble are more than 0, and the resolution is 1 to 4800
+pub record IsUnits (u : Units) : Type 0 where
+  pub num : (1 ≤ u.num) × (u.num < 2 ^ 31)
+  pub den : (1 ≤ u.den) × (u.den < 2 ^ 31)
+  pub mag : (1 ≤ u.mag) × (u.mag < 2 ^ 31)
+  pub res : (1 ≤ u.res) × (u.res ≤ 4800)
+
+-- ---- the names that are looked for
+
+-- an ASCII letter, a digit, `-`, `_`, `+` or `.`
+abbrev pub is_name_byte : ℕ → Bool
+is_name_byte b = is_in_range 65 90 b || is_in_range 97 122 b || is_in_range 48 57 b || b == 45 || b == 95 || b == 43 || b == 46
+
+-- no area, 1 to 100 such bytes, and no dot in front
+abbrev pub is_valid_name : FontKey → Bool
+is_valid_name k = k.area == 0 && is_in_range 1 100 (length k.name) && list_all is_name_byte k.name && not (slice_index k.name 0 == 46)
+
+-- ---- the resolution of a PK font
+
+-- the dots to the inch of a font at its size, to the nearest whole number, halves up
+abbrev pub dpi : Units → FontKey → ℕ
+dpi u k = half_up (u.res * u.mag * k.size) (1000 * k.design)
+
+-- the resolutions of PK files that are looked for
+abbrev pub is_resolution : ℕ → Bool
+is_resolution n = is_in_range 1 1000000 n
+
+-- ---- the names of files
+
+abbrev pub tfm_name : FontKey → List ℕ
+tfm_name k = k.name ++ codes ".tfm"
+
+abbrev pub vf_name : FontKey → List ℕ
+vf_name k = k.name ++ codes ".vf"
+
+abbrev pub pk_name : FontKey → ℕ → List ℕ
+pk_name k resolution = k.name ++ codes "." ++ decimal resolution ++ codes "pk"
+
+-- PK files at the font's resolution and, since it was rounded, at the two next to it: one above before one below
+abbrev pub pk_names : Units → FontKey → List (List ℕ)
+pk_names u k = pk_name k (dpi u k) ∷ pk_name k (dpi u k + 1) ∷ pk_name k (dpi u k - 1) ∷ []
+
+-- all the names of a font's files, in the order in which they are looked for
+abbrev pub file_names : Units → FontKey → List (List ℕ)
+file_names u k = tfm_name k ∷ vf_name k ∷ pk_names u k

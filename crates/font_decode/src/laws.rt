@@ -1,0 +1,14 @@
+//! What is true of the names of a font's files, and of what is found.
+ghost use Rattle.font_decode.specs.Laws.{NamesStayInFolder, NamesAreDistinct, OneIsFound, FiveAtMost};
+
+/// The names of a font's files lead out of no folder, and no two of them are the same.
+pub fn names()
+    ensures folder { NamesStayInFolder }
+    ensures distinct { NamesAreDistinct }
+{}
+
+/// A library has one answer to a key, which is known after at most five names.
+pub fn answers()
+    ensures one { OneIsFound }
+    ensures five { FiveAtMost }
+{}

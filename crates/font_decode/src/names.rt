@@ -1,0 +1,95 @@
+//! The names of a font's files.
+ghost use Rattle.std.specs.Prelude.{◌≡◌, ◌<◌, ◌≤◌, ◌++◌, ◌+◌, ◌*◌, ◌^◌, IsTrue, IfOk, Some, slice_get};
+ghost use Rattle.std.specs.List.{list_all};
+ghost use Rattle.font_decode.specs.Names.{IsKey, IsUnits, is_name_byte, is_valid_name, dpi, is_resolution, pk_name, file_names};
+
+use itoa::Buffer;
+use outside::{FileName, FontKey};
+use pixel_round::Units;
+use std::alloc::{AllocError as NoMemory, Global};
+
+// Whether this byte may stand in a name that is looked for.
+fn is_name_byte(byte: u8) -> bool
+    ensures { result ≡ is_name_byte byte }
+{
+    matches!(byte, b'A'..=b'Z' | b'a'..=b'z' | b'0'..=b'9' | b'-' | b'_' | b'+' | b'.')
+}
+
+// Whether a name has only such bytes.
+fn has_name_bytes(name: &[u8]) -> bool
+    ensures { result ≡ list_all is_name_byte name.now }
+{
+    name.iter().all(|byte| is_name_byte(*byte))
+}
+
+/// Whether files of this font are looked for: its name has no area and 1 to 100 bytes, each of them an
+/// ASCII letter, a digit, `-`, `_`, `+` or `.`, and the first of them no `.`.
+pub fn is_valid_name(key: &FontKey) -> bool
+    ensures { result ≡ is_valid_name key.now }
+{
+    let name = key.name.bytes();
+    key.area == 0 && matches!(name.len(), 1..=100) && has_name_bytes(name) && name[0] != b'.'
+}
+
+/// The resolution of a font's PK file, in dots to the inch: `res * mag * size / (1000 * design)` to the
+/// nearest whole number, halves up.
+pub fn dpi(units: &Units, key: &FontKey) -> u128
+    requires units { IsUnits units.now }
+    requires key { IsKey key.now }
+    ensures { result ≡ dpi units.now key.now }
+{
+    let top = u128::from(units.res) * u128::from(units.mag) * u128::from(key.size);
+    let bottom = 1000 * u128::from(key.design);
+    (2 * top + bottom) / (2 * bottom)
+}
+
+// Whether PK files of this resolution are looked for.
+pub(crate) fn is_resolution(dpi: u128) -> bool
+    ensures { result ≡ is_resolution dpi }
+{
+    matches!(dpi, 1..=1_000_000)
+}
+
+// The font's name with an ending.
+fn ending_in(alloc: Global, key: &FontKey, ending: &[u8]) -> Result<FileName, NoMemory>
+    ensures { IfOk result (λ name. name ≡ key.now.name ++ ending.now) }
+{
+    let mut bytes = Vec::from_slice(alloc, key.name.bytes())?;
+    bytes.extend_from_slice(ending)?;
+    FileName::new(alloc, &bytes)
+}
+
+// The name of the font's PK file at a resolution.
+fn packed_name(alloc: Global, key: &FontKey, resolution: u128) -> Result<FileName, NoMemory>
+    ensures { IfOk result (λ name. name ≡ pk_name key.now resolution) }
+{
+    let mut buffer = Buffer::new();
+    let mut ending = Vec::from_slice(alloc, b".")?;
+    ending.extend_from_slice(buffer.format(resolution).as_bytes())?;
+    ending.extend_from_slice(b"pk")?;
+    ending_in(alloc, key, &ending)
+}
+
+/// The name of one of a font's files: 0 is its TFM file, 1 its VF file, and 2, 3 and 4 are its PK files
+/// at its resolution, at one above and at one below.
+pub fn file_name(
+    alloc: Global,
+    key: &FontKey,
+    units: &Units,
+    which: usize,
+) -> Result<FileName, NoMemory>
+    requires units { IsUnits units.now }
+    requires key { IsKey key.now }
+    requires valid { IsTrue (is_valid_name key.now) }
+    requires which { which < 5 }
+    requires resolution { 2 ≤ which → IsTrue (is_resolution (dpi units.now key.now)) }
+    ensures { IfOk result (λ name. slice_get (file_names units.now key.now) which ≡ Some name) }
+{
+    match which {
+        0 => ending_in(alloc, key, b".tfm"),
+        1 => ending_in(alloc, key, b".vf"),
+        2 => packed_name(alloc, key, dpi(units, key)),
+        3 => packed_name(alloc, key, dpi(units, key) + 1),
+        _ => packed_name(alloc, key, dpi(units, key) - 1),
+    }
+}
