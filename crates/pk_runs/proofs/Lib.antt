@@ -1,0 +1,13 @@
+pub mod ListEnds
+pub mod Apart
+pub mod Cut
+pub mod OneFault
+pub mod NoGreatest
+pub mod Hex
+pub mod Shown
+pub mod Drawn
+pub mod Steps
+pub mod Complete
+pub mod Empty
+pub mod RowsGiven
+pub mod Sizes

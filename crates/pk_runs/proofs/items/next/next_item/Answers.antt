@@ -1,0 +1,13 @@
+use Rattle.pk_runs.proofs.Steps.{read_one, read_repeat, second_mark}
+use Rattle.pk_runs.proofs.items.next.next_item.Goals as goal
+
+pub returns-then-first-eq15 : goal.returns-then-first-eq15
+returns-then-first-eq15 c = read_one c.args.dyn_f c.in-Some.first c.args.nybbles.now c.next.new.self c.args.repeated c.in-Some.ensures.cases.0 c.if-first-eq15.true c.if-repeated.false
+
+pub returns-then-second-ge14 : goal.returns-then-second-ge14
+returns-then-second-ge14 c = second_mark c.args.dyn_f c.in-Some.first c.in-Some-next.second c.args.row c.args.nybbles.now c.next.new.self c.next-2.new.self c.args.repeated
+    c.in-Some.ensures.cases.0 c.in-Some.ensures.cases.1 c.if-first-lt14.false c.if-first-eq15.false c.in-Some-next.ensures.cases.0 c.in-Some-next.ensures.cases.1 c.if-second-ge14.true
+
+pub returns-in-Some-number-2 : goal.returns-in-Some-number-2
+returns-in-Some-number-2 c = read_repeat c.args.dyn_f c.in-Some.first c.in-Some-next.second c.in-Some-number-2.n c.args.nybbles.now c.next.new.self c.next-2.new.self c.number-2.new.nybbles c.args.repeated
+    c.in-Some.ensures.cases.0 c.in-Some.ensures.cases.1 c.if-first-lt14.false c.if-first-eq15.false c.if-repeated.false c.in-Some-next.ensures.cases.0 c.in-Some-number-2.ensures

@@ -1,0 +1,6 @@
+pub mod Numbers
+pub mod Raster
+pub mod Painting
+pub mod Reading
+pub mod Stops
+pub mod Given

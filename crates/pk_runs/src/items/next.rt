@@ -1,0 +1,47 @@
+//! The next run length or repeat count.
+
+ghost use Rattle.std.specs.Prelude.{◌≤◌, MatchResult};
+ghost use Rattle.pk_runs.specs.Reading.{IsItemRead, CantRead};
+
+use super::Reading;
+use crate::faults::RunFault;
+use crate::numbers::number;
+use crate::nybbles::Nybbles;
+
+/// Reads the next run length or repeat count. `repeated` says that the next row has a repeat count
+/// already, and `row` how many rows are complete.
+pub fn next_item(
+    nybbles: &mut Nybbles,
+    dyn_f: u8,
+    row: u32,
+    repeated: bool,
+) -> Result<Reading, RunFault>
+    requires { dyn_f ≤ 13 }
+    ensures { MatchResult result (IsItemRead dyn_f nybbles.old nybbles.new repeated) (CantRead dyn_f nybbles.old row repeated) }
+{
+    let Some(first) = nybbles.next() else {
+        return Err(RunFault::Short);
+    };
+    if first < 14 {
+        return match number(nybbles, dyn_f, first) {
+            Some(n) => Ok(Reading::Run(n)),
+            None => Err(RunFault::Short),
+        };
+    }
+    if repeated {
+        return Err(RunFault::SecondRepeat(row));
+    }
+    if first == 15 {
+        return Ok(Reading::Repeat(1));
+    }
+    let Some(second) = nybbles.next() else {
+        return Err(RunFault::Short);
+    };
+    if second >= 14 {
+        return Err(RunFault::SecondRepeat(row));
+    }
+    match number(nybbles, dyn_f, second) {
+        Some(n) => Ok(Reading::Repeat(n)),
+        None => Err(RunFault::Short),
+    }
+}

@@ -1,0 +1,21 @@
+//! Rasters of packed fonts, from the run lengths and repeat counts that stand for them.
+#![tactic(auto)]
+
+mod decode;
+mod faults;
+mod given;
+mod glyph;
+mod items;
+mod laws;
+mod numbers;
+mod nybbles;
+mod painter;
+mod plain;
+mod runs;
+#[cfg(test)]
+mod tests;
+
+pub use decode::raster;
+pub use faults::{RunFault, RunStop};
+pub use glyph::{Glyph, Raster};
+pub use laws::{one_fault, runs_apart};

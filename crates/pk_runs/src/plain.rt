@@ -1,0 +1,58 @@
+//! A raster from the bits of a plain bitmap.
+
+ghost use Rattle.std.specs.Prelude.{◌≡◌, ◌+◌, ◌*◌, ◌/◌, ◌%◌, ◌^◌, ◌<◌, ◌≤◌, length, MatchResult, if◌then◌else◌};
+ghost use Rattle.packed_rows.specs.Changes.{white_bitmap, with_black};
+ghost use Rattle.packed_rows.specs.Packing.{pixel};
+ghost use Rattle.pk_runs.specs.Raster.{IsPlainRaster};
+ghost use Rattle.pk_runs.specs.declared.faults.RunFault.TheVariants.{Short};
+
+use crate::faults::RunFault;
+use packed_rows::{PackedBitmap, Span, is_black};
+
+/// Paints the bits of the bytes on a white raster, row after row without padding.
+pub fn paint_plain(
+    mut bits: PackedBitmap,
+    w: u32,
+    h: u32,
+    bytes: &[u8],
+) -> Result<PackedBitmap, RunFault>
+    requires some { 1 ≤ w }
+    requires narrow { w ≤ 16384 }
+    requires short { h ≤ 16384 }
+    requires white { bits ≡ white_bitmap w h }
+    ensures { MatchResult result (λ b. (b.width ≡ w) × (b.height ≡ h) × IsPlainRaster bytes.now w h b.rows)
+        (λ f. (8 * length bytes.now < w * h) × (f ≡ Short)) }
+{
+    let size = w as usize * h as usize;
+    if bytes.len() < size.div_ceil(8) {
+        return Err(RunFault::Short);
+    }
+    for place in 0..size {
+        paint_place(&mut bits, w as usize, bytes, place);
+    }
+    Ok(bits)
+}
+
+// Paints the pixel at a place, counted row after row.
+fn paint_place(bits: &mut PackedBitmap, w: usize, bytes: &[u8], place: usize)
+    requires some { 1 ≤ w }
+    requires wide { bits.old.width ≡ w }
+    requires inside { place < w * bits.old.height }
+    requires enough { place < 8 * length bytes.now }
+    requires few { place < 2 ^ 32 }
+    ensures { bits.new ≡ if pixel bytes.now place then with_black bits.old (place % w) (place % w + 1) (place / w) (place / w + 1) else bits.old }
+{
+    if is_black(bytes, place) {
+        let x = place % w;
+        let y = place / w;
+        let columns = Span {
+            from: x,
+            until: x + 1,
+        };
+        let rows = Span {
+            from: y,
+            until: y + 1,
+        };
+        bits.blacken(columns, rows);
+    }
+}
