@@ -1,0 +1,10 @@
+pub mod Answered
+pub mod ArcLists
+pub mod Changes
+pub mod FewClaims
+pub mod FontLists
+pub mod Keys
+pub mod OwnClaims
+pub mod Sound
+pub mod Steps
+pub mod Turns

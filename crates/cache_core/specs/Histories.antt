@@ -1,0 +1,38 @@
+-- What the calls of one seat are.
+use Rattle.std.specs.Prelude.{◌≡◌, ◌⊎◌, ℕ, ◌==◌, List, [], ◌∷◌, ◌++◌, filter, Option, Some, None}
+use Rattle.outside.specs.declared.keys.FontKey.{FontKey}
+use Rattle.cache_core.specs.declared.calls.Call.{Call}
+use Rattle.cache_core.specs.declared.calls.Done.{Done}
+use Rattle.cache_core.specs.declared.calls.Done.TheVariants.{Hit, Claimed, Busy, Filled, Released}
+
+-- the calls of a seat, in order
+abbrev pub own : ℕ → List Call → List Call
+own seat history = filter (λ c. c.seat == seat) history
+
+-- the claim that a call leaves to its seat
+abbrev pub left_by : FontKey → Done → Option FontKey
+left_by k Claimed = Some k
+left_by k Hit = None
+left_by k Busy = None
+left_by k (Filled _) = None
+left_by k Released = None
+
+-- the claim that the last of a seat's calls has left to it, or the one that it began with
+abbrev pub open_from : Option FontKey → List Call → Option FontKey
+open_from claim [] = claim
+open_from claim (c ∷ calls) = open_from (left_by c.key c.done) calls
+
+abbrev pub open_claim : List Call → Option FontKey
+open_claim calls = open_from None calls
+
+-- how a seat's look for a key was answered, and its claim ended: one call or two
+abbrev pub IsAnswer : FontKey → List Call → Type 0
+IsAnswer k calls =
+    ((c : Call) × (calls ≡ c ∷ []) × (c.key ≡ k) × ((c.done ≡ Hit) ⊎ (c.done ≡ Busy)))
+    ⊎ ((c : Call) × (d : Call) × (calls ≡ c ∷ d ∷ []) × (c.key ≡ k) × (c.done ≡ Claimed) × (d.key ≡ k)
+    × (((gone : Option FontKey) × (d.done ≡ Filled gone)) ⊎ (d.done ≡ Released)))
+
+-- the keys that a seat asked for and the calls of that seat, in order
+abbrev pub SeatCalls : List FontKey → List Call → Type 0
+SeatCalls [] calls = calls ≡ []
+SeatCalls (k ∷ asked) calls = (first : List Call) × (others : List Call) × (calls ≡ first ++ others) × IsAnswer k first × SeatCalls asked others

@@ -1,0 +1,7 @@
+pub mod Codes
+pub mod Histories
+pub mod Laws
+pub mod Machine
+pub mod Rows
+pub mod States
+pub mod Views

@@ -1,0 +1,39 @@
+-- What contracts see of the entries, the claims and the fonts: plain values, and no places in memory.
+use Rattle.std.specs.Prelude.{ℕ, ◌-◌, List, map, Option, slice_get}
+use Rattle.std.specs.Option.{option_map}
+use Rattle.std.specs.Arc.{arc_value}
+use Rattle.std.specs.declared.sync.Arc.{Arc}
+use Rattle.outside.specs.declared.keys.FontKey.{FontKey}
+use Rattle.cache_core.specs.declared.calls.Call.{Call}
+use Rattle.cache_core.specs.declared.calls.Done.{Done}
+use Rattle.cache_core.specs.declared.calls.Done.TheVariants as done
+use Rattle.cache_core.specs.declared.entry.Entry.{Entry}
+use Rattle.cache_core.specs.declared.entry.Act.{Act}
+use Rattle.cache_core.specs.declared.entry.Act.TheVariants as act
+use Rattle.cache_core.specs.declared.claims.Claim.{Claim}
+
+abbrev pub done_of : Act → Done
+done_of act.Hit = done.Hit
+done_of act.Claimed = done.Claimed
+done_of act.Busy = done.Busy
+done_of (act.Filled gone) = done.Filled (option_map arc_value gone)
+done_of act.Released = done.Released
+
+abbrev pub call_of : Entry → Call
+call_of e = record { seat = e.seat; key = arc_value e.key; done = done_of e.act }
+
+abbrev pub calls_of : List Entry → List Call
+calls_of entries = map call_of entries
+
+abbrev pub claim_seen : Claim → ℕ × FontKey
+claim_seen c = (c.seat, arc_value c.key)
+
+abbrev pub claims_of : List Claim → List (ℕ × FontKey)
+claims_of claims = map claim_seen claims
+
+abbrev pub fonts_of : {T A : Type 0} → List (Arc FontKey A × Arc T A) → List (FontKey × T)
+fonts_of fonts = map (λ f. (arc_value f.0, arc_value f.1)) fonts
+
+-- the key of the font that leaves where a font is added to so many at most
+abbrev pub gone_key : {T : Type 0} → List (FontKey × T) → ℕ → Option FontKey
+gone_key fonts capacity = option_map (λ f. f.0) (slice_get fonts (capacity - 1))

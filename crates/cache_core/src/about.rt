@@ -1,0 +1,27 @@
+//! A common part that only proofs read.
+ghost use Rattle.std.specs.Prelude.{◌≡◌};
+ghost use Rattle.std.specs.Borrow.{ftrue};
+ghost use Rattle.cache_core.specs.declared.common.Common.{Common};
+ghost use Rattle.cache_core.specs.Codes.{common_code};
+
+use std::marker::Model;
+
+/// A common part that only proofs read. It takes no bytes, and owns nothing.
+#[derive(Drop)]
+pub struct About {
+    pub ghost part: { Common } by { common_code },
+}
+
+impl Model for About {
+    ghost also_owns = { λ _. ftrue };
+}
+
+impl About {
+    /// The part that the caller's proof picks.
+    pub fn pick() -> About
+        ghost part: { Common }
+        ensures { result.part ≡ part }
+    {
+        About {}
+    }
+}

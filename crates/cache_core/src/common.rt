@@ -1,0 +1,12 @@
+//! What all seats of one cache have in common.
+use outside::Library;
+use pixel_round::Units;
+
+/// What all seats of one cache have in common: how many fonts it keeps, the units of the document
+/// and the resolution, and the font files, where they are told. It is named in contracts, and no
+/// value of it is made.
+pub struct Common {
+    pub capacity: usize,
+    pub units: Units,
+    pub library: Option<Library>,
+}

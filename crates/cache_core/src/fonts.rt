@@ -1,0 +1,80 @@
+//! The resident fonts, in the order of their use.
+ghost use Rattle.std.specs.Prelude.{◌≡◌, ◌-◌, ◌∷◌, None, take, IfOk, OnOk, OnErr, IfErr};
+ghost use Rattle.std.specs.Option.{option_map};
+ghost use Rattle.std.specs.Arc.{arc_value};
+ghost use Rattle.std.specs.Map.{lookup};
+ghost use Rattle.lru.specs.LruCache.{promoted};
+ghost use Rattle.cache_core.specs.Machine.{key_eq};
+ghost use Rattle.cache_core.specs.Views.{fonts_of, gone_key};
+
+use lru::LruCache;
+use outside::FontKey;
+use std::alloc::AllocError as NoMemory;
+use std::sync::Arc;
+
+pub(crate) type Fonts<T> = LruCache<Arc<FontKey>, Arc<T>>;
+
+// The font of this key, which becomes the newest.
+pub(crate) fn find<T: Drop>(
+    fonts: &mut Fonts<T>,
+    key: &Arc<FontKey>,
+) -> Result<Option<Arc<T>>, NoMemory>
+    ensures found { IfOk result (λ font. option_map arc_value font
+        ≡ lookup (key_eq (arc_value key.now)) (fonts_of fonts.old.entries)) }
+    ensures moved { OnOk result (fonts_of fonts.new.entries
+        ≡ promoted (key_eq (arc_value key.now)) (fonts_of fonts.old.entries)) }
+    ensures none { IfOk result (λ font. font ≡ None → fonts.new ≡ fonts.old) }
+    ensures capacity { fonts.new.cap ≡ fonts.old.cap }
+    ensures same { OnErr result (fonts.new ≡ fonts.old) }
+{
+    let found = match fonts.peek(key) {
+        Some(font) => Arc::try_clone(font)?,
+        None => return Ok(None),
+    };
+    fonts.promote(key);
+    Ok(Some(found))
+}
+
+// The key whose font leaves where one is added.
+fn leaver<T: Drop>(fonts: &Fonts<T>) -> Result<Option<Arc<FontKey>>, NoMemory>
+    ensures { IfOk result (λ gone. option_map arc_value gone
+        ≡ gone_key (fonts_of fonts.now.entries) fonts.now.cap) }
+{
+    if fonts.len() < fonts.cap().get() {
+        return Ok(None);
+    }
+    match fonts.peek_lru() {
+        Some((key, _)) => Ok(Some(Arc::try_clone(key)?)),
+        None => Ok(None),
+    }
+}
+
+// Adds a font whose key isn't there. The key whose font leaves for it is given twice, to keep and to tell.
+pub(crate) fn store<T: Drop>(
+    fonts: &mut Fonts<T>,
+    key: &Arc<FontKey>,
+    font: Arc<T>,
+) -> Result<(Option<Arc<FontKey>>, Option<Arc<FontKey>>), Arc<T>>
+    requires { lookup (key_eq (arc_value key.now)) (fonts_of fonts.old.entries) ≡ None }
+    ensures gone { IfOk result (λ gone. option_map arc_value gone.0
+        ≡ gone_key (fonts_of fonts.old.entries) fonts.old.cap) }
+    ensures told { IfOk result (λ gone. option_map arc_value gone.1
+        ≡ gone_key (fonts_of fonts.old.entries) fonts.old.cap) }
+    ensures added { OnOk result (fonts_of fonts.new.entries
+        ≡ (arc_value key.now, arc_value font) ∷ take (fonts.old.cap - 1) (fonts_of fonts.old.entries)) }
+    ensures capacity { fonts.new.cap ≡ fonts.old.cap }
+    ensures back { IfErr result (λ handed. handed ≡ font) }
+    ensures same { OnErr result (fonts.new ≡ fonts.old) }
+{
+    let Ok(told) = leaver(fonts) else {
+        return Err(font);
+    };
+    let Ok(kept) = Arc::try_clone(key) else {
+        return Err(font);
+    };
+    match fonts.push(kept, font) {
+        Ok(Some((gone, _))) => Ok((Some(gone), told)),
+        Ok(None) => Ok((None, told)),
+        Err(failed) => Err(failed.value.1),
+    }
+}

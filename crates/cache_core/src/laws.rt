@@ -1,0 +1,13 @@
+//! Laws over the machine's histories, each a clause of a function without a body.
+
+ghost use Rattle.cache_core.specs.Laws.{PrefixesAreLegal, KeysAreEqual, ClaimsAreOwn, ClaimsAreFew};
+
+/// The beginnings of a legal history, the test of keys, and what a seat's own calls tell of its claim,
+/// and how often a key is claimed.
+#[tactic(auto, using(crate::proofs::Steps::prefixes_are_legal, crate::proofs::Keys::keys_are_equal, crate::proofs::OwnClaims::claims_are_own, crate::proofs::FewClaims::claims_are_few))]
+pub fn histories()
+    ensures prefixes { PrefixesAreLegal }
+    ensures keys { KeysAreEqual }
+    ensures claims { ClaimsAreOwn }
+    ensures few_claims { ClaimsAreFew }
+{}

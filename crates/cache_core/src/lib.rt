@@ -1,0 +1,28 @@
+//! The machine of the shared font cache: which fonts are resident, which seats have claimed a key,
+//! and what a look, a fill and a release do to them. There is no lock and no thread here: whoever
+//! calls has the state to itself, and a turn lock above hands it from seat to seat. The state keeps
+//! the whole history of its calls, so that what every seat was told can be judged afterwards.
+#![tactic(auto)]
+
+mod about;
+mod calls;
+mod claims;
+mod common;
+mod entry;
+mod fonts;
+pub mod laws;
+pub mod rows;
+mod stands;
+mod state;
+mod told;
+
+pub use about::About;
+pub use calls::{Call, Done};
+pub use common::Common;
+pub use entry::{Act, Entry, Look};
+pub use stands::Stands;
+pub use state::CacheState;
+pub use told::Told;
+
+#[cfg(test)]
+mod tests;

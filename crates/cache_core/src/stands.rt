@@ -1,0 +1,10 @@
+//! What the cache asks of the values that it keeps.
+
+/// A value that the cache may keep. In a proof it tells for which keys it stands.
+pub trait Stands: Drop {
+    ghost use Rattle.outside.specs.declared.keys.FontKey.{FontKey};
+    ghost use Rattle.cache_core.specs.declared.common.Common.{Common};
+
+    /// When a value stands for a key in a common part, as a font's decoding does for its key.
+    ghost stands_for: { Self → FontKey → Common → Type 0 };
+}

@@ -1,0 +1,17 @@
+//! What a turn lock asks of the value that it hands from seat to seat.
+
+/// A value that takes turns. In a proof it tells its history, the number of its turns, and where it stands.
+pub trait Told {
+    ghost use Rattle.std.specs.Prelude.{ℕ, List};
+    ghost use Rattle.cache_core.specs.declared.calls.Call.{Call};
+    ghost use Rattle.cache_core.specs.declared.common.Common.{Common};
+
+    /// The accepted calls, in order. The list only grows.
+    ghost history: { Self → List Call };
+
+    /// How many turns were taken, refused ones included.
+    ghost turns: { Self → ℕ };
+
+    /// In which common parts it stands.
+    ghost stands: { Self → Common → Type 0 };
+}
