@@ -1,0 +1,4 @@
+pub mod Position
+pub mod Marks
+pub mod Bounds
+pub mod Rows

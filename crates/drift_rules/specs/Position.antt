@@ -1,0 +1,154 @@
+-- How one flat command moves the registers: Knuth, DVItype, "Translation to symbolic form" (hh, vv, max_drift and out_space).
+use Rattle.std.specs.Prelude.{◌≡◌, ◌≤◌, ℤ, pos, negsuc, ◌+ℤ◌, ◌-ℤ◌, ◌*ℤ◌, unsigned_abs, Bool, true, false, ◌||◌, List, [], ◌∷◌, nat_le, int_le, int_lt, if◌then◌else◌, Result, Ok, Err}
+use Rattle.std.specs.List.{AllByRecursion}
+use Rattle.pixel_round.specs.Pixels.{Fraction, round, ceil}
+use Rattle.drift_rules.specs.declared.flat.Registers.{Registers}
+use Rattle.drift_rules.specs.declared.flat.Flat.{Flat}
+use Rattle.drift_rules.specs.declared.flat.Flat.TheVariants as code
+use Rattle.drift_rules.specs.declared.faults.PenFault.{PenFault}
+use Rattle.drift_rules.specs.declared.faults.PenFault.TheVariants.{Overflow}
+
+-- a flat command, with all that it names as a value: a rule's height, width and whether it is put, a motion and the space
+pub data FlatCommand : Type 0 where
+  Skip : FlatCommand
+  Rule : ℤ → ℤ → Bool → FlatCommand
+  Right : ℤ → ℤ → FlatCommand
+  W : ℤ → ℤ → FlatCommand
+  X : ℤ → ℤ → FlatCommand
+  Down : ℤ → ℤ → FlatCommand
+  Y : ℤ → ℤ → FlatCommand
+  Z : ℤ → ℤ → FlatCommand
+  W0 : ℤ → FlatCommand
+  X0 : ℤ → FlatCommand
+  Y0 : ℤ → FlatCommand
+  Z0 : ℤ → FlatCommand
+
+-- the registers, and those that were saved, the last ones first
+pub record State : Type 0 where
+  pub now : Registers
+  pub saved : List Registers
+
+abbrev pub zeros : Registers
+zeros = record { h = pos 0; v = pos 0; w = pos 0; x = pos 0; y = pos 0; z = pos 0; hh = pos 0; vv = pos 0 }
+
+-- a pen: the conversion that it keeps, and the state that it is in
+pub record PenView : Type 0 where
+  pub conv : Fraction
+  pub state : State
+
+-- as a page begins
+abbrev pub at_origin : State
+at_origin = record { now = zeros; saved = [] }
+
+-- a coordinate that h or v may have
+abbrev pub is_held : ℤ → Bool
+is_held z = nat_le (unsigned_abs z) 2147483647
+
+-- the drift rule: the pixel place, brought within 2 of the rounded one
+abbrev pub drifted : ℤ → ℤ → ℤ
+drifted place rounded =
+    if int_lt (rounded +ℤ pos 2) place then rounded +ℤ pos 2
+    else if int_lt place (rounded -ℤ pos 2) then rounded -ℤ pos 2
+    else place
+
+-- a motion right so wide that the pixel place is rounded anew: a word space, or a long way back
+abbrev pub is_word_space : ℤ → ℤ → Bool
+is_word_space p space = int_le space p || int_le p (negsuc 3 *ℤ space)
+
+-- a motion down so high that the pixel place is rounded anew
+abbrev pub is_line_space : ℤ → ℤ → Bool
+is_line_space p space = int_le (pos 5 *ℤ space) (pos (unsigned_abs p))
+
+-- to a new h, with the pixel place before the drift rule; and to a new v
+abbrev pub at_h : Fraction → Registers → ℤ → ℤ → Registers
+at_h c r h place = record r { h = h; hh = drifted place (round c h) }
+
+abbrev pub at_v : Fraction → Registers → ℤ → ℤ → Registers
+at_v c r v place = record r { v = v; vv = drifted place (round c v) }
+
+-- right by p, where the pixel place moves by the rounded motion or is rounded anew; the registers take `r` for what they were, so
+-- that a motion that also sets w or x has set it
+abbrev pub moved_right : Fraction → Registers → ℤ → ℤ → Registers
+moved_right c r p space = at_h c r (r.h +ℤ p) (if is_word_space p space then round c (r.h +ℤ p) else r.hh +ℤ round c p)
+
+abbrev pub moved_down : Fraction → Registers → ℤ → ℤ → Registers
+moved_down c r p space = at_v c r (r.v +ℤ p) (if is_line_space p space then round c (r.v +ℤ p) else r.vv +ℤ round c p)
+
+-- over a character or a rule of a width, whose pixels are given
+abbrev pub moved_over : Fraction → Registers → ℤ → ℤ → Registers
+moved_over c r width pixels = at_h c r (r.h +ℤ width) (r.hh +ℤ pixels)
+
+-- the state after a step that sets h or v to a number, if that may be held
+abbrev pub if_held : ℤ → State → Result State PenFault
+if_held z after = if is_held z then Ok after else Err Overflow
+
+abbrev pub right_by : Fraction → State → Registers → ℤ → ℤ → Result State PenFault
+right_by c s set p space = if_held (s.now.h +ℤ p) (record s { now = moved_right c set p space })
+
+abbrev pub down_by : Fraction → State → Registers → ℤ → ℤ → Result State PenFault
+down_by c s set p space = if_held (s.now.v +ℤ p) (record s { now = moved_down c set p space })
+
+abbrev pub over : Fraction → State → ℤ → ℤ → Result State PenFault
+over c s width pixels = if_held (s.now.h +ℤ width) (record s { now = moved_over c s.now width pixels })
+
+-- the state after a flat command, or why there is none
+abbrev pub after : Fraction → State → FlatCommand → Result State PenFault
+after c s Skip = Ok s
+after c s (Rule height width true) = Ok s
+after c s (Rule height width false) = over c s width (ceil c width)
+after c s (Right p space) = right_by c s s.now p space
+after c s (W p space) = right_by c s (record s.now { w = p }) p space
+after c s (X p space) = right_by c s (record s.now { x = p }) p space
+after c s (W0 space) = right_by c s s.now s.now.w space
+after c s (X0 space) = right_by c s s.now s.now.x space
+after c s (Down p space) = down_by c s s.now p space
+after c s (Y p space) = down_by c s (record s.now { y = p }) p space
+after c s (Z p space) = down_by c s (record s.now { z = p }) p space
+after c s (Y0 space) = down_by c s s.now s.now.y space
+after c s (Z0 space) = down_by c s s.now s.now.z space
+
+-- one state may come after another, by a flat command
+abbrev pub Step : Fraction → State → FlatCommand → State → Type 0
+Step c s f t = after c s f ≡ Ok t
+
+-- the states that a list of flat commands leads through, each with the one behind it, to the last
+abbrev pub Leads : Fraction → State → List FlatCommand → State → Type 0
+Leads c s [] t = t ≡ s
+Leads c s (f ∷ flats) t = (mid : State) × Step c s f mid × Leads c mid flats t
+
+-- ---- a flat command of the code
+
+abbrev pub seen_flat : Flat → FlatCommand
+seen_flat code.Skip = Skip
+seen_flat (code.Rule height width put) = Rule height width put
+seen_flat (code.Right by space) = Right by space
+seen_flat (code.W by space) = W by space
+seen_flat (code.X by space) = X by space
+seen_flat (code.Down by space) = Down by space
+seen_flat (code.Y by space) = Y by space
+seen_flat (code.Z by space) = Z by space
+seen_flat (code.W0 space) = W0 space
+seen_flat (code.X0 space) = X0 space
+seen_flat (code.Y0 space) = Y0 space
+seen_flat (code.Z0 space) = Z0 space
+
+-- ---- a law: hh is never farther than 2 from h converted, nor vv from v
+
+abbrev pub IsNear : ℤ → ℤ → Type 0
+IsNear place rounded = unsigned_abs (place -ℤ rounded) ≤ 2
+
+pub record AreNear (c : Fraction) (r : Registers) : Type 0 where
+  pub across : IsNear r.hh (round c r.h)
+  pub down : IsNear r.vv (round c r.v)
+
+pub record KeepsNear (c : Fraction) (s : State) : Type 0 where
+  pub now : AreNear c s.now
+  pub saved : AllByRecursion (AreNear c) s.saved
+
+-- a step keeps it
+abbrev pub StepsKeepNear : Type 0
+StepsKeepNear = (c : Fraction) (s t : State) (f : FlatCommand) → KeepsNear c s → Step c s f t → KeepsNear c t
+
+-- so it holds in every state that a page reaches, whatever its commands and their spaces
+abbrev pub PagesKeepNear : Type 0
+PagesKeepNear = (c : Fraction) (flats : List FlatCommand) (t : State) → Leads c at_origin flats t → KeepsNear c t

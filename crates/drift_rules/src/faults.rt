@@ -1,0 +1,31 @@
+//! Why a pen stops.
+
+use thiserror::Error;
+
+/// Why no state of the registers comes after a flat command.
+#[derive(Clone, Copy, Debug, PartialEq, Eq, Error)]
+pub enum PenFault {
+    /// h or v would leave -2147483647..2147483647.
+    #[error("overflow")]
+    Overflow,
+    /// Registers are restored, and none are saved.
+    #[error("stack empty")]
+    StackEmpty,
+    /// Registers are saved, and 1000 are saved already.
+    #[error("stack deep")]
+    StackDeep,
+    /// The page ends, and registers are still saved.
+    #[error("stack left")]
+    StackLeft,
+}
+
+/// Why a step wasn't made. The pen is then as it was.
+#[derive(Clone, Copy, Debug, PartialEq, Eq, Error)]
+pub enum PenStop {
+    /// By the page's fault.
+    #[error("{0}")]
+    Fault(PenFault),
+    /// There is no memory for the registers to be saved.
+    #[error("out of memory")]
+    NoMemory,
+}

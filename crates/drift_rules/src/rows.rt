@@ -1,0 +1,20 @@
+//! Worked motions at one half of a dot for a unit and a space of 2, by computation.
+
+ghost use Rattle.std.specs.Prelude.{◌≡◌, pos, negsuc, Ok};
+ghost use Rattle.drift_rules.specs.Position.{after, Right, Down};
+ghost use Rattle.drift_rules.specs.Rows.{half, at, at_v_2, at_h_2, row};
+
+/// From h = 2 and hh = 2: a word space and a long way back are rounded anew, a small motion drifts.
+pub fn across()
+    ensures right_2 { after half at_h_2 (Right (pos 2) (pos 2)) ≡ row (pos 4) (pos 2) }
+    ensures right_1 { after half at_h_2 (Right (pos 1) (pos 2)) ≡ row (pos 3) (pos 3) }
+    ensures left_8 { after half at_h_2 (Right (negsuc 7) (pos 2)) ≡ row (negsuc 5) (negsuc 2) }
+    ensures left_7 { after half at_h_2 (Right (negsuc 6) (pos 2)) ≡ row (negsuc 4) (negsuc 1) }
+{}
+
+/// From v = 2 and vv = 2: a line space, up or down, is rounded anew.
+pub fn down()
+    ensures down_10 { after half at_v_2 (Down (pos 10) (pos 2)) ≡ Ok (at (pos 0) (pos 12) (pos 0) (pos 6)) }
+    ensures down_9 { after half at_v_2 (Down (pos 9) (pos 2)) ≡ Ok (at (pos 0) (pos 11) (pos 0) (pos 7)) }
+    ensures up_10 { after half at_v_2 (Down (negsuc 9) (pos 2)) ≡ Ok (at (pos 0) (negsuc 7) (pos 0) (negsuc 3)) }
+{}
