@@ -1,0 +1,2 @@
+pub mod MarkedPages
+pub mod Clips

@@ -1,0 +1,10 @@
+//! Laws over the definitions, each the contract of a function without a body.
+
+ghost use Rattle.raster_page.specs.Ink.{MarksAdd, NewestMayStandLast, DotsAreDecidedAlone};
+
+/// Marks may be set one after another and in any order, and each dot is decided alone.
+pub fn marks()
+    ensures add { MarksAdd }
+    ensures newest_last { NewestMayStandLast }
+    ensures alone { DotsAreDecidedAlone }
+{}

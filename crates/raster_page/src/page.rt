@@ -1,0 +1,119 @@
+//! The page.
+
+ghost use Rattle.std.specs.Prelude.{◌≡◌, ℕ, ◌*◌, ◌^◌, ◌<◌, ◌≤◌, ◌||◌, ℤ, pos, ◌≤ℤ◌, ◌<ℤ◌, neg_ℤ, List, [], ◌∷◌, IfOk, slice_index_or};
+ghost use Rattle.std.specs.List.{flat_map};
+ghost use Rattle.packed_rows.specs.Bitmap.{Bitmap, is_black};
+ghost use Rattle.packed_rows.specs.Packing.{row_text, pixels_of, IsPadded};
+ghost use Rattle.raster_page.specs.Ink.{Inked, Bar, covers, page_of, with_mark};
+ghost use Rattle.packed_rows.specs.Changes.{black_count};
+
+use crate::span::clipped;
+use packed_rows::PackedBitmap;
+use std::alloc::{AllocError as NoMemory, Global};
+use std::marker::Model;
+
+/// A page of black and white dots, counted from its upper left one.
+#[derive(Drop)]
+pub struct Page {
+    dots: PackedBitmap,
+}
+
+impl Model for Page {
+    ghost use Rattle.std.specs.Prelude.{◌≤◌};
+    ghost use Rattle.packed_rows.specs.Bitmap.{Bitmap};
+
+    ghost Value = { Bitmap };
+
+    ghost view = { λ p. p.dots };
+
+    ghost invariant = { λ p. (1 ≤ p.dots.width) × (p.dots.width ≤ 20000) × (1 ≤ p.dots.height) × (p.dots.height ≤ 20000) };
+}
+
+impl Page {
+    /// A page of `w` by `h` white dots. The only call of a page that takes memory.
+    pub fn blank(alloc: Global, w: u32, h: u32) -> Result<Page, NoMemory>
+        requires wide { 1 ≤ w }
+        requires narrow { w ≤ 20000 }
+        requires high { 1 ≤ h }
+        requires low { h ≤ 20000 }
+        ensures white { IfOk result (λ page. page ≡ page_of w h []) }
+    {
+        Ok(Page {
+            dots: PackedBitmap::white(alloc, w, h)?,
+        })
+    }
+
+    /// How many dots a row has.
+    pub fn width(&self) -> u32
+        ensures value { result ≡ self.now.width }
+        ensures some { 1 ≤ result }
+        ensures narrow { result ≤ 20000 }
+    {
+        self.dots.width()
+    }
+
+    /// How many rows the page has.
+    pub fn height(&self) -> u32
+        ensures value { result ≡ self.now.height }
+        ensures some { 1 ≤ result }
+        ensures low { result ≤ 20000 }
+    {
+        self.dots.height()
+    }
+
+    /// Whether the dot in column `x` of row `y` is black.
+    pub fn black(&self, x: u32, y: u32) -> bool
+        requires in_row { x < self.now.width }
+        requires on_page { y < self.now.height }
+        ensures { result ≡ is_black self.now x y }
+    {
+        self.dots.is_black(x, y)
+    }
+
+    /// Makes the dots of the page inside a rectangle black: `w` dots wide and `h` dots high, with its upper left
+    /// dot in column `x` of row `y`. The others stay. What lies beside the page is cut off.
+    pub fn rule(&mut self, x: i64, y: i64, w: i64, h: i64)
+        requires x_low { neg_ℤ (pos (2 ^ 42)) ≤ℤ x }
+        requires x_high { x <ℤ pos (2 ^ 42) }
+        requires y_low { neg_ℤ (pos (2 ^ 42)) ≤ℤ y }
+        requires y_high { y <ℤ pos (2 ^ 42) }
+        requires w_low { neg_ℤ (pos (2 ^ 42)) ≤ℤ w }
+        requires w_high { w <ℤ pos (2 ^ 42) }
+        requires h_low { neg_ℤ (pos (2 ^ 42)) ≤ℤ h }
+        requires h_high { h <ℤ pos (2 ^ 42) }
+
+        ensures bar { self.new ≡ with_mark self.old (Bar x y w h) }
+        ensures dots { (column row : ℕ) → column < self.old.width → row < self.old.height →
+            is_black self.new column row ≡ (covers column row (Bar x y w h) || is_black self.old column row) }
+        ensures marks { (marks : List Inked) → self.old ≡ page_of self.old.width self.old.height marks →
+            self.new ≡ page_of self.old.width self.old.height (Bar x y w h ∷ marks) }
+    {
+        let columns = clipped(x, w, self.dots.width());
+        let rows = clipped(y, h, self.dots.height());
+        self.dots.blacken(columns, rows);
+    }
+
+    /// The bytes of row `y`: eight dots a byte, the first in the high bit, 1 for black, and zero bits behind the last.
+    pub fn row(&self, y: u32) -> &[u8]
+        requires { y < self.now.height }
+        ensures text { result.now ≡ row_text (slice_index_or self.now.rows y []) }
+        ensures dots { pixels_of self.now.width result.now ≡ slice_index_or self.now.rows y [] }
+        ensures padded { IsPadded self.now.width result.now }
+    {
+        self.dots.row(y)
+    }
+
+    /// The bytes of all rows, one after another.
+    pub fn rows(&self) -> &[u8]
+        ensures { result.now ≡ flat_map row_text self.now.rows }
+    {
+        self.dots.rows()
+    }
+
+    /// How many dots are black.
+    pub fn count(&self) -> u64
+        ensures { result ≡ black_count self.now }
+    {
+        self.dots.count()
+    }
+}

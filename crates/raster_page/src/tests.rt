@@ -1,0 +1,68 @@
+//! Small pages, with bytes worked out by hand.
+
+use crate::Page;
+use std::test::Fail;
+
+#[test]
+fn a_blank_page_is_white(rt: HostRuntime) -> Result<(), Fail> {
+    let page = Page::blank(rt.alloc(), 10, 2)?;
+    assert_eq!(rt; page.width(), 10);
+    assert_eq!(rt; page.height(), 2);
+    assert_eq!(rt; page.rows(), [0, 0, 0, 0].as_slice());
+    assert_eq!(rt; page.count(), 0);
+    Ok(())
+}
+
+#[test]
+fn a_rule_in_the_middle(rt: HostRuntime) -> Result<(), Fail> {
+    let mut page = Page::blank(rt.alloc(), 10, 4)?;
+    page.rule(3, 1, 6, 2);
+    assert_eq!(rt;
+        page.rows(),
+        [0, 0, 0x1f, 0x80, 0x1f, 0x80, 0, 0].as_slice()
+    );
+    if page.height() == 4 && page.width() == 10 {
+        assert_eq!(rt; page.row(1), [0x1f, 0x80].as_slice());
+        assert!(rt;
+            page.black(3, 1)
+                && page.black(8, 2)
+                && !page.black(2, 1)
+                && !page.black(9, 1)
+                && !page.black(3, 3)
+        );
+    }
+    assert_eq!(rt; page.count(), 12);
+    Ok(())
+}
+
+#[test]
+fn rules_are_cut_at_each_edge(rt: HostRuntime) -> Result<(), Fail> {
+    let mut page = Page::blank(rt.alloc(), 12, 4)?;
+    page.rule(-2, -1, 3, 2);
+    page.rule(11, 3, 100, 100);
+    page.rule(4, 2, 1, 1);
+    assert_eq!(rt; page.rows(), [0x80, 0, 0, 0, 0x08, 0, 0, 0x10].as_slice());
+    Ok(())
+}
+
+#[test]
+fn rules_beside_the_page_leave_it(rt: HostRuntime) -> Result<(), Fail> {
+    let mut page = Page::blank(rt.alloc(), 9, 2)?;
+    page.rule(9, 0, 5, 2);
+    page.rule(-5, 0, 5, 2);
+    page.rule(0, 2, 9, 1);
+    page.rule(0, -3, 9, 3);
+    page.rule(0, 0, 0, 2);
+    page.rule(0, 0, 9, 0);
+    page.rule(5, 1, -3, 1);
+    assert_eq!(rt; page.count(), 0);
+    page.rule(
+        -4_000_000_000_000,
+        -4_000_000_000_000,
+        4_300_000_000_000,
+        4_300_000_000_000,
+    );
+    assert_eq!(rt; page.rows(), [0xff, 0x80, 0xff, 0x80].as_slice());
+    assert_eq!(rt; page.count(), 18);
+    Ok(())
+}
