@@ -1,0 +1,10 @@
+//! Writes a page of dots as a PBM file in its raw form.
+#![tactic(auto)]
+
+mod laws;
+#[cfg(test)]
+mod tests;
+mod write;
+
+pub use laws::lengths;
+pub use write::{WriteFault, write_page};
