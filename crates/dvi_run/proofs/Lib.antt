@@ -1,0 +1,14 @@
+pub mod Readings
+pub mod GoesOn
+pub mod Runs
+pub mod Contexts
+pub mod Follow
+pub mod Judged
+pub mod ReadOn
+pub mod Ended
+pub mod Told
+pub mod Notes
+pub mod OneValue
+pub mod Clauses
+pub mod Steps
+pub mod Drawn

@@ -1,0 +1,22 @@
+//! Exit statuses.
+ghost use Rattle.std.specs.Prelude.{◌≡◌};
+ghost use Rattle.dvi_run.specs.Endings.{status_of};
+
+use super::Ending;
+
+impl Ending {
+    /// The exit status.
+    pub fn status(&self) -> u8
+        ensures { result ≡ status_of self.now }
+    {
+        match self {
+            Ending::Written => 0,
+            Ending::Usage => 1,
+            Ending::Malformed => 2,
+            Ending::Overflow(_) => 3,
+            Ending::Input => 6,
+            Ending::Output => 7,
+            Ending::Memory => 9,
+        }
+    }
+}

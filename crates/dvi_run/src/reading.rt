@@ -1,0 +1,102 @@
+//! Reads an input.
+ghost use Rattle.std.specs.Prelude.{◌≡◌, ◌+◌, ◌<◌, ◌≤◌, IfOk, IsErr, IsErrOf, OnOk, drop, length, take};
+ghost use Rattle.std.specs.Io.KnownBytes.{Consumes, IsAtEnd, ReadConsumes};
+ghost use Rattle.outside.specs.Counts.{HasCause};
+ghost use Rattle.dvi_run.specs.Reading.{IsRead, most_read};
+ghost use Rattle.dvi_run.specs.declared.reading.ReadStop.TheVariants.{Failed as HasFailed, NoMemory};
+
+use outside::{Failed, Input};
+use std::alloc::{AllocError, Global};
+
+/// One byte more than a document may have.
+const MOST: usize = 67_108_865;
+
+/// How much room a first read has, in bytes.
+const PIECE: usize = 65_536;
+
+/// Why an input was not read.
+#[derive(Clone, Copy, Debug, PartialEq, Eq)]
+pub enum ReadStop {
+    Failed,
+    NoMemory,
+}
+
+impl From<Failed> for ReadStop {
+    ghost from_gives = { λ _ e. e ≡ HasFailed };
+
+    fn from(_error: Failed) -> ReadStop {
+        ReadStop::Failed
+    }
+}
+
+impl From<AllocError> for ReadStop {
+    ghost from_gives = { λ _ e. e ≡ NoMemory };
+
+    fn from(_error: AllocError) -> ReadStop {
+        ReadStop::NoMemory
+    }
+}
+
+// Reads into the room behind the first `len` bytes.
+fn read_behind<I: Input>(input: &mut I, bytes: &mut [u8], len: usize) -> Result<usize, Failed>
+    requires { len < length bytes.old }
+    ensures kept { take len bytes.new ≡ take len bytes.old }
+    ensures bound { IfOk result (λ n. len + n ≤ length bytes.new) }
+    ensures bytes { ReadConsumes (I.left input.old) (I.left input.new) result (drop len bytes.new) }
+    ensures cause { HasCause (I.faults input.old) (I.faults input.new) (IsErr result) }
+{
+    input.read(&mut bytes[len..])
+}
+
+// Makes room behind the first `len` bytes: twice as much as is used.
+fn make_room(bytes: &mut Vec<u8>, len: usize) -> Result<(), AllocError>
+    requires inside { len ≤ length bytes.old.items }
+    requires few { length bytes.old.items ≤ most_read }
+    requires below { len < most_read }
+    ensures kept { take len bytes.new.items ≡ take len bytes.old.items }
+    ensures few { length bytes.new.items ≤ most_read }
+    ensures room { OnOk result (len < length bytes.new.items) }
+{
+    if bytes.len() == len {
+        bytes.resize((2 * len).max(PIECE).min(MOST), 0u8)?;
+    }
+    Ok(())
+}
+
+// Reads more behind the first `len` bytes.
+fn read_more<I: Input>(input: &mut I, bytes: &mut Vec<u8>, len: usize) -> Result<usize, ReadStop>
+    requires inside { len ≤ length bytes.old.items }
+    requires few { length bytes.old.items ≤ most_read }
+    requires below { len < most_read }
+    ensures kept { take len bytes.new.items ≡ take len bytes.old.items }
+    ensures few { length bytes.new.items ≤ most_read }
+    ensures bound { IfOk result (λ n. len + n ≤ length bytes.new.items) }
+    ensures bytes { IfOk result (λ n. Consumes (I.left input.old) (I.left input.new)
+        (take n (drop len bytes.new.items)) × (n ≡ 0 → IsAtEnd (I.left input.new))) }
+    ensures cause { HasCause (I.faults input.old) (I.faults input.new)
+        (IsErrOf result ReadStop.Failed) }
+{
+    make_room(bytes, len)?;
+    Ok(read_behind(input, bytes, len)?)
+}
+
+/// Reads to the end, or so many bytes that there are too many.
+pub fn read_all<I: Input>(alloc: Global, input: &mut I) -> Result<Vec<u8>, ReadStop>
+    ensures bytes { IfOk result (λ bytes.
+        IsRead (I.left input.old) (I.left input.new) bytes.items) }
+    ensures cause { HasCause (I.faults input.old) (I.faults input.new)
+        (IsErrOf result ReadStop.Failed) }
+{
+    let mut bytes = Vec::new(alloc);
+    let mut len: usize = 0;
+    while len < MOST {
+        let n = read_more(input, &mut bytes, len)?;
+        if n == 0 {
+            bytes.truncate(len);
+            return Ok(bytes);
+        }
+        len += n;
+    }
+    bytes.truncate(len);
+    Ok(bytes)
+}
