@@ -32,12 +32,14 @@ fn key(rt: &HostRuntime, name: &[u8], size: u32) -> Result<FontKey, Fail>
 }
 
 fn library(rt: &HostRuntime) -> Result<Arc<Library>, Fail> {
-    let files: [&[u8]; 8] = [
+    let files: [&[u8]; 10] = [
         b"dot.tfm",
         b"dot.300pk",
         b"near.tfm",
         b"near.301pk",
         b"near.299pk",
+        b"low.tfm",
+        b"low.299pk",
         b"duo.tfm",
         b"duo.vf",
         b"duo.300pk",
@@ -122,6 +124,11 @@ fn a_packed_font(rt: HostRuntime) -> Result<(), Fail> {
     assert!(rt;
         finds(&rt, &near, 4, [b"near.tfm", b"", b"near.301pk"])?,
         "above comes first"
+    );
+    let low = key(&rt, b"low", 128)?;
+    assert!(rt;
+        finds(&rt, &low, 5, [b"low.tfm", b"", b"low.299pk"])?,
+        "below comes last"
     );
     let twice = key(&rt, b"dot", 256)?;
     assert!(rt;
