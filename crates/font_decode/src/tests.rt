@@ -219,6 +219,57 @@ fn each_load_may_stop_a_fetch(rt: HostRuntime) -> Result<(), Fail> {
     Ok(())
 }
 
+// A source with a TFM file, and with the file of the load numbered `pk_at`, from 1. It hears whether
+// the names come in their order.
+#[derive(Drop)]
+struct Listening {
+    alloc: Global,
+    pk_at: u64,
+    loads: u64,
+    in_order: bool,
+}
+
+impl FontSource for Listening {
+    ghost faults = { λ _. 0 };
+
+    ghost loads = { λ s. s.loads };
+
+    fn load(&mut self, name: &FileName) -> Result<Option<Vec<u8>>, LoadStop> {
+        let order: [&[u8]; 5] = [
+            b"dot.tfm",
+            b"dot.vf",
+            b"dot.300pk",
+            b"dot.301pk",
+            b"dot.299pk",
+        ];
+        let at = self.loads.min(4) as usize;
+        self.in_order = self.in_order && name.bytes() == order[at];
+        self.loads = self.loads.saturating_add(1);
+        if self.loads == 1 || self.loads == self.pk_at {
+            return Ok(Some(Vec::new(self.alloc)));
+        }
+        Ok(None)
+    }
+}
+
+#[test]
+fn files_are_asked_for_in_order(rt: HostRuntime) -> Result<(), Fail> {
+    let dot = key(&rt, b"dot", 128)?;
+    for pk_at in 3..7u64 {
+        let mut source = Listening {
+            alloc: rt.alloc(),
+            pk_at,
+            loads: 0,
+            in_order: true,
+        };
+        let found = fetch(rt.alloc(), &mut source, &dot, &UNITS)?;
+        assert!(rt; source.in_order, "found at {pk_at}");
+        assert_eq!(rt; source.loads, pk_at.min(5));
+        assert_eq!(rt; found.pk.is_some(), pk_at < 6);
+    }
+    Ok(())
+}
+
 #[test]
 fn a_file_of_any_length_is_loaded(rt: HostRuntime) -> Result<(), Fail> {
     let mut library = Library::new(rt.alloc());
