@@ -24,9 +24,12 @@ leaves_by k _ = false
 abbrev pub PrefixesAreLegal : Type 0
 PrefixesAreLegal = (capacity : ℕ) (xs ys : List Call) → Legal capacity (xs ++ ys) → Legal capacity xs
 
--- the test of two keys is equality
+-- the test of two keys is equality: two that pass it are one, and each passes it with itself
 abbrev pub KeysAreEqual : Type 0
 KeysAreEqual = (a b : FontKey) → key_eq a b ≡ true → a ≡ b
+
+abbrev pub KeysAreThemselves : Type 0
+KeysAreThemselves = (k : FontKey) → key_eq k k ≡ true
 
 -- a seat's claim is the one that the last of its calls has left to it
 abbrev pub ClaimsAreOwn : Type 0
