@@ -1,13 +1,14 @@
 -- The registers that a pen may have, and how the code's numbers are read.
-use Rattle.std.proofs.Common.{◌≡◌, ℕ, ◌+◌, ◌*◌, ◌^◌, ◌<◌, ◌≤◌, ℤ, ◌+ℤ◌, ◌-ℤ◌, Bool, true, false, cond, List, Result, Ok, Err, IfOk, IfErr, IsTrue, w64, to_z, of_z, arith, refl}
+use Rattle.std.proofs.Common.{◌≡◌, ℕ, ◌+◌, ◌*◌, ◌^◌, ◌<◌, ◌≤◌, ℤ, ◌+ℤ◌, ◌-ℤ◌, Bool, true, false, cond, List, [], ◌∷◌, Result, Ok, Err, IfOk, IfErr, IsTrue, w64, to_z, of_z, arith, refl}
 use Rattle.std.specs.Prelude.{unsigned_abs}
+use Rattle.std.specs.List.{AllByRecursion}
 use Rattle.std.proofs.lemmas.Int.{ints, to_z-of_z, fits_signed_from_abs}
 use Rattle.pixel_round.specs.Pixels.{Fraction, round}
 use Rattle.drift_rules.specs.declared.flat.Registers.{Registers}
 use Rattle.drift_rules.specs.declared.faults.PenFault.{PenFault}
 use Rattle.drift_rules.specs.declared.faults.PenFault.TheVariants.{Overflow}
-use Rattle.drift_rules.specs.Position.{State, drifted, at_h, at_v, zeros}
-use Rattle.drift_rules.specs.Bounds.{AreHeld, IsNumber}
+use Rattle.drift_rules.specs.Position.{State, AreNear, KeepsNear, drifted, at_h, at_v, zeros}
+use Rattle.drift_rules.specs.Bounds.{AreHeld, IsHeldState, IsNumber}
 use Rattle.drift_rules.proofs.Near.{near_drifted, zeros_are_near}
 
 -- a number of at most 42 bits is read as it was written
@@ -71,6 +72,14 @@ grown test old dots a b is e p q = rw (← is, sum_kept old dots (omega (arith, 
 
 pub zeros_are_held : (c : Fraction) → AreHeld c zeros
 zeros_are_held c = record { h = omega arith; v = omega arith; w = omega arith; x = omega arith; y = omega arith; z = omega arith; hh = omega arith; vv = omega arith; near = zeros_are_near c }
+
+-- a pen's places are near, the saved ones too
+saved_are_near : (c : Fraction) (saved : List Registers) → AllByRecursion (AreHeld c) saved → AllByRecursion (AreNear c) saved
+saved_are_near c [] held = tt
+saved_are_near c (r ∷ saved) held = (held.0.near, saved_are_near c saved held.1)
+
+pub held_is_near : (c : Fraction) (s : State) → IsHeldState c s → KeepsNear c s
+held_is_near c s held = record { now = held.now.near; saved = saved_are_near c s.saved held.saved }
 
 -- ---- with one register set
 

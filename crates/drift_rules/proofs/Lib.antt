@@ -1,3 +1,4 @@
 pub mod Near
+pub mod Stack
 pub mod Held
 pub mod Rectangles

@@ -1,16 +1,17 @@
 -- Each step keeps the pixel places within 2 of the rounded ones.
 use Rattle.std.proofs.Common.{◌≡◌, ℕ, ◌+◌, ◌*◌, ◌/◌, ◌<◌, ◌≤◌, ℤ, pos, Bool, true, false, cond, arith, Ok, Err, List, [], ◌∷◌, refl, subst, sym, zero, suc, zero-mul, mul-zero, zero-add}
+use Rattle.std.specs.List.{AllByRecursion}
 use Rattle.std.proofs.lemmas.Int.{ints}
 use Rattle.pixel_round.specs.Pixels.{Fraction, round}
-use Rattle.drift_rules.specs.Position.{State, IsNear, AreNear, KeepsNear, Step, StepsKeepNear, drifted, at_h, at_v, PagesKeepNear, FlatCommand, at_origin, zeros, Leads, Skip, Rule, Right, W, X, Down, Y, Z, W0, X0, Y0, Z0}
+use Rattle.drift_rules.specs.Position.{State, IsNear, AreNear, KeepsNear, Step, StepsKeepNear, drifted, at_h, at_v, PagesKeepNear, FlatCommand, at_origin, zeros, Leads, Skip, Rule, Right, W, X, Down, Y, Z, W0, X0, Y0, Z0, Push, Pop, restoring}
 use Rattle.drift_rules.specs.declared.flat.Registers.{Registers}
-use Rattle.drift_rules.specs.declared.faults.PenFault.TheVariants.{Overflow}
+use Rattle.drift_rules.specs.declared.faults.PenFault.TheVariants.{Overflow, StackDeep}
 
 pub near_drifted : (place rounded : ℤ) → IsNear (drifted place rounded) rounded
 near_drifted place rounded = grind (arith, ints)
 
 -- what was answered after a test
-held : (b : Bool) (s t : State) → cond b (Ok s) (Err Overflow) ≡ Ok t → s ≡ t
+pub held : (b : Bool) (s t : State) → cond b (Ok s) (Err Overflow) ≡ Ok t → s ≡ t
 held true s t e = cc
 held false s t e = absurd cc
 
@@ -19,6 +20,18 @@ near_across c s r h place k e1 e2 = record { now = record { across = near_drifte
 
 near_down : (c : Fraction) (s : State) (r : Registers) (v place : ℤ) → KeepsNear c s → r.h ≡ s.now.h → r.hh ≡ s.now.hh → KeepsNear c (record s { now = at_v c r v place })
 near_down c s r v place k e1 e2 = record { now = record { across = rw (e1, e2) k.now.across; down = near_drifted place (round c v) }; saved = k.saved }
+
+-- and where registers were saved
+pub saved_is : (b : Bool) (s t : State) → cond b (Err StackDeep) (Ok s) ≡ Ok t → s ≡ t
+saved_is true s t e = absurd cc
+saved_is false s t e = cc
+
+near_restored : (c : Fraction) (saved : List Registers) (t : State) → AllByRecursion (AreNear c) saved → restoring saved ≡ Ok t → KeepsNear c t
+near_restored c [] t k e = absurd cc
+near_restored c (r ∷ saved) t k e =
+    let made : State = record { now = r; saved = saved } in
+    let was : made ≡ t = cc in
+    subst (λ (x : State). KeepsNear c x) was (record { now = k.0; saved = k.1 })
 
 stays : (c : Fraction) (s t : State) → KeepsNear c s → Step c s Skip t → KeepsNear c t
 stays c s t k e =
@@ -39,6 +52,8 @@ steps_keep_near c s t (Y p space) k e = subst (λ (x : State). KeepsNear c x) (h
 steps_keep_near c s t (Z p space) k e = subst (λ (x : State). KeepsNear c x) (held _ _ t e) (near_down c s (record s.now { z = p }) _ _ k refl refl)
 steps_keep_near c s t (Y0 space) k e = subst (λ (x : State). KeepsNear c x) (held _ _ t e) (near_down c s s.now _ _ k refl refl)
 steps_keep_near c s t (Z0 space) k e = subst (λ (x : State). KeepsNear c x) (held _ _ t e) (near_down c s s.now _ _ k refl refl)
+steps_keep_near c s t Push k e = subst (λ (x : State). KeepsNear c x) (saved_is _ _ t e) (record { now = k.now; saved = (k.now, k.saved) })
+steps_keep_near c s t Pop k e = near_restored c s.saved t k.saved e
 
 -- a page begins near: 0 is rounded to 0
 half_of : (b : ℕ) → 0 < b → b / (2 * b) ≤ 1

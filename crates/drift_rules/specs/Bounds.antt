@@ -1,10 +1,11 @@
 -- How large the numbers of commands, registers and marks are, so that sums of them fit.
 use Rattle.std.specs.Prelude.{◌+◌, ◌<◌, ◌≤◌, ◌^◌, ℤ, pos, ◌≤ℤ◌, unsigned_abs}
+use Rattle.std.specs.List.{AllByRecursion}
 use Rattle.pixel_round.specs.Pixels.{Fraction}
 use Rattle.drift_rules.specs.declared.flat.Registers.{Registers}
 use Rattle.drift_rules.specs.declared.flat.Mark.{Mark}
 use Rattle.drift_rules.specs.declared.flat.Mark.TheVariants as code
-use Rattle.drift_rules.specs.Position.{AreNear, FlatCommand, Skip, Rule, Right, W, X, Down, Y, Z, W0, X0, Y0, Z0}
+use Rattle.drift_rules.specs.Position.{AreNear, FlatCommand, Skip, Rule, Right, W, X, Down, Y, Z, W0, X0, Y0, Z0, Push, Pop, State}
 
 -- a number of a command: four bytes in two's complement hold nothing farther from 0
 abbrev pub IsNumber : ℤ → Type 0
@@ -29,6 +30,8 @@ IsInReach (W0 space) = IsSpace space
 IsInReach (X0 space) = IsSpace space
 IsInReach (Y0 space) = IsSpace space
 IsInReach (Z0 space) = IsSpace space
+IsInReach Push = Unit {0}
+IsInReach Pop = Unit {0}
 
 -- registers that a pen may have
 pub record AreHeld (c : Fraction) (r : Registers) : Type 0 where
@@ -41,6 +44,11 @@ pub record AreHeld (c : Fraction) (r : Registers) : Type 0 where
   pub hh : unsigned_abs r.hh < 2 ^ 40
   pub vv : unsigned_abs r.vv < 2 ^ 40
   pub near : AreNear c r
+
+-- a state that a pen may have: so are its registers, and every saved set of them
+pub record IsHeldState (c : Fraction) (s : State) : Type 0 where
+  pub now : AreHeld c s.now
+  pub saved : AllByRecursion (AreHeld c) s.saved
 
 -- a row or a column so near that it stays within 2^42 where a margin of at most 2^20 dots is added
 abbrev pub IsWithinReach : ℤ → Type 0

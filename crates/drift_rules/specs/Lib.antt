@@ -1,4 +1,6 @@
 pub mod Position
 pub mod Marks
 pub mod Bounds
+pub mod Stack
+pub mod Stops
 pub mod Rows

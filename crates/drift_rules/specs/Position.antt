@@ -1,12 +1,13 @@
--- How one flat command moves the registers: Knuth, DVItype, "Translation to symbolic form" (hh, vv, max_drift and out_space).
-use Rattle.std.specs.Prelude.{◌≡◌, ◌≤◌, ℤ, pos, negsuc, ◌+ℤ◌, ◌-ℤ◌, ◌*ℤ◌, unsigned_abs, Bool, true, false, ◌||◌, List, [], ◌∷◌, nat_le, int_le, int_lt, if◌then◌else◌, Result, Ok, Err}
+-- How one flat command moves the registers: Knuth, DVItype, "Translation to symbolic form" (hh, vv, max_drift and out_space; push and
+-- pop).
+use Rattle.std.specs.Prelude.{◌≡◌, ℕ, ◌≤◌, ℤ, pos, negsuc, ◌+ℤ◌, ◌-ℤ◌, ◌*ℤ◌, unsigned_abs, Bool, true, false, ◌||◌, List, [], ◌∷◌, length, nat_le, int_le, int_lt, if◌then◌else◌, Result, Ok, Err}
 use Rattle.std.specs.List.{AllByRecursion}
 use Rattle.pixel_round.specs.Pixels.{Fraction, round, ceil}
 use Rattle.drift_rules.specs.declared.flat.Registers.{Registers}
 use Rattle.drift_rules.specs.declared.flat.Flat.{Flat}
 use Rattle.drift_rules.specs.declared.flat.Flat.TheVariants as code
 use Rattle.drift_rules.specs.declared.faults.PenFault.{PenFault}
-use Rattle.drift_rules.specs.declared.faults.PenFault.TheVariants.{Overflow}
+use Rattle.drift_rules.specs.declared.faults.PenFault.TheVariants.{Overflow, StackEmpty, StackDeep}
 
 -- a flat command, with all that it names as a value: a rule's height, width and whether it is put, a motion and the space
 pub data FlatCommand : Type 0 where
@@ -22,6 +23,8 @@ pub data FlatCommand : Type 0 where
   X0 : ℤ → FlatCommand
   Y0 : ℤ → FlatCommand
   Z0 : ℤ → FlatCommand
+  Push : FlatCommand
+  Pop : FlatCommand
 
 -- the registers, and those that were saved, the last ones first
 pub record State : Type 0 where
@@ -91,6 +94,19 @@ down_by c s set p space = if_held (s.now.v +ℤ p) (record s { now = moved_down 
 abbrev pub over : Fraction → State → ℤ → ℤ → Result State PenFault
 over c s width pixels = if_held (s.now.h +ℤ width) (record s { now = moved_over c s.now width pixels })
 
+-- how many sets of registers may be saved
+abbrev pub MAX_SAVED : ℕ
+MAX_SAVED = 1000
+
+-- all eight registers are saved, and stay as they are
+abbrev pub saving : State → Result State PenFault
+saving s = if nat_le MAX_SAVED (length s.saved) then Err StackDeep else Ok (record { now = s.now; saved = s.now ∷ s.saved })
+
+-- all eight registers become those that were saved last, which are saved no longer; nothing is rounded
+abbrev pub restoring : List Registers → Result State PenFault
+restoring [] = Err StackEmpty
+restoring (r ∷ saved) = Ok (record { now = r; saved = saved })
+
 -- the state after a flat command, or why there is none
 abbrev pub after : Fraction → State → FlatCommand → Result State PenFault
 after c s Skip = Ok s
@@ -106,6 +122,8 @@ after c s (Y p space) = down_by c s (record s.now { y = p }) p space
 after c s (Z p space) = down_by c s (record s.now { z = p }) p space
 after c s (Y0 space) = down_by c s s.now s.now.y space
 after c s (Z0 space) = down_by c s s.now s.now.z space
+after c s Push = saving s
+after c s Pop = restoring s.saved
 
 -- one state may come after another, by a flat command
 abbrev pub Step : Fraction → State → FlatCommand → State → Type 0
@@ -131,6 +149,8 @@ seen_flat (code.W0 space) = W0 space
 seen_flat (code.X0 space) = X0 space
 seen_flat (code.Y0 space) = Y0 space
 seen_flat (code.Z0 space) = Z0 space
+seen_flat code.Push = Push
+seen_flat code.Pop = Pop
 
 -- ---- a law: hh is never farther than 2 from h converted, nor vv from v
 
@@ -149,6 +169,6 @@ pub record KeepsNear (c : Fraction) (s : State) : Type 0 where
 abbrev pub StepsKeepNear : Type 0
 StepsKeepNear = (c : Fraction) (s t : State) (f : FlatCommand) → KeepsNear c s → Step c s f t → KeepsNear c t
 
--- so it holds in every state that a page reaches, whatever its commands and their spaces
+-- so it holds in every state that a page reaches, whatever its commands and their spaces, and however they save and restore
 abbrev pub PagesKeepNear : Type 0
 PagesKeepNear = (c : Fraction) (flats : List FlatCommand) (t : State) → Leads c at_origin flats t → KeepsNear c t

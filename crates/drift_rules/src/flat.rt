@@ -28,6 +28,10 @@ pub enum Flat {
     Y0 { space: i64 },
     /// Down by z.
     Z0 { space: i64 },
+    /// All eight registers are saved, and stay as they are.
+    Push,
+    /// All eight registers become those that were saved last, which are saved no longer. Nothing is rounded.
+    Pop,
 }
 
 /// What a step marks, in dots, columns from the left and rows from the top.

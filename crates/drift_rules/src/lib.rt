@@ -3,7 +3,8 @@
 //! A page's commands move two places at once: (h, v) in DVI units, which is exact, and (hh, vv) in dots. The place in dots
 //! grows by rounded motions, so that equal words look equal, but it is never farther than two dots from where the exact
 //! place would be rounded to, and after a wide space it is rounded anew. `Pen` is that machine: it takes one flat command at
-//! a time (a page's commands with every virtual character expanded) and answers with the mark that the command makes.
+//! a time (a page's commands with every virtual character expanded) and answers with the mark that the command makes. A push
+//! saves both places, and its pop gives both back as they were: the place in dots isn't rounded anew there.
 //!
 //! The rules are those of Knuth's DVItype, "Translation to symbolic form".
 #![tactic(auto)]
@@ -15,6 +16,7 @@ mod marks;
 mod motions;
 pub mod pen;
 pub mod rows;
+mod saved;
 
 pub use faults::{PenFault, PenStop};
 pub use flat::{Flat, Mark, Registers};

@@ -4,6 +4,7 @@ ghost use Rattle.std.specs.Prelude.{◌≡◌, ◌≤◌, ◌^◌, ◌+ℤ◌, u
 ghost use Rattle.pixel_round.specs.Pixels.{round};
 ghost use Rattle.drift_rules.specs.declared.faults.PenFault.{PenFault};
 ghost use Rattle.drift_rules.specs.Position.{State, after, at_h, at_v, drifted, is_held, is_word_space, is_line_space, moved_right, moved_down, moved_over, seen_flat};
+ghost use Rattle.drift_rules.specs.Stack.{is_pop, is_push};
 ghost use Rattle.drift_rules.specs.Bounds.{AreHeld, IsInReach, IsNumber, IsSpace};
 
 use crate::faults::PenFault;
@@ -20,6 +21,8 @@ const MAX_DRIFT: i64 = 2;
 pub(crate) fn moved(conv: &Conv, now: Registers, flat: &Flat) -> Result<Registers, PenFault>
     requires held { AreHeld conv.now now }
     requires reach { IsInReach (seen_flat flat.now) }
+    requires no_push { is_push (seen_flat flat.now) ≡ false }
+    requires no_pop { is_pop (seen_flat flat.now) ≡ false }
     ensures after { IfOk result (λ r. (saved : List Registers) → after conv.now (record { now = now; saved = saved }) (seen_flat flat.now)
         ≡ Ok (record { now = r; saved = saved })) }
     ensures overflow { IfErr result (λ e. (e ≡ PenFault.Overflow)
@@ -44,6 +47,7 @@ pub(crate) fn moved(conv: &Conv, now: Registers, flat: &Flat) -> Result<Register
         Flat::X0 { space } => right(conv, now, now.x, *space),
         Flat::Y0 { space } => down(conv, now, now.y, *space),
         Flat::Z0 { space } => down(conv, now, now.z, *space),
+        Flat::Push | Flat::Pop => unreachable!(),
     }
 }
 

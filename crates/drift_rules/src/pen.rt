@@ -1,40 +1,44 @@
 //! The machine that takes a page's flat commands.
 
-ghost use Rattle.std.specs.Prelude.{◌≡◌, ◌↔◌, Ok, Err, IfOk, IfErr, IfSome, OnErr};
+ghost use Rattle.std.specs.Prelude.{◌≡◌, ◌↔◌, [], IsOk, Ok, Err, IfOk, IfErr, IfSome, OnErr, false};
 ghost use Rattle.drift_rules.specs.declared.faults.PenFault.{PenFault};
-ghost use Rattle.drift_rules.specs.Position.{after, at_origin, seen_flat, KeepsNear};
+ghost use Rattle.drift_rules.specs.Position.{after, at_origin, seen_flat, KeepsNear, Push, Pop};
+ghost use Rattle.drift_rules.specs.Stack.{is_pop, is_push};
 ghost use Rattle.drift_rules.specs.Marks.{mark_of};
 ghost use Rattle.drift_rules.specs.Bounds.{AreHeld, IsInReach, IsPaintable};
+ghost use Rattle.drift_rules.specs.Stops.{Stops};
 
-use crate::faults::PenStop;
+use crate::faults::{PenFault, PenStop};
 use crate::flat::{Flat, Mark, Registers};
 use crate::marks::mark_at;
 use crate::motions::moved;
+use crate::saved::Saved;
 use pixel_round::Conv;
+use std::alloc::Global;
 use std::marker::Model;
 
-/// The registers of a page, with the conversion of its document.
+/// The registers of a page and those that it saved, with the conversion of its document.
 #[derive(Debug, Drop)]
 pub struct Pen {
     conv: Conv,
     registers: Registers,
+    saved: Saved,
 }
 
 impl Model for Pen {
-    ghost use Rattle.std.specs.Prelude.{[]};
     ghost use Rattle.drift_rules.specs.Position.{PenView};
-    ghost use Rattle.drift_rules.specs.Bounds.{AreHeld};
+    ghost use Rattle.drift_rules.specs.Bounds.{IsHeldState};
 
     ghost Value = { PenView };
 
-    ghost view = { λ p. record { conv = p.conv; state = record { now = p.registers; saved = [] } } };
+    ghost view = { λ p. record { conv = p.conv; state = record { now = p.registers; saved = p.saved } } };
 
-    ghost invariant = { λ p. AreHeld p.conv p.registers };
+    ghost invariant = { λ p. IsHeldState p.conv (record { now = p.registers; saved = p.saved }) };
 }
 
 impl Pen {
-    /// A pen at the upper left corner of a page, with all registers 0.
-    pub fn new(conv: Conv) -> Pen
+    /// A pen at the upper left corner of a page, with all registers 0 and none saved. It takes no memory before the first push.
+    pub fn new(alloc: Global, conv: Conv) -> Pen
         ensures { result ≡ record { conv = conv; state = at_origin } }
     {
         Pen {
@@ -49,14 +53,16 @@ impl Pen {
                 hh: 0,
                 vv: 0,
             },
+            saved: Saved::new(alloc),
         }
     }
 
     /// Takes one command, and answers with the mark that it makes at the place before it, if it makes one.
     ///
     /// The command's lengths and motions are numbers of four bytes, and a space is from 0 to 2^27. `Overflow` is answered exactly
-    /// where h or v would leave -2147483647..2147483647, and the pen is then as it was. No command that there is can meet
-    /// another fault, nor take memory.
+    /// where h or v would leave -2147483647..2147483647, `StackDeep` exactly at a push where 1000 sets of registers are saved,
+    /// and `StackEmpty` exactly at a pop where none is saved. `NoMemory` comes only at a push that has no fault. After each of
+    /// them the pen is as it was.
     ///
     /// Knuth, DVItype, "Translation to symbolic form".
     pub fn step(&mut self, flat: &Flat) -> Result<Option<Mark>, PenStop>
@@ -68,22 +74,89 @@ impl Pen {
         ensures paintable { IfOk result (λ mark. IfSome mark IsPaintable) }
         ensures same_conversion { self.new.conv ≡ self.old.conv }
 
-        // The only stop is an overflow, and it changes nothing.
-        ensures overflow { (result ≡ Err (PenStop.Fault PenFault.Overflow))
-            ↔ (after self.old.conv self.old.state (seen_flat flat.now) ≡ Err PenFault.Overflow) }
-        ensures only_overflow { IfErr result (λ stop. stop ≡ PenStop.Fault PenFault.Overflow) }
+        // A fault is the one that the rules name, and only a push may want memory. No stop changes anything.
+        ensures fault { (fault : PenFault) → (result ≡ Err (PenStop.Fault fault))
+            ↔ (after self.old.conv self.old.state (seen_flat flat.now) ≡ Err fault) }
+        ensures memory { result ≡ Err PenStop.NoMemory → seen_flat flat.now ≡ Push }
         ensures unchanged { OnErr result (self.new ≡ self.old) }
 
-        // The place in dots stays within two of the rounded one.
+        // The place in dots stays within two of the rounded one, here and in the saved registers.
         ensures near { KeepsNear self.new.conv self.new.state }
     {
         let mark = mark_at(&self.conv, self.registers, flat);
+        self.change(flat)?;
+        Ok(mark)
+    }
+
+    // The same without the mark.
+    fn change(&mut self, flat: &Flat) -> Result<(), PenStop>
+        requires { IsInReach (seen_flat flat.now) }
+        ensures moved { IfOk result (λ _. after self.old.conv self.old.state (seen_flat flat.now) ≡ Ok self.new.state) }
+        ensures same_conversion { self.new.conv ≡ self.old.conv }
+        ensures stop { IfErr result (Stops (after self.old.conv self.old.state (seen_flat flat.now)) (seen_flat flat.now)) }
+        ensures unchanged { OnErr result (self.new ≡ self.old) }
+    {
+        match flat {
+            Flat::Push => self.push(),
+            Flat::Pop => self.pop(),
+            _ => self.advance(flat),
+        }
+    }
+
+    // Saves the registers.
+    fn push(&mut self) -> Result<(), PenStop>
+        ensures moved { IfOk result (λ _. after self.old.conv self.old.state Push ≡ Ok self.new.state) }
+        ensures same_conversion { self.new.conv ≡ self.old.conv }
+        ensures stop { IfErr result (Stops (after self.old.conv self.old.state Push) Push) }
+        ensures unchanged { OnErr result (self.new ≡ self.old) }
+    {
+        self.saved.push(self.registers)
+    }
+
+    // Restores the registers that were saved last.
+    fn pop(&mut self) -> Result<(), PenStop>
+        ensures moved { IfOk result (λ _. after self.old.conv self.old.state Pop ≡ Ok self.new.state) }
+        ensures same_conversion { self.new.conv ≡ self.old.conv }
+        ensures stop { IfErr result (Stops (after self.old.conv self.old.state Pop) Pop) }
+        ensures unchanged { OnErr result (self.new ≡ self.old) }
+    {
+        match self.saved.pop() {
+            Some(saved) => {
+                self.registers = saved;
+                Ok(())
+            }
+            None => Err(PenStop::Fault(PenFault::StackEmpty)),
+        }
+    }
+
+    // Any other command moves the registers alone.
+    fn advance(&mut self, flat: &Flat) -> Result<(), PenStop>
+        requires reach { IsInReach (seen_flat flat.now) }
+        requires no_push { is_push (seen_flat flat.now) ≡ false }
+        requires no_pop { is_pop (seen_flat flat.now) ≡ false }
+        ensures moved { IfOk result (λ _. after self.old.conv self.old.state (seen_flat flat.now) ≡ Ok self.new.state) }
+        ensures same_conversion { self.new.conv ≡ self.old.conv }
+        ensures stop { IfErr result (Stops (after self.old.conv self.old.state (seen_flat flat.now)) (seen_flat flat.now)) }
+        ensures unchanged { OnErr result (self.new ≡ self.old) }
+    {
         match moved(&self.conv, self.registers, flat) {
             Ok(registers) => {
                 self.registers = registers;
-                Ok(mark)
+                Ok(())
             }
             Err(fault) => Err(PenStop::Fault(fault)),
+        }
+    }
+
+    /// Judges the page's end: `StackLeft` exactly where registers are saved.
+    pub fn finish(&self) -> Result<(), PenFault>
+        ensures good { IsOk result ↔ (self.now.state.saved ≡ []) }
+        ensures left { IfErr result (λ fault. fault ≡ PenFault.StackLeft) }
+    {
+        if self.saved.is_empty() {
+            Ok(())
+        } else {
+            Err(PenFault::StackLeft)
         }
     }
 
@@ -96,5 +169,7 @@ impl Pen {
     }
 }
 
+#[cfg(test)]
+mod stack_tests;
 #[cfg(test)]
 mod tests;

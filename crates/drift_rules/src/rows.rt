@@ -1,8 +1,9 @@
-//! Worked motions at one half of a dot for a unit and a space of 2, by computation.
+//! Worked motions, pushes and pops at one half of a dot for a unit and a space of 2, by computation.
 
-ghost use Rattle.std.specs.Prelude.{◌≡◌, pos, negsuc, Ok};
-ghost use Rattle.drift_rules.specs.Position.{after, Right, Down};
-ghost use Rattle.drift_rules.specs.Rows.{half, at, at_v_2, at_h_2, row};
+ghost use Rattle.std.specs.Prelude.{◌≡◌, pos, negsuc, Ok, Err, [], ◌∷◌};
+ghost use Rattle.drift_rules.specs.declared.faults.PenFault.{PenFault};
+ghost use Rattle.drift_rules.specs.Position.{after, at_origin, zeros, Right, Down, Push, Pop};
+ghost use Rattle.drift_rules.specs.Rows.{half, at, at_v_2, at_h_2, drifted_place, row, with_saved};
 
 /// From h = 2 and hh = 2: a word space and a long way back are rounded anew, a small motion drifts.
 pub fn across()
@@ -17,4 +18,11 @@ pub fn down()
     ensures down_10 { after half at_v_2 (Down (pos 10) (pos 2)) ≡ Ok (at (pos 0) (pos 12) (pos 0) (pos 6)) }
     ensures down_9 { after half at_v_2 (Down (pos 9) (pos 2)) ≡ Ok (at (pos 0) (pos 11) (pos 0) (pos 7)) }
     ensures up_10 { after half at_v_2 (Down (negsuc 9) (pos 2)) ≡ Ok (at (pos 0) (negsuc 7) (pos 0) (negsuc 3)) }
+{}
+
+/// A push saves a place that has drifted, and a pop gives it back with its drift; where none is saved it has no state behind it.
+pub fn stack()
+    ensures saved { after half (with_saved drifted_place []) Push ≡ Ok (with_saved drifted_place (drifted_place ∷ [])) }
+    ensures restored { after half (with_saved zeros (drifted_place ∷ zeros ∷ [])) Pop ≡ Ok (with_saved drifted_place (zeros ∷ [])) }
+    ensures empty { after half at_origin Pop ≡ Err PenFault.StackEmpty }
 {}

@@ -2,13 +2,16 @@
 use Rattle.std.proofs.Common.{◌≡◌, ℕ, zero, suc, ◌+◌, ◌-◌, ◌<◌, ◌≤◌, List, [], ◌∷◌, ◌++◌, length, take, drop, refl, sym, ap, subst, ◌∙◌, arith, length-drop, length-take, length-append, Some, None, drop-drop}
 use Rattle.std.specs.Prelude.{slice_range}
 use Rattle.std.proofs.lemmas.List.{take_at, drop_at, take-append-drop}
-use Rattle.dvi_commands.specs.Spelling.{DviCommand, Spells, size_of, refusal}
+use Rattle.dvi_commands.specs.Spelling.{DviCommand, Spells}
+use Rattle.dvi_commands.specs.Refusal.{size_of, refusal}
 use Rattle.dvi_commands.specs.Reading.{Placed, placed, command_of, placed_in, placed_from, commands_in, commands_of, AreCommands, Reads, PlacedFirst, CommandsFirst}
+use Rattle.dvi_commands.specs.ShortestSpelling.{shortest_spelling}
+use Rattle.dvi_commands.specs.SpellingLaws.{WrittenIsReadBack}
 use Rattle.dvi_commands.specs.declared.command.Context.{Context}
 use Rattle.dvi_commands.specs.declared.command.CommandFault.{CommandFault}
 use Rattle.dvi_commands.proofs.Prefix.{size-spelling, no_spelling_begins_another}
 use Rattle.dvi_commands.proofs.Refusals.{spelled_is_not_refused, spelled_some}
-use Rattle.dvi_commands.proofs.Told.{told_by_bytes}
+use Rattle.dvi_commands.proofs.Told.{spelling_tells_the_command, told_by_bytes}
 
 abbrev front_placed : ℕ → List ℕ → ℕ → Placed
 front_placed at bytes size = placed at (command_of (take size bytes)) (take size bytes)
@@ -106,7 +109,7 @@ reads_on place bytes at end c h spelled reads = reads_behind place reads.command
 
 not_refused : (place : Context) (commands : List DviCommand) (bytes : List ℕ) → 0 < length bytes → AreCommands place commands bytes → refusal place bytes ≡ None
 not_refused place [] bytes some are = absurd (omega (arith, ap length are))
-not_refused place (d ∷ commands) bytes some are = ap (refusal place) are.2.whole ∙ spelled_is_not_refused place d are.0 are.1 are.2.spelled are.2.allowed are.2.supported
+not_refused place (d ∷ commands) bytes some are = ap (refusal place) are.2.whole ∙ spelled_is_not_refused place d are.0 are.1 are.2.spelled are.2.allowed
 
 pub never_refused : (place : Context) (bytes : List ℕ) (f : CommandFault) → 0 < length bytes → Reads place bytes → refusal place bytes ≡ Some f → ⊥
 never_refused place bytes f some reads e = let none = not_refused place reads.commands bytes some reads.are in cc
@@ -121,3 +124,13 @@ placed_on bytes at end start c h inside spelled =
 
 pub commands_on : (bytes : List ℕ) (at end : ℕ) (c : DviCommand) → at < end → Spells c (slice_range bytes at end) → commands_of (drop at bytes) ≡ c ∷ commands_of (drop end bytes)
 commands_on bytes at end c h spelled = ap commands_of (parted bytes at end h) ∙ commands_first c (slice_range bytes at end) (drop end bytes) spelled
+
+-- ---- writing and reading
+
+pub written_is_read_back : WrittenIsReadBack
+written_is_read_back place c rest spelled allowed = (
+  record { whole = refl; spelled = spelled; allowed = allowed },
+  λ d front more begins.
+      let same = no_spelling_begins_another d c front (shortest_spelling c) more rest begins.spelled spelled (sym begins.whole) in
+      (spelling_tells_the_command d c (shortest_spelling c) (subst (Spells d) same.0 begins.spelled) spelled, same.0),
+)

@@ -3,5 +3,9 @@ pub mod Told
 pub mod Refusals
 pub mod Shortest
 pub mod Commands
+pub mod Opcodes
 pub mod Motions
+pub mod Numbered
+pub mod Texts
 pub mod OneCommand
+pub mod Written

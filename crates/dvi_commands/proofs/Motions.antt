@@ -1,36 +1,15 @@
 -- A command from its opcode, its fields and its text: that these bytes spell it.
-use Rattle.std.proofs.Common.{◌≡◌, ℕ, suc, ◌+◌, ◌-◌, ◌*◌, ◌^◌, ◌<◌, ◌≤◌, ℤ, pos, negsuc, true, false, List, [], ◌∷◌, ◌++◌, length, take, drop, map, refl, sym, ap, subst, ◌∙◌, arith, append_assoc, drop-drop, drop-cons, length-drop, length-take, w32, to_z, of_z}
-use Rattle.std.specs.Prelude.{◌==◌, slice_index}
+use Rattle.std.proofs.Common.{◌≡◌, ℕ, ◌+◌, ◌-◌, ◌*◌, ◌^◌, ◌<◌, ◌≤◌, ℤ, pos, negsuc, List, [], ◌∷◌, ◌++◌, length, take, drop, map, refl, sym, ap, subst, ◌∙◌, arith, append_assoc, drop-drop, drop-cons, length-drop, length-take, w32, to_z, of_z}
+use Rattle.std.specs.Prelude.{slice_index}
 use Rattle.std.specs.List.{flat_map, AllByRecursion}
-use Rattle.std.specs.Int.{is_in_range}
-use Rattle.std.proofs.lemmas.Bool.{agree_below, agree_below_at, eqb-true, ne_eqb}
 use Rattle.std.proofs.lemmas.Int.{ints}
 use Rattle.std.proofs.lemmas.List.{take-append-drop, append-nil}
 use Rattle.big_endian.specs.Numbers.{number_bytes, IsSigned}
-use Rattle.dvi_commands.specs.Spelling.{Spells, Bop, Pre, Post, PostPost, IsMotion, fixed_size, text_size, quad, with_number}
+use Rattle.dvi_commands.proofs.Opcodes.{IsRow, no_text, row_size}
+use Rattle.dvi_commands.specs.Spelling.{Spells, Bop, Pre, Post, PostPost, IsMotion, quad, with_number}
+use Rattle.dvi_commands.specs.Refusal.{fixed_size, text_size}
 
 -- ---- the fields of a row of motions
-
--- the opcodes of a row of motions stand behind this one
-abbrev pub IsRow : ℕ → Type 0
-IsRow before = agree_below (λ k. fixed_size (before + suc k) == suc k) (λ _. true) 4 ≡ true
-
-row_size : (before op : ℕ) → IsRow before → before < op → op ≤ before + 4 → fixed_size op ≡ op - before
-row_size before op row low high =
-    let k = op - before - 1 in
-    let place : before + suc k ≡ op = omega arith in
-    let size : fixed_size (before + suc k) ≡ suc k = eqb-true _ _ (agree_below_at (λ k. fixed_size (before + suc k) == suc k) (λ _. true) 4 k row (omega arith)) in
-    let width : suc k ≡ op - before = omega arith in
-    ap fixed_size (sym place) ∙ size ∙ width
-
-no_text : (op : ℕ) (fields text : List ℕ) → op < 239 → length text ≡ text_size op fields → text ≡ []
-no_text op fields [] h e = refl
-no_text op fields (b ∷ text) h e =
-    let special : is_in_range 239 242 op ≡ false = grind arith in
-    let define : is_in_range 243 246 op ≡ false = grind arith in
-    let preamble : (op == 247) ≡ false = ne_eqb op 247 (λ same. omega (arith, same, h)) in
-    let none : text_size op fields ≡ 0 = rw (special, define, preamble) refl in
-    absurd (omega (arith, e, none))
 
 -- a motion of a row, read from all bytes of the fields
 pub motion : (before op : ℕ) (fields text : List ℕ) (z w : ℤ) → IsRow before → before + 4 < 239 → before < op → op ≤ before + 4 → length fields ≡ fixed_size op → length text ≡ text_size op fields
@@ -79,11 +58,11 @@ all_stored : (zs : List ℤ) → AllByRecursion (IsSigned 4) zs → map stored z
 all_stored [] h = refl
 all_stored (z ∷ zs) h = ap (λ y. y ∷ map stored zs) (stored_is z h.0) ∙ ap (λ ys. z ∷ ys) (all_stored zs h.1)
 
-nothing : (bytes : List ℕ) → length bytes ≡ 0 → bytes ≡ []
+pub nothing : (bytes : List ℕ) → length bytes ≡ 0 → bytes ≡ []
 nothing [] h = refl
 nothing (b ∷ bytes) h = absurd (omega (arith, h))
 
-ends : (n : ℕ) (fields : List ℕ) → length fields ≡ n → drop n fields ≡ []
+pub ends : (n : ℕ) (fields : List ℕ) → length fields ≡ n → drop n fields ≡ []
 ends n fields h = nothing (drop n fields) (omega (arith, length-drop n fields, h))
 
 -- fields that are quads alone

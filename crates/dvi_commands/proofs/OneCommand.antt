@@ -1,17 +1,18 @@
 -- One command at a place of bytes: why it is refused, and what it is where it isn't.
 use Rattle.std.proofs.Common.{◌≡◌, ℕ, suc, ◌+◌, ◌-◌, ◌<◌, ◌≤◌, Bool, true, false, List, ◌∷◌, ◌++◌, length, take, drop, refl, sym, ap, subst, ◌∙◌, arith, add-one, drop-cons, length-drop, length-take, Some}
-use Rattle.std.specs.Prelude.{◌==◌, ◌&&◌, slice_index, slice_range, if◌then◌else◌}
+use Rattle.std.specs.Prelude.{◌==◌, slice_index, slice_range, IsTrue}
 use Rattle.std.specs.Int.{is_in_range}
-use Rattle.std.proofs.lemmas.Bool.{agree_below, agree_below_at, le-ltb, lt-ltb, eqb-true}
-use Rattle.std.proofs.lemmas.List.{get_or-take, take_all}
+use Rattle.std.proofs.lemmas.Bool.{le-ltb, lt-ltb, ne_eqb}
+use Rattle.std.proofs.lemmas.List.{get_or-take, take_all, take-take}
 use Rattle.std.proofs.Math.Seq.{take-add}
-use Rattle.dvi_commands.specs.Supported.{is_read}
-use Rattle.dvi_commands.specs.Spelling.{DviCommand, Spells, fixed_size, may_stand, refusal, text_size}
+use Rattle.dvi_commands.specs.Spelling.{DviCommand, Spells}
+use Rattle.dvi_commands.specs.Refusal.{fixed_size, may_stand, refusal, tells_negative_length, text_size}
 use Rattle.dvi_commands.specs.Reading.{Begins}
 use Rattle.dvi_commands.specs.declared.command.Context.{Context}
 use Rattle.dvi_commands.specs.declared.command.CommandFault.{CommandFault}
-use Rattle.dvi_commands.specs.declared.command.CommandFault.TheVariants.{Misplaced, NotYet, Short}
-use Rattle.dvi_commands.proofs.Prefix.{no_spelling_begins_another}
+use Rattle.dvi_commands.specs.declared.command.CommandFault.TheVariants.{Misplaced, NegativeLength, Short}
+use Rattle.dvi_commands.proofs.Opcodes.{by_kind}
+use Rattle.dvi_commands.proofs.Prefix.{by_width, no_spelling_begins_another}
 use Rattle.dvi_commands.proofs.Refusals.{spelled_is_not_refused}
 use Rattle.dvi_commands.proofs.Told.{spelling_tells_the_command}
 use Rattle.dvi_commands.proofs.Commands.{parted}
@@ -25,53 +26,73 @@ behind_place bytes i = take_all (length bytes - i) (drop i bytes) (omega (arith,
 
 -- ---- refusals
 
+pub not_true : (b : Bool) → (IsTrue b → true ≡ false) → b ≡ false
+not_true true h = h refl
+not_true false h = refl
+
 pub misplaced : (place : Context) (bytes : List ℕ) (at : ℕ) → at < length bytes → slice_index bytes at ≤ 249 → may_stand place (slice_index bytes at) ≡ false
     → refusal place (drop at bytes) ≡ Some (Misplaced (slice_index bytes at))
 misplaced place bytes at h low refused = ap (refusal place) (front_of bytes at h) ∙ rw (le-ltb 249 (slice_index bytes at) low, refused) refl
 
-pub not_yet : (place : Context) (bytes : List ℕ) (at : ℕ) → at < length bytes → slice_index bytes at ≤ 249 → may_stand place (slice_index bytes at) ≡ true
-    → is_read (slice_index bytes at) ≡ false → refusal place (drop at bytes) ≡ Some (NotYet (slice_index bytes at))
-not_yet place bytes at h low allowed refused = ap (refusal place) (front_of bytes at h) ∙ rw (le-ltb 249 (slice_index bytes at) low, allowed, refused) refl
-
 pub cut_fields : (place : Context) (bytes : List ℕ) (at : ℕ) → at < length bytes → slice_index bytes at ≤ 249 → may_stand place (slice_index bytes at) ≡ true
-    → is_read (slice_index bytes at) ≡ true → length (drop (at + 1) bytes) < fixed_size (slice_index bytes at) → refusal place (drop at bytes) ≡ Some Short
-cut_fields place bytes at h low allowed supported cut =
+    → length (drop (at + 1) bytes) < fixed_size (slice_index bytes at) → refusal place (drop at bytes) ≡ Some Short
+cut_fields place bytes at h low allowed cut =
     ap (refusal place) (front_of bytes at h)
-    ∙ rw (le-ltb 249 (slice_index bytes at) low, allowed, supported, lt-ltb (length (drop (at + 1) bytes)) (fixed_size (slice_index bytes at)) cut) refl
+    ∙ rw (le-ltb 249 (slice_index bytes at) low, allowed, lt-ltb (length (drop (at + 1) bytes)) (fixed_size (slice_index bytes at)) cut) refl
 
--- what holds of no opcode that is read today
-not_supported : (f : ℕ → Bool) (op : ℕ) → agree_below (λ k. is_read k && f k) (λ _. false) 250 ≡ true → op ≤ 249 → is_read op ≡ true → f op ≡ false
-not_supported f op computed low supported =
-    let both : (is_read op && f op) ≡ false = agree_below_at (λ k. is_read k && f k) (λ _. false) 250 op computed (omega arith) in
-    ap (λ b. b && f op) (sym supported) ∙ both
+-- ---- the fields tell the length of the text, whatever stands behind them
 
--- the fields tell the length of the text, whatever stands behind them
-preamble_text : (op : ℕ) (behind : List ℕ) (b : Bool) → (op == 247) ≡ b
-    → (if op == 247 then slice_index (take (fixed_size op) behind) 13 else 0) ≡ (if op == 247 then slice_index behind 13 else 0)
-preamble_text op behind false e = rw e refl
-preamble_text op behind true e =
-    let P : ℕ → Type 0 = λ k. (if k == 247 then slice_index (take (fixed_size k) behind) 13 else 0) ≡ (if k == 247 then slice_index behind 13 else 0) in
-    let same : 247 ≡ op = sym (eqb-true op 247 e) in
-    subst P same (get_or-take 14 behind 13 0 (omega arith))
+abbrev Told : List ℕ → ℕ → Type 0
+Told behind op = (text_size op (take (fixed_size op) behind) ≡ text_size op behind) × (tells_negative_length op (take (fixed_size op) behind) ≡ tells_negative_length op behind)
 
-text_told : (op : ℕ) (behind : List ℕ) → op ≤ 249 → is_read op ≡ true → text_size op (take (fixed_size op) behind) ≡ text_size op behind
-text_told op behind low supported =
-    let special = not_supported (is_in_range 239 242) op refl low supported in
-    let define = not_supported (is_in_range 243 246) op refl low supported in
-    rw (special, define) (preamble_text op behind (op == 247) refl)
+plain_told : (behind : List ℕ) (op : ℕ) → op < 239 → Told behind op
+plain_told behind op low =
+    let special : is_in_range 239 242 op ≡ false = grind arith in
+    let define : is_in_range 243 246 op ≡ false = grind arith in
+    let preamble : (op == 247) ≡ false = ne_eqb op 247 (λ same. omega (arith, same, low)) in
+    let four : (op == 242) ≡ false = ne_eqb op 242 (λ same. omega (arith, same, low)) in
+    (rw (special, define, preamble) refl, rw four refl)
 
-pub cut_text : (place : Context) (bytes : List ℕ) (at size : ℕ) (fields : List ℕ) → at < length bytes → slice_index bytes at ≤ 249 → may_stand place (slice_index bytes at) ≡ true
-    → is_read (slice_index bytes at) ≡ true → size ≡ fixed_size (slice_index bytes at) → size ≤ length (drop (at + 1) bytes) → fields ≡ take size (drop (at + 1) bytes)
-    → length (drop (at + 1) bytes) < size + text_size (slice_index bytes at) fields → refusal place (drop at bytes) ≡ Some Short
-cut_text place bytes at size fields h low allowed supported sized whole front cut =
+again : (n : ℕ) (behind : List ℕ) → take n (take n behind) ≡ take n behind
+again n behind = take-take n n behind (omega arith)
+
+special_told : (behind : List ℕ) (n : ℕ) → 1 ≤ n → n ≤ 4 → Told behind (238 + n)
+special_told behind n low high =
+    by_width (λ n. Told behind (238 + n)) (rw (again 1 behind) refl, refl) (rw (again 2 behind) refl, refl) (rw (again 3 behind) refl, refl) (rw (again 4 behind) refl, rw (again 4 behind) refl) n low high
+
+lengths_told : (n : ℕ) (behind : List ℕ) → slice_index (take (n + 14) behind) (n + 12) + slice_index (take (n + 14) behind) (n + 13) ≡ slice_index behind (n + 12) + slice_index behind (n + 13)
+lengths_told n behind = rw (get_or-take (n + 14) behind (n + 12) 0 (omega arith), get_or-take (n + 14) behind (n + 13) 0 (omega arith)) refl
+
+define_told : (behind : List ℕ) (n : ℕ) → 1 ≤ n → n ≤ 4 → Told behind (242 + n)
+define_told behind n low high =
+    by_width (λ n. Told behind (242 + n)) (lengths_told 1 behind, refl) (lengths_told 2 behind, refl) (lengths_told 3 behind, refl) (lengths_told 4 behind, refl) n low high
+
+told : (op : ℕ) (behind : List ℕ) → op ≤ 249 → Told behind op
+told op behind known = by_kind (Told behind) op (plain_told behind op) (special_told behind) (define_told behind) (get_or-take 14 behind 13 0 (omega arith), refl) (refl, refl) (refl, refl) known
+
+pub negative : (place : Context) (bytes : List ℕ) (at size : ℕ) (fields : List ℕ) → at < length bytes → slice_index bytes at ≤ 249 → may_stand place (slice_index bytes at) ≡ true
+    → size ≡ fixed_size (slice_index bytes at) → size ≤ length (drop (at + 1) bytes) → fields ≡ take size (drop (at + 1) bytes)
+    → tells_negative_length (slice_index bytes at) fields ≡ true → refusal place (drop at bytes) ≡ Some NegativeLength
+negative place bytes at size fields h low allowed sized whole front tells =
     let op = slice_index bytes at in
     let behind = drop (at + 1) bytes in
-    let negative = not_supported (λ k. k == 242) op refl low supported in
-    let told : text_size op fields ≡ text_size op behind = ap (text_size op) (front ∙ ap (λ k. take k behind) sized) ∙ text_told op behind low supported in
+    let same : tells_negative_length op behind ≡ true = sym ((told op behind low).1) ∙ sym (ap (tells_negative_length op) (front ∙ ap (λ k. take k behind) sized)) ∙ tells in
     let room : fixed_size op ≤ length behind = omega (arith, sized, whole) in
-    let short : length behind < fixed_size op + text_size op behind = omega (arith, cut, told, sized) in
+    ap (refusal place) (front_of bytes at h) ∙ rw (le-ltb 249 op low, allowed, le-ltb (length behind) (fixed_size op) room, same) refl
+
+pub cut_text : (place : Context) (bytes : List ℕ) (at size : ℕ) (fields : List ℕ) → at < length bytes → slice_index bytes at ≤ 249 → may_stand place (slice_index bytes at) ≡ true
+    → size ≡ fixed_size (slice_index bytes at) → size ≤ length (drop (at + 1) bytes) → fields ≡ take size (drop (at + 1) bytes) → tells_negative_length (slice_index bytes at) fields ≡ false
+    → length (drop (at + 1) bytes) < size + text_size (slice_index bytes at) fields → refusal place (drop at bytes) ≡ Some Short
+cut_text place bytes at size fields h low allowed sized whole front tells cut =
+    let op = slice_index bytes at in
+    let behind = drop (at + 1) bytes in
+    let same_fields : fields ≡ take (fixed_size op) behind = front ∙ ap (λ k. take k behind) sized in
+    let not_negative : tells_negative_length op behind ≡ false = sym ((told op behind low).1) ∙ sym (ap (tells_negative_length op) same_fields) ∙ tells in
+    let same : text_size op fields ≡ text_size op behind = ap (text_size op) same_fields ∙ (told op behind low).0 in
+    let room : fixed_size op ≤ length behind = omega (arith, sized, whole) in
+    let short : length behind < fixed_size op + text_size op behind = omega (arith, cut, same, sized) in
     ap (refusal place) (front_of bytes at h)
-    ∙ rw (le-ltb 249 op low, allowed, supported, le-ltb (length behind) (fixed_size op) room, lt-ltb (length behind) (fixed_size op + text_size op behind) short, negative) refl
+    ∙ rw (le-ltb 249 op low, allowed, le-ltb (length behind) (fixed_size op) room, not_negative, lt-ltb (length behind) (fixed_size op + text_size op behind) short) refl
 
 -- ---- what was read
 
@@ -91,7 +112,7 @@ read_command_is bytes at size len fields behind c h front back spelled =
 -- bytes that are refused begin with no command
 pub refused_begins : (place : Context) (bytes : List ℕ) (fault : CommandFault) (c : DviCommand) (front rest : List ℕ) → refusal place bytes ≡ Some fault → Begins place c front rest bytes → ⊥
 refused_begins place bytes fault c front rest refused begins =
-    let none = ap (refusal place) begins.whole ∙ spelled_is_not_refused place c front rest begins.spelled begins.allowed begins.supported in
+    let none = ap (refusal place) begins.whole ∙ spelled_is_not_refused place c front rest begins.spelled begins.allowed in
     cc
 
 -- what was read is the command with which the bytes begin

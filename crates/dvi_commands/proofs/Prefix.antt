@@ -4,11 +4,12 @@ use Rattle.std.specs.List.{flat_map}
 use Rattle.std.specs.Prelude.{◌==◌, int_lt}
 use Rattle.std.specs.Int.{is_in_range}
 use Rattle.std.proofs.lemmas.Bool.{eqb-true, le-ltb, lt-ltb, agree_below_at}
-use Rattle.std.proofs.lemmas.List.{take_at, drop_at, length-append}
+use Rattle.std.proofs.lemmas.List.{append-nil, take_at, drop_at, length-append}
 use Rattle.std.proofs.lemmas.List.Concat.{flat_map-cons}
 use Rattle.big_endian.specs.Numbers.{number_bytes, unsigned_of, in_twos_complement}
-use Rattle.dvi_commands.specs.Spelling.{DviCommand, Definition, told_length, Set, Put, SetRule, PutRule, Nop, Bop, Eop, Push, Pop, Right, W0, W, X0, X, Down, Y0, Y, Z0, Z, Font, Special, Define, Pre, Post, PostPost, spelling, HasWidth, IsNumber, Spells, size_of, fixed_size, text_size, quad}
-use Rattle.dvi_commands.specs.SpellingLaws.{NoSpellingBeginsAnother}
+use Rattle.dvi_commands.specs.Spelling.{DviCommand, Definition, Set, Put, SetRule, PutRule, Nop, Bop, Eop, Push, Pop, Right, W0, W, X0, X, Down, Y0, Y, Z0, Z, Font, Special, Define, Pre, Post, PostPost, spelling, HasWidth, IsNumber, Spells, quad}
+use Rattle.dvi_commands.specs.Refusal.{told_length, size_of, fixed_size, text_size}
+use Rattle.dvi_commands.specs.SpellingLaws.{NoSpellingBeginsAnother, NoSpellingIsAProperPrefix}
 
 pub by_width : (P : ℕ → Type 0) → P 1 → P 2 → P 3 → P 4 → (n : ℕ) → 1 ≤ n → n ≤ 4 → P n
 by_width P p1 p2 p3 p4 zero low high = absurd (omega arith)
@@ -56,7 +57,7 @@ bop_sized : (counts : List ℤ) (back : ℤ) (t : List ℕ) (n : ℕ) → length
 bop_sized counts back t n h = omega (arith, length-append (flat_map quad counts) (quad back), length-quads counts, h)
 
 -- the length that a special's field tells is that of its text
-told_text : (op len : ℕ) (fields : List ℕ) → is_in_range 239 242 op ≡ true → told_length op fields ≡ pos len → text_size op fields ≡ len
+pub told_text : (op len : ℕ) (fields : List ℕ) → is_in_range 239 242 op ≡ true → told_length op fields ≡ pos len → text_size op fields ≡ len
 told_text op len fields e told =
     let low : int_lt (pos len) (pos 0) ≡ false = le-ltb len 0 (omega arith) in
     rw (e, told, low) refl
@@ -145,3 +146,8 @@ no_spelling_begins_another c d a b x y ha hb same =
       sym (take_at a x (length a) refl) ∙ ap (take (length a)) same ∙ take_at b y (length a) (sym len),
       sym (drop_at a x (length a) refl) ∙ ap (drop (length a)) same ∙ drop_at b y (length a) (sym len),
     )
+
+pub no_spelling_is_a_proper_prefix : NoSpellingIsAProperPrefix
+no_spelling_is_a_proper_prefix c d a b ha hb prefix =
+    let same = no_spelling_begins_another c d a b prefix.0 [] ha hb (prefix.2 ∙ sym (append-nil b)) in
+    absurd (omega (arith, prefix.1, ap length same.1))

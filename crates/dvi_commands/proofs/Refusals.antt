@@ -1,11 +1,11 @@
 -- What spells a command is not refused where the command may stand.
 use Rattle.std.proofs.Common.{◌≡◌, ℕ, zero, suc, ◌+◌, ◌*◌, ◌^◌, ◌<◌, ◌≤◌, ℤ, pos, negsuc, false, List, [], ◌∷◌, ◌++◌, length, refl, sym, ap, subst, ◌∙◌, arith, inl, inr}
-use Rattle.std.specs.Prelude.{◌==◌, ◌&&◌, int_lt, nat_lt, slice_index, None, IsTrue}
+use Rattle.std.specs.Prelude.{◌==◌, int_lt, nat_lt, slice_index, None, IsTrue}
 use Rattle.std.proofs.lemmas.Bool.{le-ltb, ne_eqb}
 use Rattle.std.proofs.lemmas.List.{length-append}
 use Rattle.big_endian.specs.Numbers.{number_bytes, in_twos_complement}
-use Rattle.dvi_commands.specs.Spelling.{DviCommand, Set, Put, SetRule, PutRule, Nop, Bop, Eop, Push, Pop, Right, W0, W, X0, X, Down, Y0, Y, Z0, Z, Font, Special, Define, Pre, Post, PostPost, spelling, HasWidth, IsNumber, size_of, fixed_size, text_size, told_length, may_stand, refusal, Spells}
-use Rattle.dvi_commands.specs.Supported.{is_read}
+use Rattle.dvi_commands.specs.Spelling.{DviCommand, Set, Put, SetRule, PutRule, Nop, Bop, Eop, Push, Pop, Right, W0, W, X0, X, Down, Y0, Y, Z0, Z, Font, Special, Define, Pre, Post, PostPost, spelling, HasWidth, IsNumber, Spells}
+use Rattle.dvi_commands.specs.Refusal.{tells_negative_length, size_of, fixed_size, text_size, told_length, may_stand, refusal}
 use Rattle.dvi_commands.specs.SpellingLaws.{SpelledIsNotRefused}
 use Rattle.dvi_commands.specs.declared.command.Context.{Context}
 use Rattle.dvi_commands.proofs.Prefix.{by_width, wide, size-spelling, four_bytes, signed_four}
@@ -13,7 +13,7 @@ use Rattle.dvi_commands.proofs.Prefix.{by_width, wide, size-spelling, four_bytes
 -- the opcode is one of a command, and if it is that of a special with four bytes of length, the length is not negative
 abbrev Calm : List ℕ → Type 0
 Calm [] = ⊥
-Calm (op ∷ fields) = (nat_lt 249 op ≡ false) × ((op == 242 && int_lt (told_length op fields) (pos 0)) ≡ false)
+Calm (op ∷ fields) = (nat_lt 249 op ≡ false) × (tells_negative_length op fields ≡ false)
 
 small_calm : (m : ℕ) (t : List ℕ) → m < 239 → Calm (m ∷ t)
 small_calm m t h =
@@ -82,10 +82,10 @@ calm (Pre p) n t h = (refl, refl)
 calm (Post p) n t h = (refl, refl)
 calm (PostPost q id) n t h = (refl, refl)
 
-not_refused : (place : Context) (bytes : List ℕ) → Calm bytes → IsTrue (may_stand place (slice_index bytes 0)) → IsTrue (is_read (slice_index bytes 0)) → size_of bytes ≤ length bytes → refusal place bytes ≡ None
-not_refused place [] calm allowed supported fits = elim calm [ ]
-not_refused place (op ∷ fields) calm allowed supported fits =
-    rw (calm.0, allowed, supported, le-ltb (length fields) (fixed_size op) (omega (arith, fits)), calm.1, le-ltb (length fields) (fixed_size op + text_size op fields) (omega (arith, fits))) refl
+not_refused : (place : Context) (bytes : List ℕ) → Calm bytes → IsTrue (may_stand place (slice_index bytes 0)) → size_of bytes ≤ length bytes → refusal place bytes ≡ None
+not_refused place [] calm allowed fits = elim calm [ ]
+not_refused place (op ∷ fields) calm allowed fits =
+    rw (calm.0, allowed, le-ltb (length fields) (fixed_size op) (omega (arith, fits)), calm.1, le-ltb (length fields) (fixed_size op + text_size op fields) (omega (arith, fits))) refl
 
 positive : (bytes : List ℕ) → Calm bytes → 0 < size_of bytes
 positive [] calm = elim calm [ ]
@@ -96,12 +96,12 @@ first_of_spelling [] more calm some = absurd (omega (arith, some))
 first_of_spelling (b ∷ bytes) more calm some = refl
 
 pub spelled_is_not_refused : SpelledIsNotRefused
-spelled_is_not_refused place c bytes more h allowed supported =
+spelled_is_not_refused place c bytes more h allowed =
     let quiet : Calm (bytes ++ more) = subst (λ (s : List ℕ). Calm (s ++ more)) (sym h.2) (calm c h.0 more h.1) in
     let size = size-spelling c bytes more h in
     let some : 0 < length bytes = omega (arith, sym size, positive (bytes ++ more) quiet) in
     let first = first_of_spelling bytes more quiet some in
-    not_refused place (bytes ++ more) quiet (ap (may_stand place) first ∙ allowed) (ap is_read first ∙ supported) (omega (arith, size, length-append bytes more))
+    not_refused place (bytes ++ more) quiet (ap (may_stand place) first ∙ allowed) (omega (arith, size, length-append bytes more))
 
 -- a spelling is not empty
 pub spelled_some : (c : DviCommand) (bytes : List ℕ) → Spells c bytes → 0 < length bytes

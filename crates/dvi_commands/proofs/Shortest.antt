@@ -3,7 +3,8 @@ use Rattle.std.proofs.Common.{◌≡◌, ℕ, zero, suc, ◌+◌, ◌*◌, ◌^�
 use Rattle.std.proofs.lemmas.Bool.{cond_both, ltb-true, ltb-false, leb-true, leb-false}
 use Rattle.std.proofs.lemmas.List.{length-append}
 use Rattle.big_endian.specs.Numbers.{number_bytes}
-use Rattle.dvi_commands.specs.Spelling.{DviCommand, Definition, Set, Put, SetRule, PutRule, Nop, Bop, Eop, Push, Pop, Right, W0, W, X0, X, Down, Y0, Y, Z0, Z, Font, Special, Define, Pre, Post, PostPost, spelling, shortest_spelling, least_width, HasWidth, IsNumber, IsMotion, number_width, motion_width, motion_width_of}
+use Rattle.dvi_commands.specs.Spelling.{DviCommand, Definition, Set, Put, SetRule, PutRule, Nop, Bop, Eop, Push, Pop, Right, W0, W, X0, X, Down, Y0, Y, Z0, Z, Font, Special, Define, Pre, Post, PostPost, spelling, HasWidth, IsNumber, IsMotion}
+use Rattle.dvi_commands.specs.ShortestSpelling.{shortest_spelling, least_width, number_width, motion_width, motion_width_of}
 use Rattle.dvi_commands.specs.SpellingLaws.{ShortestIsLeast}
 use Rattle.dvi_commands.proofs.Prefix.{by_width, wide}
 use Rattle.big_endian.proofs.Bytes.{length-number_bytes}

@@ -1,5 +1,7 @@
-pub mod Supported
 pub mod Spelling
-pub mod SpellingLaws
+pub mod ShortestSpelling
+pub mod Refusal
+pub mod Writing
 pub mod Reading
+pub mod SpellingLaws
 pub mod Rows

@@ -3,8 +3,8 @@
 -- inverse of `spelling`, as the laws say; of bytes that are no commands they say nothing.
 use Rattle.std.specs.Prelude.{◌≡◌, ℕ, zero, suc, ◌+◌, ◌-◌, ◌==◌, ℤ, pos, List, [], ◌∷◌, ◌++◌, length, take, drop, nat_le, if◌then◌else◌, slice_index, IsTrue}
 use Rattle.big_endian.specs.Numbers.{unsigned_of, signed_of}
-use Rattle.dvi_commands.specs.Supported.{is_read}
-use Rattle.dvi_commands.specs.Spelling.{DviCommand, Definition, Set, Put, SetRule, PutRule, Nop, Bop, Eop, Push, Pop, Right, W0, W, X0, X, Down, Y0, Y, Z0, Z, Font, Special, Define, Pre, Post, PostPost, Spells, may_stand, size_of}
+use Rattle.dvi_commands.specs.Spelling.{DviCommand, Definition, Set, Put, SetRule, PutRule, Nop, Bop, Eop, Push, Pop, Right, W0, W, X0, X, Down, Y0, Y, Z0, Z, Font, Special, Define, Pre, Post, PostPost, Spells}
+use Rattle.dvi_commands.specs.Refusal.{may_stand, size_of}
 use Rattle.dvi_commands.specs.declared.command.Context.{Context}
 
 -- ---- the command of a spelling
@@ -94,12 +94,11 @@ commands_of bytes = commands_in (length bytes) bytes
 
 -- ---- bytes that are whole commands
 
--- the bytes begin with a spelling of a command that may stand there and is read today
+-- the bytes begin with a spelling of a command that may stand there
 pub record Begins (place : Context) (c : DviCommand) (front rest bytes : List ℕ) : Type 0 where
   pub whole : bytes ≡ front ++ rest
   pub spelled : Spells c front
   pub allowed : IsTrue (may_stand place (slice_index front 0))
-  pub supported : IsTrue (is_read (slice_index front 0))
 
 -- the bytes are these commands, one after another, each where it may stand
 abbrev pub AreCommands : Context → List DviCommand → List ℕ → Type 0

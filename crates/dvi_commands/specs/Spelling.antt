@@ -1,17 +1,12 @@
 -- The commands of a DVI file and their spellings: Knuth, DVItype, "Device-independent file format".
 -- A command is seen here without where its texts lie in memory. Most commands have several spellings, since a field may be
 -- wider than it has to be: `spelling n` is the one whose number has n bytes, or, at 0, the one without a number.
-use Rattle.std.specs.Prelude.{◌≡◌, ℕ, zero, suc, ◌+◌, ◌-◌, ◌*◌, ◌^◌, ◌<◌, ◌≤◌, ◌⊎◌, ℤ, pos, negsuc, Bool, not, ◌&&◌, ◌||◌, List, [], ◌∷◌, ◌++◌, length, take, nat_lt, nat_le, ◌==◌, if◌then◌else◌, slice_index, int_lt, unsigned_abs, Option, Some, None}
+use Rattle.std.specs.Prelude.{◌≡◌, ℕ, zero, suc, ◌+◌, ◌-◌, ◌^◌, ◌<◌, ◌≤◌, ◌⊎◌, ℤ, pos, negsuc, List, [], ◌∷◌, ◌++◌, length}
 use Rattle.std.specs.List.{flat_map, AllByRecursion}
-use Rattle.std.specs.Int.{is_in_range}
-use Rattle.big_endian.specs.Numbers.{unsigned_of, signed_of, IsUnsigned, IsSigned, number_bytes}
-use Rattle.dvi_commands.specs.Supported.{is_read}
+use Rattle.big_endian.specs.Numbers.{IsUnsigned, IsSigned, number_bytes}
 use Rattle.dvi_commands.specs.declared.command.Command.{Command}
+use Rattle.dvi_commands.specs.declared.command.FontDef.{FontDef}
 use Rattle.dvi_commands.specs.declared.command.Command.TheVariants as lent
-use Rattle.dvi_commands.specs.declared.command.Context.{Context}
-use Rattle.dvi_commands.specs.declared.command.Context.TheVariants as context
-use Rattle.dvi_commands.specs.declared.command.CommandFault.{CommandFault}
-use Rattle.dvi_commands.specs.declared.command.CommandFault.TheVariants.{Short, Undefined, Misplaced, NotYet, NegativeLength}
 
 -- the definition of a font; the name has the area in front
 pub record Definition : Type 0 where
@@ -167,110 +162,10 @@ HasWidth Z0 n = n ≡ 0
 abbrev pub Spells : DviCommand → List ℕ → Type 0
 Spells c bytes = (n : ℕ) × HasWidth c n × (bytes ≡ spelling c n)
 
--- ---- the shortest spelling
-
--- the least number of bytes, from 1 to 4, that holds the number of a character, a font or a special; and that of a motion
-abbrev pub number_width : ℤ → ℕ
-number_width (pos m) = if nat_lt m (256 ^ 1) then 1 else if nat_lt m (256 ^ 2) then 2 else if nat_lt m (256 ^ 3) then 3 else 4
-number_width (negsuc m) = 4
-
--- by the number of which two do not fit: `m` of `pos m` and of `negsuc m`
-abbrev pub motion_width_of : ℕ → ℕ
-motion_width_of m = if nat_lt (2 * m) (256 ^ 1) then 1 else if nat_lt (2 * m) (256 ^ 2) then 2 else if nat_lt (2 * m) (256 ^ 3) then 3 else 4
-
-abbrev pub motion_width : ℤ → ℕ
-motion_width (pos m) = motion_width_of m
-motion_width (negsuc m) = motion_width_of m
-
--- no number at all up to top
-abbrev pub small_or_number_width : ℕ → ℤ → ℕ
-small_or_number_width top (pos m) = if nat_le m top then 0 else number_width (pos m)
-small_or_number_width top (negsuc m) = 4
-
-abbrev pub least_width : DviCommand → ℕ
-least_width (Set c) = small_or_number_width 127 c
-least_width (Put c) = number_width c
-least_width (Right b) = motion_width b
-least_width (W b) = motion_width b
-least_width (X b) = motion_width b
-least_width (Down a) = motion_width a
-least_width (Y a) = motion_width a
-least_width (Z a) = motion_width a
-least_width (Font k) = small_or_number_width 63 k
-least_width (Special text) = number_width (pos (length text))
-least_width (Define d) = number_width d.number
-least_width _ = 0
-
-abbrev pub shortest_spelling : DviCommand → List ℕ
-shortest_spelling c = spelling c (least_width c)
-
--- ---- where a command may stand, and what is no command
-
--- by the opcode, in the order of the table's last column
-abbrev pub may_stand : Context → ℕ → Bool
-may_stand context.Start op = op == 247
-may_stand context.Between op = op == 138 || op == 139 || is_in_range 243 246 op || op == 248
-may_stand context.Page op = nat_le op 138 || is_in_range 140 246 op
-may_stand context.Packet op = nat_le op 138 || is_in_range 141 242 op
-may_stand context.Post op = op == 138 || is_in_range 243 246 op || op == 249
-
--- where the opcode is at most the first number, its fields but for texts have the second number of bytes. A row of opcodes that
--- differ in the width of a number is written by the opcode less the one before the row.
-abbrev pub fixed_size : ℕ → ℕ
-fixed_size op =
-    if nat_le op 127 then 0
-    else if nat_le op 131 then op - 127
-    else if nat_le op 132 then 8
-    else if nat_le op 136 then op - 132
-    else if nat_le op 137 then 8
-    else if nat_le op 138 then 0
-    else if nat_le op 139 then 44
-    else if nat_le op 142 then 0
-    else if nat_le op 146 then op - 142
-    else if nat_le op 151 then op - 147
-    else if nat_le op 156 then op - 152
-    else if nat_le op 160 then op - 156
-    else if nat_le op 165 then op - 161
-    else if nat_le op 170 then op - 166
-    else if nat_le op 234 then 0
-    else if nat_le op 238 then op - 234
-    else if nat_le op 242 then op - 238
-    else if nat_le op 246 then op - 242 + 14
-    else if nat_le op 247 then 14
-    else if nat_le op 248 then 28
-    else if nat_le op 249 then 5
-    else 0
-
--- the length that a special's field tells: up to three bytes unsigned, four signed
-abbrev pub told_length : ℕ → List ℕ → ℤ
-told_length op fields = if op == 242 then signed_of (take 4 fields) else pos (unsigned_of (take (op - 238) fields))
-
--- how many bytes of text the fixed fields tell, none where the length is negative
-abbrev pub text_size : ℕ → List ℕ → ℕ
-text_size op fields =
-    if is_in_range 239 242 op then (if int_lt (told_length op fields) (pos 0) then 0 else unsigned_abs (told_length op fields))
-    else if is_in_range 243 246 op then slice_index fields (op - 242 + 12) + slice_index fields (op - 242 + 13)
-    else if op == 247 then slice_index fields 13
-    else 0
-
--- why the bytes do not begin with a command that may stand there, in the order in which the causes come
-abbrev pub refusal : Context → List ℕ → Option CommandFault
-refusal place [] = Some Short
-refusal place (op ∷ fields) =
-    if nat_lt 249 op then Some (Undefined op)
-    else if not (may_stand place op) then Some (Misplaced op)
-    else if not (is_read op) then Some (NotYet op)
-    else if nat_lt (length fields) (fixed_size op) then Some Short
-    else if op == 242 && int_lt (told_length op fields) (pos 0) then Some NegativeLength
-    else if nat_lt (length fields) (fixed_size op + text_size op fields) then Some Short
-    else None
-
--- how many bytes the command has with which these bytes begin
-abbrev pub size_of : List ℕ → ℕ
-size_of [] = 0
-size_of (op ∷ fields) = 1 + fixed_size op + text_size op fields
-
 -- ---- a command of the code
+
+abbrev pub seen_definition : FontDef → Definition
+seen_definition d = record { number = d.number; check = d.check; size = d.size; design = d.design; area = d.area; name = d.name.now }
 
 abbrev pub seen : Command → DviCommand
 seen (lent.Set c) = Set c
@@ -294,7 +189,7 @@ seen lent.Z0 = Z0
 seen (lent.Z a) = Z a
 seen (lent.Font k) = Font k
 seen (lent.Special text) = Special text.now
-seen (lent.Define d) = Define (record { number = d.number; check = d.check; size = d.size; design = d.design; area = d.area; name = d.name.now })
+seen (lent.Define d) = Define (seen_definition d)
 seen (lent.Pre id num den mag text) = Pre (record { id = id; num = num; den = den; mag = mag; text = text.now })
 seen (lent.Post back num den mag tallest widest deepest pages) = Post (record { back = back; num = num; den = den; mag = mag; tallest = tallest; widest = widest; deepest = deepest; pages = pages })
 seen (lent.PostPost q id) = PostPost q id

@@ -122,9 +122,6 @@ pub enum CommandFault {
     /// The command with this opcode may not stand in the context.
     #[error("misplaced {0}")]
     Misplaced(u8),
-    /// The command with this opcode may stand there and isn't read yet.
-    #[error("not yet {0}")]
-    NotYet(u8),
     /// The length of a special is negative.
     #[error("negative length")]
     NegativeLength,

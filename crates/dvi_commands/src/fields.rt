@@ -1,11 +1,11 @@
 //! A command from its opcode, its fields and its text, where all of these are there.
 
-ghost use Rattle.std.specs.Prelude.{◌≡◌, ◌≤◌, ◌+◌, ◌∷◌, ◌++◌, length, slice_index, slice_range, IsTrue};
-ghost use Rattle.big_endian.specs.Numbers.{IsSigned};
-ghost use Rattle.dvi_commands.specs.Spelling.{Spells, fixed_size, quad, seen, text_size};
-ghost use Rattle.dvi_commands.specs.Supported.{is_read};
+ghost use Rattle.std.specs.Prelude.{◌≡◌, ◌≤◌, ◌+◌, ◌-◌, ◌∷◌, ◌++◌, false, length, slice_index, slice_range};
+ghost use Rattle.big_endian.specs.Numbers.{IsSigned, number_bytes};
+ghost use Rattle.dvi_commands.specs.Refusal.{fixed_size, tells_negative_length, text_size};
+ghost use Rattle.dvi_commands.specs.Spelling.{IsNumber, Spells, quad, seen};
 
-use crate::command::Command;
+use crate::command::{Command, FontDef};
 use big_endian::{signed, unsigned};
 
 /// The signed number in the four bytes from a place on.
@@ -15,6 +15,20 @@ fn signed_quad(fields: &[u8], at: usize) -> i32
     ensures written { quad result ≡ slice_range fields.now at (at + 4) }
 {
     signed(&fields[at..at + 4])
+}
+
+/// The number of a character or a font: up to three bytes spell it unsigned, four bytes signed.
+fn code(bytes: &[u8]) -> i32
+    requires some { 1 ≤ length bytes.now }
+    requires few { length bytes.now ≤ 4 }
+    ensures fits { IsNumber (length bytes.now) result }
+    ensures written { number_bytes (length bytes.now) result ≡ bytes.now }
+{
+    if bytes.len() == 4 {
+        signed(bytes)
+    } else {
+        unsigned(bytes) as i32
+    }
 }
 
 /// The ten counts of a page and the pointer to the page before.
@@ -37,6 +51,24 @@ fn beginning_of_page<'a>(fields: &[u8]) -> Command<'a>
         ],
         back: signed_quad(fields, 40),
     }
+}
+
+/// The definition of a font, whose number has the bytes that the other fields leave.
+fn definition<'a>(fields: &[u8], name: &'a [u8]) -> Command<'a>
+    requires some { 15 ≤ length fields.now }
+    requires few { length fields.now ≤ 18 }
+    requires text { length name.now ≡ slice_index fields.now (length fields.now - 2) + slice_index fields.now (length fields.now - 1) }
+    ensures { Spells (seen result) ((228 + length fields.now) ∷ fields.now ++ name.now) }
+{
+    let (number, others) = fields.split_at(fields.len() - 14);
+    Command::Define(FontDef {
+        number: code(number),
+        check: unsigned(&others[..4]),
+        size: signed_quad(others, 4),
+        design: signed_quad(others, 8),
+        area: others[12],
+        name,
+    })
 }
 
 fn preamble<'a>(fields: &[u8], text: &'a [u8]) -> Command<'a>
@@ -69,18 +101,22 @@ fn postamble<'a>(fields: &[u8]) -> Command<'a>
     }
 }
 
-/// The command with an opcode that is read today.
+/// The command with an opcode.
 pub(crate) fn command_with<'a>(opcode: u8, fields: &[u8], text: &'a [u8]) -> Command<'a>
-    requires known { IsTrue (is_read opcode) }
+    requires known { opcode ≤ 249 }
     requires whole { length fields.now ≡ fixed_size opcode }
     requires text { length text.now ≡ text_size opcode fields.now }
+    requires not_negative { tells_negative_length opcode fields.now ≡ false }
     ensures { Spells (seen result) (opcode ∷ fields.now ++ text.now) }
 {
     match opcode {
+        0..=127 => Command::Set(i32::from(opcode)),
+        128..=131 => Command::Set(code(fields)),
         132 => Command::SetRule {
             height: signed_quad(fields, 0),
             width: signed_quad(fields, 4),
         },
+        133..=136 => Command::Put(code(fields)),
         137 => Command::PutRule {
             height: signed_quad(fields, 0),
             width: signed_quad(fields, 4),
@@ -88,6 +124,8 @@ pub(crate) fn command_with<'a>(opcode: u8, fields: &[u8], text: &'a [u8]) -> Com
         138 => Command::Nop,
         139 => beginning_of_page(fields),
         140 => Command::Eop,
+        141 => Command::Push,
+        142 => Command::Pop,
         143..=146 => Command::Right(signed(fields)),
         147 => Command::W0,
         148..=151 => Command::W(signed(fields)),
@@ -98,6 +136,10 @@ pub(crate) fn command_with<'a>(opcode: u8, fields: &[u8], text: &'a [u8]) -> Com
         162..=165 => Command::Y(signed(fields)),
         166 => Command::Z0,
         167..=170 => Command::Z(signed(fields)),
+        171..=234 => Command::Font(i32::from(opcode - 171)),
+        235..=238 => Command::Font(code(fields)),
+        239..=242 => Command::Special(text),
+        243..=246 => definition(fields, text),
         247 => preamble(fields, text),
         248 => postamble(fields),
         _ => Command::PostPost {

@@ -1,12 +1,13 @@
 //! Laws over spellings, each the contract of a function without a body.
 
 ghost use Rattle.dvi_commands.specs.Reading.{CommandsFirst, NothingBehindTheLast, PlacedFirst};
-ghost use Rattle.dvi_commands.specs.SpellingLaws.{NoSpellingBeginsAnother, ShortestIsLeast, SpelledIsNotRefused, SpellingTellsTheCommand};
+ghost use Rattle.dvi_commands.specs.SpellingLaws.{NoSpellingBeginsAnother, NoSpellingIsAProperPrefix, ShortestIsLeast, SpelledIsNotRefused, SpellingTellsTheCommand, WrittenIsReadBack};
 
-/// No spelling of a command begins another, a spelling tells its command, and what spells a command
-/// that is read today is not refused where it may stand.
+/// No spelling of a command is a proper prefix of another spelling, a spelling tells its command, and what
+/// spells a command is not refused where it may stand.
 pub fn spellings()
     ensures apart { NoSpellingBeginsAnother }
+    ensures no_prefix { NoSpellingIsAProperPrefix }
     ensures told { SpellingTellsTheCommand }
     ensures accepted { SpelledIsNotRefused }
 {}
@@ -14,6 +15,11 @@ pub fn spellings()
 /// The shortest spelling is one, and no other is shorter.
 pub fn shortest_spelling()
     ensures { ShortestIsLeast }
+{}
+
+/// A command that was written is read back, wherever it may stand and whatever follows.
+pub fn written_commands()
+    ensures { WrittenIsReadBack }
 {}
 
 /// Bytes that begin with a spelling of a command are that command and those of the rest, and no bytes are

@@ -11,6 +11,8 @@ mod fields;
 pub mod laws;
 mod reader;
 pub mod spelling_rows;
+mod writer;
 
 pub use crate::command::{Command, CommandFault, Context, FontDef};
 pub use crate::reader::{command_at, read_command};
+pub use crate::writer::write_command;

@@ -1,12 +1,13 @@
 //! Reading one command at a place of bytes.
 
-ghost use Rattle.std.specs.Prelude.{◌≡◌, ◌≤◌, ◌<◌, ◌+◌, ◌-◌, ◌∷◌, ◌++◌, ℕ, List, length, drop, slice_index, slice_range, Some, IsTrue, IfOk, IfErr, IsOkAnd};
+ghost use Rattle.std.specs.Prelude.{◌≡◌, ◌≤◌, ◌<◌, ◌+◌, ◌-◌, ◌∷◌, ◌++◌, ◌↔◌, ℕ, List, length, drop, slice_index, slice_range, Some, IsTrue, IfOk, IfErr, IfSome, IsNone, IsOkAnd};
 ghost use Rattle.dvi_commands.specs.Reading.{Begins, Reads, commands_of, placed, placed_from};
-ghost use Rattle.dvi_commands.specs.Spelling.{DviCommand, Spells, fixed_size, may_stand, refusal, seen, text_size};
-ghost use Rattle.dvi_commands.specs.Supported.{is_read};
+ghost use Rattle.dvi_commands.specs.Refusal.{fixed_size, may_stand, refusal, tells_negative_length, text_size};
+ghost use Rattle.dvi_commands.specs.Spelling.{DviCommand, Spells, seen};
 
 use crate::command::{Command, CommandFault, Context};
 use crate::fields::command_with;
+use big_endian::{signed, unsigned};
 
 const LAST_OPCODE: u8 = 249;
 
@@ -47,13 +48,6 @@ fn is_allowed(context: Context, opcode: u8) -> bool
     }
 }
 
-/// Whether commands with the opcode are read today.
-fn is_supported(opcode: u8) -> bool
-    ensures { result ≡ is_read opcode }
-{
-    matches!(opcode, 132 | 137..=140 | 143..=170 | 247..=249)
-}
-
 /// How many bytes the fields have, without a text.
 fn field_size(opcode: u8) -> usize
     requires { opcode ≤ 249 }
@@ -62,25 +56,31 @@ fn field_size(opcode: u8) -> usize
     FIELD_SIZES[opcode as usize] as usize
 }
 
-/// How long the text behind the fields is, for a command that is read today.
-fn text_length(opcode: u8, fields: &[u8]) -> usize
-    requires known { IsTrue (is_read opcode) }
+/// How long the text behind the fields is, or `None` where the length of a special is negative.
+fn text_length(opcode: u8, fields: &[u8]) -> Option<usize>
+    requires known { opcode ≤ 249 }
     requires whole { length fields.now ≡ fixed_size opcode }
-    ensures { result ≡ text_size opcode fields.now }
+    ensures negative { IsNone result ↔ IsTrue (tells_negative_length opcode fields.now) }
+    ensures told { IfSome result (λ n. n ≡ text_size opcode fields.now) }
 {
-    if opcode == 247 {
-        fields[13] as usize
-    } else {
-        0
+    match opcode {
+        239..=241 => Some(unsigned(fields) as usize),
+        242 => usize::try_from(signed(fields)).ok(),
+        243..=246 => {
+            let lengths = fields.len() - 2;
+            Some(fields[lengths] as usize + fields[lengths + 1] as usize)
+        }
+        247 => Some(fields[13] as usize),
+        _ => Some(0),
     }
 }
 
 /// Reads the command at a place, and gives it with the place behind it.
 ///
 /// The fault is the first of these that applies: `Short` where no byte is left; `Undefined` for an
-/// opcode of no command; `Misplaced` where the command may not stand in the context; `NotYet` where it
-/// may and isn't read today; `Short` where its fields aren't all there; `NegativeLength` for a special
-/// of negative length; `Short` where its text isn't all there. Takes no memory.
+/// opcode of no command; `Misplaced` where the command may not stand in the context; `Short` where its
+/// fields aren't all there; `NegativeLength` for a special of negative length; `Short` where its text
+/// isn't all there. Takes no memory.
 pub fn read_command<'a>(
     bytes: &'a [u8],
     at: usize,
@@ -89,7 +89,6 @@ pub fn read_command<'a>(
     requires { at ≤ length bytes.now }
     ensures read { IfOk result (λ r. Spells (seen r.0) (slice_range bytes.now at r.1)) }
     ensures allowed { IfOk result (λ r. IsTrue (may_stand context (slice_index bytes.now at))) }
-    ensures today { IfOk result (λ r. IsTrue (is_read (slice_index bytes.now at))) }
     ensures place { IfOk result (λ r. (at < r.1) × (r.1 ≤ length bytes.now)) }
     ensures refused { IfErr result (λ fault. refusal context (drop at bytes.now) ≡ Some fault) }
 
@@ -107,16 +106,15 @@ pub fn read_command<'a>(
     if !is_allowed(context, opcode) {
         return Err(CommandFault::Misplaced(opcode));
     }
-    if !is_supported(opcode) {
-        return Err(CommandFault::NotYet(opcode));
-    }
     let behind = &bytes[at + 1..];
     let size = field_size(opcode);
     if behind.len() < size {
         return Err(CommandFault::Short);
     }
     let (fields, behind) = behind.split_at(size);
-    let length = text_length(opcode, fields);
+    let Some(length) = text_length(opcode, fields) else {
+        return Err(CommandFault::NegativeLength);
+    };
     if behind.len() < length {
         return Err(CommandFault::Short);
     }

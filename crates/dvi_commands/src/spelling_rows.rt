@@ -2,9 +2,10 @@
 
 ghost use Rattle.std.specs.Prelude.{◌≡◌, filter, not, pos, negsuc, [], ◌∷◌, Some, None};
 ghost use Rattle.dvi_commands.specs.Rows.{opcodes};
-ghost use Rattle.dvi_commands.specs.Spelling.{may_stand, Font, Right, Set, W, refusal, shortest_spelling};
-ghost use Rattle.dvi_commands.specs.Supported.{is_read};
-ghost use Rattle.dvi_commands.specs.declared.command.CommandFault.TheVariants.{Misplaced, NotYet, Short, Undefined};
+ghost use Rattle.dvi_commands.specs.Refusal.{may_stand, refusal};
+ghost use Rattle.dvi_commands.specs.ShortestSpelling.{shortest_spelling};
+ghost use Rattle.dvi_commands.specs.Spelling.{Font, Right, Set, W};
+ghost use Rattle.dvi_commands.specs.declared.command.CommandFault.TheVariants.{Misplaced, NegativeLength, Short, Undefined};
 ghost use Rattle.dvi_commands.specs.declared.command.Context.TheVariants as context;
 
 /// Some shortest spellings.
@@ -24,9 +25,19 @@ pub fn refused_on_a_page()
     ensures nothing { refusal context.Page [] ≡ Some Short }
     ensures undefined { refusal context.Page (0xfa ∷ []) ≡ Some (Undefined 250) }
     ensures misplaced { refusal context.Page (0xf8 ∷ []) ≡ Some (Misplaced 248) }
-    ensures not_yet { refusal context.Page (0x41 ∷ []) ≡ Some (NotYet 65) }
+    ensures character { refusal context.Page (0x41 ∷ []) ≡ None }
     ensures cut { refusal context.Page (0x90 ∷ 0x00 ∷ []) ≡ Some Short }
     ensures whole { refusal context.Page (0x90 ∷ 0x00 ∷ 0x80 ∷ []) ≡ None }
+{}
+
+/// Specials on a page: a length of four bytes is judged when it is whole, and before the text.
+pub fn refused_specials()
+    ensures negative { refusal context.Page (0xf2 ∷ 0xff ∷ 0xff ∷ 0xff ∷ 0xff ∷ []) ≡ Some NegativeLength }
+    ensures cut_length { refusal context.Page (0xf2 ∷ 0xff ∷ 0xff ∷ 0xff ∷ []) ≡ Some Short }
+    ensures cut_text { refusal context.Page (0xf2 ∷ 0x00 ∷ 0x00 ∷ 0x00 ∷ 0x02 ∷ 0x68 ∷ []) ≡ Some Short }
+    ensures whole { refusal context.Page (0xf2 ∷ 0x00 ∷ 0x00 ∷ 0x00 ∷ 0x02 ∷ 0x68 ∷ 0x69 ∷ []) ≡ None }
+    ensures unsigned_length { refusal context.Page (0xef ∷ 0xff ∷ []) ≡ Some Short }
+    ensures misplaced { refusal context.Between (0xf2 ∷ 0xff ∷ 0xff ∷ 0xff ∷ 0xff ∷ []) ≡ Some (Misplaced 242) }
 {}
 
 /// A preamble whose text is cut is refused, and one whose text is whole is not.
@@ -46,12 +57,4 @@ pub fn contexts()
         ≡ 139 ∷ 247 ∷ 248 ∷ 249 ∷ 250 ∷ 251 ∷ 252 ∷ 253 ∷ 254 ∷ 255 ∷ [] }
     ensures not_in_a_packet { filter (λ op. not (may_stand context.Packet op)) opcodes
         ≡ 139 ∷ 140 ∷ 243 ∷ 244 ∷ 245 ∷ 246 ∷ 247 ∷ 248 ∷ 249 ∷ 250 ∷ 251 ∷ 252 ∷ 253 ∷ 254 ∷ 255 ∷ [] }
-{}
-
-/// Which opcodes are read today.
-pub fn supported()
-    ensures { filter is_read opcodes
-        ≡ 132 ∷ 137 ∷ 138 ∷ 139 ∷ 140 ∷ 143 ∷ 144 ∷ 145 ∷ 146 ∷ 147 ∷ 148 ∷ 149 ∷ 150
-        ∷ 151 ∷ 152 ∷ 153 ∷ 154 ∷ 155 ∷ 156 ∷ 157 ∷ 158 ∷ 159 ∷ 160 ∷ 161 ∷ 162 ∷ 163 ∷ 164 ∷ 165 ∷ 166 ∷ 167 ∷ 168
-        ∷ 169 ∷ 170 ∷ 247 ∷ 248 ∷ 249 ∷ [] }
 {}

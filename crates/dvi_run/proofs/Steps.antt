@@ -1,5 +1,5 @@
 -- A page's value, one flat command at a time.
-use Rattle.std.proofs.Common.{◌≡◌, ℕ, ◌+◌, ◌-◌, ◌<◌, ◌≤◌, ℤ, pos, ◌+ℤ◌, List, [], ◌∷◌, ◌++◌, length, drop, sym, ap, ap₂, ◌∙◌, arith, append_assoc, append-nil, Option, Some, Result, Ok, Err}
+use Rattle.std.proofs.Common.{◌≡◌, ◌≢◌, ℕ, ◌+◌, ◌-◌, ◌<◌, ◌≤◌, ℤ, pos, ◌+ℤ◌, List, [], ◌∷◌, ◌++◌, length, drop, refl, sym, ap, ap₂, ◌∙◌, arith, append_assoc, append-nil, Option, Some, Result, Ok, Err}
 use Rattle.std.proofs.lemmas.Grind.{common_steps}
 use Rattle.dvi_commands.specs.Spelling.{DviCommand}
 use Rattle.dvi_commands.specs.Reading.{Placed, placed_from}
@@ -13,27 +13,38 @@ use Rattle.raster_page.specs.Ink.{Bar, Inked, page_of}
 use Rattle.drift_rules.specs.Position.{State, after, at_origin}
 use Rattle.drift_rules.specs.Marks.{mark_of}
 use Rattle.drift_rules.specs.declared.faults.PenFault.{PenFault}
-use Rattle.dvi_run.specs.Drawing.{flat_of, flats_of, placed_flat, PlacedFlat, PlacedFault, and_then, behind, inks_of, last_state, marks_from, page_value, value_by}
+use Rattle.drift_rules.specs.declared.faults.PenFault.TheVariants.{StackLeft}
+use Rattle.drift_rules.specs.declared.flat.Registers.{Registers}
+use Rattle.dvi_run.specs.Drawing.{flat_of, flats_of, placed_flat, PlacedFlat, PlacedFault, and_then, behind, ended_with, inks_of, last_state, marks_from, page_value, value_by}
 use Rattle.dvi_run.specs.declared.sheet.Sheet.{Sheet}
 
 -- the page's value, from a state on, with what was set before
-abbrev pub value_from : Fraction → Sheet → State → List Inked → List PlacedFlat → Result Bitmap PlacedFault
-value_from c sheet s done flats = value_by sheet (last_state c s flats) (done ++ marks_from c sheet s flats)
+abbrev pub value_from : Fraction → Sheet → State → List Inked → List PlacedFlat → ℕ → Result Bitmap PlacedFault
+value_from c sheet s done flats eop = value_by sheet (last_state c s flats) (done ++ marks_from c sheet s flats) eop
 
-pub value_step : (c : Fraction) (sheet : Sheet) (s t : State) (done : List Inked) (f : PlacedFlat) (flats : List PlacedFlat) → after c s f.flat ≡ Ok t
-    → value_from c sheet s done (f ∷ flats) ≡ value_from c sheet t (done ++ inks_of sheet (mark_of c s.now f.flat)) flats
-value_step c sheet s t done f flats e =
+pub value_step : (c : Fraction) (sheet : Sheet) (s t : State) (done : List Inked) (f : PlacedFlat) (flats : List PlacedFlat) (eop : ℕ) → after c s f.flat ≡ Ok t
+    → value_from c sheet s done (f ∷ flats) eop ≡ value_from c sheet t (done ++ inks_of sheet (mark_of c s.now f.flat)) flats eop
+value_step c sheet s t done f flats eop e =
     let inks = inks_of sheet (mark_of c s.now f.flat) in
-    ap (λ (r : Result State PenFault). value_by sheet (and_then r f.at (λ u. last_state c u flats)) (done ++ (inks ++ behind r (λ u. marks_from c sheet u flats)))) e
-    ∙ ap (value_by sheet (last_state c t flats)) (sym (append_assoc done inks (marks_from c sheet t flats)))
+    ap (λ (r : Result State PenFault). value_by sheet (and_then r f.at (λ u. last_state c u flats)) (done ++ (inks ++ behind r (λ u. marks_from c sheet u flats))) eop) e
+    ∙ ap (λ (marks : List Inked). value_by sheet (last_state c t flats) marks eop) (sym (append_assoc done inks (marks_from c sheet t flats)))
 
-pub value_stop : (c : Fraction) (sheet : Sheet) (s : State) (done : List Inked) (f : PlacedFlat) (flats : List PlacedFlat) (fault : PenFault) → after c s f.flat ≡ Err fault
-    → value_from c sheet s done (f ∷ flats) ≡ Err (record { fault = fault; at = f.at })
-value_stop c sheet s done f flats fault e =
-    ap (λ (r : Result State PenFault). value_by sheet (and_then r f.at (λ u. last_state c u flats)) (done ++ (inks_of sheet (mark_of c s.now f.flat) ++ behind r (λ u. marks_from c sheet u flats)))) e
+pub value_stop : (c : Fraction) (sheet : Sheet) (s : State) (done : List Inked) (f : PlacedFlat) (flats : List PlacedFlat) (eop : ℕ) (fault : PenFault) → after c s f.flat ≡ Err fault
+    → value_from c sheet s done (f ∷ flats) eop ≡ Err (record { fault = fault; at = f.at })
+value_stop c sheet s done f flats eop fault e =
+    ap (λ (r : Result State PenFault). value_by sheet (and_then r f.at (λ u. last_state c u flats)) (done ++ (inks_of sheet (mark_of c s.now f.flat) ++ behind r (λ u. marks_from c sheet u flats))) eop) e
 
-pub value_end : (c : Fraction) (sheet : Sheet) (s : State) (done : List Inked) → value_from c sheet s done [] ≡ Ok (page_of sheet.width sheet.height done)
-value_end c sheet s done = ap (λ (marks : List Inked). value_by sheet (Ok s) marks) (append-nil done)
+pub value_end : (c : Fraction) (sheet : Sheet) (s : State) (done : List Inked) (eop : ℕ)
+    → value_from c sheet s done [] eop ≡ ended_with s.saved eop (page_of sheet.width sheet.height done)
+value_end c sheet s done eop = ap (λ (marks : List Inked). value_by sheet (Ok s) marks eop) (append-nil done)
+
+-- nothing is saved, or something
+pub whole_end : (saved : List Registers) (eop : ℕ) (page : Bitmap) → saved ≡ [] → ended_with saved eop page ≡ Ok page
+whole_end saved eop page e = ap (λ (r : List Registers). ended_with r eop page) e
+
+pub left_end : (saved : List Registers) (eop : ℕ) (page : Bitmap) → saved ≢ [] → ended_with saved eop page ≡ Err (record { fault = StackLeft; at = eop })
+left_end [] eop page some = absurd (some refl)
+left_end (r ∷ saved) eop page some = refl
 
 -- ---- the page so far
 
@@ -41,16 +52,19 @@ value_end c sheet s done = ap (λ (marks : List Inked). value_by sheet (Ok s) ma
 pub record IsDrawnTo (c : Fraction) (sheet : Sheet) (start : ℕ) (bytes : List ℕ) (at : ℕ) (s : State) (page : Bitmap) : Type 0 where
   pub done : List Inked
   pub has : page ≡ page_of sheet.width sheet.height done
-  pub leads : value_from c sheet s done (flats_of (placed_from (start + at) (drop at bytes))) ≡ page_value c sheet (flats_of (placed_from start bytes))
+  pub leads : value_from c sheet s done (flats_of (placed_from (start + at) (drop at bytes))) (start + length bytes)
+      ≡ page_value c sheet (flats_of (placed_from start bytes)) (start + length bytes)
 
 pub drawn_none : (c : Fraction) (sheet : Sheet) (start : ℕ) (bytes : List ℕ) (s : State) (page : Bitmap) → page ≡ page_of sheet.width sheet.height [] → s ≡ at_origin
     → IsDrawnTo c sheet start bytes 0 s page
 drawn_none c sheet start bytes s page has origin =
     let place : start + 0 ≡ start = omega arith in
+    let eop = start + length bytes in
     record {
       done = [];
       has = has;
-      leads = ap (λ (t : State). value_from c sheet t [] (flats_of (placed_from (start + 0) bytes))) origin ∙ ap (λ (n : ℕ). page_value c sheet (flats_of (placed_from n bytes))) place;
+      leads = ap (λ (t : State). value_from c sheet t [] (flats_of (placed_from (start + 0) bytes)) eop) origin
+          ∙ ap (λ (n : ℕ). page_value c sheet (flats_of (placed_from n bytes)) eop) place;
     }
 
 abbrev here : ℕ → DviCommand → List ℕ → Placed
@@ -65,6 +79,9 @@ module _ (c : Fraction) (sheet : Sheet) (start : ℕ) (bytes : List ℕ) (at nex
   abbrev flat : PlacedFlat
   flat = placed_flat (here (start + at) command text)
 
+  abbrev eop : ℕ
+  eop = start + length bytes
+
   apart : flats_of (placed_from (start + at) (drop at bytes)) ≡ flat ∷ rest
   apart = ap flats_of placed
 
@@ -77,23 +94,25 @@ module _ (c : Fraction) (sheet : Sheet) (start : ℕ) (bytes : List ℕ) (at nex
       record {
         done = more;
         has = inked drawn.done drawn.has;
-        leads = ap (λ (n : ℕ). value_from c sheet t more (flats_of (placed_from n (drop next bytes)))) (sym place)
-            ∙ sym (value_step c sheet s t drawn.done flat rest moved)
-            ∙ ap (value_from c sheet s drawn.done) (sym apart)
+        leads = ap (λ (n : ℕ). value_from c sheet t more (flats_of (placed_from n (drop next bytes))) eop) (sym place)
+            ∙ sym (value_step c sheet s t drawn.done flat rest eop moved)
+            ∙ ap (λ (flats : List PlacedFlat). value_from c sheet s drawn.done flats eop) (sym apart)
             ∙ drawn.leads;
       }
 
   pub drawn_stop : (fault : PenFault) → after c s (flat_of command) ≡ Err fault
-      → page_value c sheet (flats_of (placed_from start bytes)) ≡ Err (record { fault = fault; at = start + at })
+      → page_value c sheet (flats_of (placed_from start bytes)) (start + length bytes) ≡ Err (record { fault = fault; at = start + at })
   drawn_stop fault stopped =
-      sym drawn.leads ∙ ap (value_from c sheet s drawn.done) apart ∙ value_stop c sheet s drawn.done flat rest fault stopped
+      sym drawn.leads ∙ ap (λ (flats : List PlacedFlat). value_from c sheet s drawn.done flats eop) apart ∙ value_stop c sheet s drawn.done flat rest eop fault stopped
 
 pub drawn_end : (c : Fraction) (sheet : Sheet) (start : ℕ) (bytes : List ℕ) (at : ℕ) (s : State) (page : Bitmap) → IsDrawnTo c sheet start bytes at s page → length bytes ≤ at
-    → page_value c sheet (flats_of (placed_from start bytes)) ≡ Ok page
+    → page_value c sheet (flats_of (placed_from start bytes)) (start + length bytes) ≡ ended_with s.saved (start + length bytes) page
 drawn_end c sheet start bytes at s page drawn over =
     let none : drop at bytes ≡ [] = grind (arith, common_steps) in
     let no_flats : flats_of (placed_from (start + at) (drop at bytes)) ≡ [] = ap (λ (b : List ℕ). flats_of (placed_from (start + at) b)) none ∙ ap flats_of (placed_none (start + at)) in
-    sym drawn.leads ∙ ap (value_from c sheet s drawn.done) no_flats ∙ value_end c sheet s drawn.done ∙ ap Ok (sym drawn.has)
+    let eop = start + length bytes in
+    sym drawn.leads ∙ ap (λ (flats : List PlacedFlat). value_from c sheet s drawn.done flats eop) no_flats ∙ value_end c sheet s drawn.done eop
+    ∙ ap (ended_with s.saved eop) (sym drawn.has)
 
 -- ---- a rule is set
 

@@ -1,22 +1,21 @@
--- A page of one document drawn: its flat commands, its marks, and its dots. Knuth, DVItype, "Translation to symbolic form".
+-- A page of a document drawn: its flat commands, its marks, its dots, or its fault. Knuth, DVItype, "Translation to symbolic form".
 use Rattle.std.specs.Prelude.{◌≡◌, ◌≤◌, ℕ, pos, ◌+ℤ◌, true, false, List, [], ◌∷◌, ◌++◌, map, Option, Some, None, Result, Ok, Err}
-use Rattle.pixel_round.specs.Pixels.{Fraction, conversion}
-use Rattle.dvi_commands.specs.Spelling.{DviCommand, Preamble, SetRule, PutRule}
+use Rattle.pixel_round.specs.Pixels.{Fraction}
+use Rattle.dvi_commands.specs.Spelling.{DviCommand, SetRule, PutRule}
 use Rattle.dvi_commands.specs.Spelling as command
 use Rattle.dvi_commands.specs.Reading.{Placed}
 use Rattle.drift_rules.specs.Position.{FlatCommand, State, after, at_origin}
 use Rattle.drift_rules.specs.Position as flat
 use Rattle.drift_rules.specs.Marks.{mark_of}
 use Rattle.drift_rules.specs.declared.faults.PenFault.{PenFault}
-use Rattle.drift_rules.specs.declared.faults.PenFault.TheVariants.{Overflow}
-use Rattle.dvi_run.specs.declared.draw.DrawStop.{DrawStop}
-use Rattle.dvi_run.specs.declared.draw.DrawStop.TheVariants as stop
+use Rattle.drift_rules.specs.declared.faults.PenFault.TheVariants.{StackLeft}
 use Rattle.drift_rules.specs.declared.flat.Mark.{Mark}
 use Rattle.drift_rules.specs.declared.flat.Mark.TheVariants as mark
+use Rattle.drift_rules.specs.declared.flat.Registers.{Registers}
 use Rattle.packed_rows.specs.Bitmap.{Bitmap}
 use Rattle.raster_page.specs.Ink.{Inked, Bar, page_of}
-use Rattle.dvi_run.specs.Document.{Reading, page_commands, preamble_of, units_of}
-use Rattle.dvi_run.specs.OnePage.{IsOnePage, RESOLUTION}
+use Rattle.dvi_run.specs.declared.draw.DrawStop.{DrawStop}
+use Rattle.dvi_run.specs.declared.draw.DrawStop.TheVariants as stop
 use Rattle.dvi_run.specs.declared.sheet.Sheet.{Sheet}
 
 -- the sheet where no option names another, at 300 dots for an inch: 8.5 by 11 inches, and margins of one inch
@@ -25,10 +24,13 @@ default_sheet = record { width = 2550; height = 3300; left = 300; top = 300 }
 
 -- ---- flat commands
 
--- what a command of a page is where no font is current, so that `space` is 0
+-- what a command of a page is where no font is current, so that `space` is 0; a special, a definition and a nop do nothing, and a
+-- character and a font change are on no page, since a document with one isn't drawn yet
 abbrev pub flat_of : DviCommand → FlatCommand
 flat_of (SetRule height width) = flat.Rule height width false
 flat_of (PutRule height width) = flat.Rule height width true
+flat_of command.Push = flat.Push
+flat_of command.Pop = flat.Pop
 flat_of (command.Right by) = flat.Right by (pos 0)
 flat_of (command.W by) = flat.W by (pos 0)
 flat_of (command.X by) = flat.X by (pos 0)
@@ -54,6 +56,7 @@ flats_of commands = map placed_flat commands
 
 -- ---- states and marks
 
+-- why a page has no bitmap, and the position of the command that has no next state, or of the page's Eop
 pub record PlacedFault : Type 0 where
   pub fault : PenFault
   pub at : ℕ
@@ -85,20 +88,19 @@ marks_from c sheet s (f ∷ flats) =
 
 -- ---- the page
 
-abbrev pub value_by : Sheet → Result State PlacedFault → List Inked → Result Bitmap PlacedFault
-value_by sheet (Ok s) marks = Ok (page_of sheet.width sheet.height marks)
-value_by sheet (Err f) marks = Err f
+-- at the page's end nothing may be saved
+abbrev pub ended_with : List Registers → ℕ → Bitmap → Result Bitmap PlacedFault
+ended_with [] eop page = Ok page
+ended_with (r ∷ saved) eop page = Err (record { fault = StackLeft; at = eop })
 
--- the page's dots, each decided alone, or the first command that has no next state
-abbrev pub page_value : Fraction → Sheet → List PlacedFlat → Result Bitmap PlacedFault
-page_value c sheet flats = value_by sheet (last_state c at_origin flats) (marks_from c sheet at_origin flats)
+abbrev pub value_by : Sheet → Result State PlacedFault → List Inked → ℕ → Result Bitmap PlacedFault
+value_by sheet (Ok s) marks eop = ended_with s.saved eop (page_of sheet.width sheet.height marks)
+value_by sheet (Err f) marks eop = Err f
 
--- the page of a document of one page has this value
-pub record IsDrawn (bytes : List ℕ) (reading : Reading) (value : Result Bitmap PlacedFault) : Type 0 where
-  pub one : IsOnePage bytes reading
-  pub preamble : Preamble
-  pub first : preamble_of reading ≡ Some preamble
-  pub drawn : value ≡ page_value (conversion (units_of RESOLUTION preamble)) default_sheet (flats_of (page_commands 0 reading))
+-- the page's dots, each decided alone; or the first command that has no next state; or the Eop at this position, where registers are
+-- still saved
+abbrev pub page_value : Fraction → Sheet → List PlacedFlat → ℕ → Result Bitmap PlacedFault
+page_value c sheet flats eop = value_by sheet (last_state c at_origin flats) (marks_from c sheet at_origin flats) eop
 
 -- ---- the code's answers
 
@@ -111,7 +113,7 @@ pub record IsDrawable (sheet : Sheet) : Type 0 where
   pub left : sheet.left ≤ 20000
   pub top : sheet.top ≤ 20000
 
--- the page overflows at that place; want of memory says nothing
+-- the page has that fault; want of memory says nothing
 abbrev pub IsStop : DrawStop → Result Bitmap PlacedFault → Type 0
-IsStop (stop.Overflow at) value = value ≡ Err (record { fault = Overflow; at = at })
+IsStop (stop.Fault fault at) value = value ≡ Err (record { fault = fault; at = at })
 IsStop stop.NoMemory value = Unit {0}

@@ -1,7 +1,6 @@
 pub mod Reading
-pub mod Document
-pub mod OnePage
-pub mod Progress
 pub mod Drawing
+pub mod Pages
+pub mod Lines
 pub mod Endings
 pub mod Laws

@@ -2,21 +2,28 @@
 
 mod status;
 
-/// How a run ends.
+use drift_rules::PenFault;
+use page_index::DocFault;
+
+/// How a run ends. Pages are counted from 1.
 #[derive(Clone, Copy, Debug, PartialEq, Eq)]
 pub enum Ending {
-    /// The page was written.
+    /// All pages were written.
     Written,
     /// There is a word.
     Usage,
-    /// The bytes that were read aren't a document of one page with only commands that are read today.
-    Malformed,
-    /// The page moves too far at the command with this position.
-    Overflow(usize),
+    /// The bytes that were read aren't a document.
+    Document(DocFault),
+    /// The page fails at the command with this position.
+    Page {
+        page: usize,
+        fault: PenFault,
+        at: usize,
+    },
     /// The input failed.
     Input,
-    /// The output failed.
-    Output,
+    /// The output failed at this page.
+    Output(usize),
     /// Memory was wanting.
     Memory,
 }

@@ -24,6 +24,8 @@ pub fn flat(command: &Command) -> Flat
             width: i64::from(*width),
             put: true,
         },
+        Command::Push => Flat::Push,
+        Command::Pop => Flat::Pop,
         Command::Right(by) => Flat::Right {
             by: i64::from(*by),
             space: 0,

@@ -1,16 +1,16 @@
-//! One run: reads a document, draws its page, writes its image, and says how it ended.
+//! One run: reads a document, draws its pages, writes their images, and says how it ended.
 //!
-//! The public call is `dvipbm_run`. Below it stand the reading of the input, the document of one page,
-//! its drawing, and the notes, each a part of its own that the call's contract doesn't name.
+//! The public call is `dvipbm_run`. Below it stand the reading of the input, the drawing of a page, the
+//! writing of all pages, and the notes, each a part of its own that the call's contract doesn't name.
 #![tactic(auto)]
 
-mod document;
 mod draw;
 mod ending;
 mod flat;
 pub mod laws;
+mod line;
 mod note;
-mod page;
+mod pages;
 mod reading;
 mod run;
 mod sheet;

@@ -1,4 +1,4 @@
-//! The program: draws the DVI document on standard input, and writes its page as a PBM bitmap on
+//! The program: draws the DVI document on standard input, and writes its pages as PBM bitmaps on
 //! standard output.
 #![tactic(auto)]
 

@@ -3,7 +3,7 @@ use crate::faults::PenFault;
 use pixel_round::{Scale, Units};
 
 // One half of a dot for a unit: 1270 * 300 * 1000 over 254000000 * 3.
-fn half_a_dot() -> Result<Conv, Scale> {
+pub(super) fn half_a_dot() -> Result<Conv, Scale> {
     Conv::new(&Units {
         num: 1270,
         den: 3,
@@ -18,7 +18,7 @@ fn half_a_dot() -> Result<Conv, Scale> {
 fn moves_right_and_left(rt: HostRuntime) -> Result<(), Scale> {
     let conv = half_a_dot()?;
     for (by, h, hh) in [(2, 4, 2), (1, 3, 3), (-8, -6, -3), (-7, -5, -2)] {
-        let mut pen = Pen::new(conv);
+        let mut pen = Pen::new(rt.alloc(), conv);
         assert_eq!(rt; pen.step(&Flat::Right { by: 1, space: 2 }), Ok(None));
         assert_eq!(rt; pen.step(&Flat::Right { by: 1, space: 2 }), Ok(None));
         assert_eq!(rt; (pen.registers().h, pen.registers().hh), (2, 2));
@@ -37,7 +37,7 @@ fn moves_right_and_left(rt: HostRuntime) -> Result<(), Scale> {
 fn moves_down_and_up(rt: HostRuntime) -> Result<(), Scale> {
     let conv = half_a_dot()?;
     for (by, v, vv) in [(10, 12, 6), (9, 11, 7), (-10, -8, -4)] {
-        let mut pen = Pen::new(conv);
+        let mut pen = Pen::new(rt.alloc(), conv);
         assert_eq!(rt; pen.step(&Flat::Down { by: 1, space: 2 }), Ok(None));
         assert_eq!(rt; pen.step(&Flat::Down { by: 1, space: 2 }), Ok(None));
         assert_eq!(rt; (pen.registers().v, pen.registers().vv), (2, 2));
@@ -55,8 +55,8 @@ fn moves_down_and_up(rt: HostRuntime) -> Result<(), Scale> {
 // the same holds. Each rule of 2 by 2 units is one dot, where it is put: in its row the motion down comes after it.
 #[test]
 fn drifts_by_two_dots_at_most(rt: HostRuntime) -> Result<(), Scale> {
-    let mut right_down = Pen::new(half_a_dot()?);
-    let mut left_up = Pen::new(half_a_dot()?);
+    let mut right_down = Pen::new(rt.alloc(), half_a_dot()?);
+    let mut left_up = Pen::new(rt.alloc(), half_a_dot()?);
     for (place, above, back) in [
         (1, 0, -1),
         (2, 1, -2),
@@ -96,7 +96,7 @@ fn drifts_by_two_dots_at_most(rt: HostRuntime) -> Result<(), Scale> {
 // width of -3 is -1.5 dots, of which hh takes -1, and nothing is marked.
 #[test]
 fn sets_rules(rt: HostRuntime) -> Result<(), Scale> {
-    let mut pen = Pen::new(half_a_dot()?);
+    let mut pen = Pen::new(rt.alloc(), half_a_dot()?);
     assert_eq!(rt; pen.step(&Flat::Down { by: 20, space: 0 }), Ok(None));
     assert_eq!(rt;
         pen.step(&Flat::Rule {
@@ -149,7 +149,7 @@ fn sets_rules(rt: HostRuntime) -> Result<(), Scale> {
 // Each of w, x, y and z is moved by again. At a space of 0 a motion by 0 sets hh to h rounded, that is 3 to 2 dots, and vv to v.
 #[test]
 fn moves_again(rt: HostRuntime) -> Result<(), Scale> {
-    let mut pen = Pen::new(half_a_dot()?);
+    let mut pen = Pen::new(rt.alloc(), half_a_dot()?);
     for flat in [
         Flat::Right { by: 1, space: 2 },
         Flat::Right { by: 1, space: 2 },
@@ -206,7 +206,7 @@ fn moves_again(rt: HostRuntime) -> Result<(), Scale> {
 // h and v go to 2147483647 and to -2147483647, and no farther. The pen is then as it was, w too.
 #[test]
 fn overflows(rt: HostRuntime) -> Result<(), Scale> {
-    let mut pen = Pen::new(half_a_dot()?);
+    let mut pen = Pen::new(rt.alloc(), half_a_dot()?);
     let overflow = Err(PenStop::Fault(PenFault::Overflow));
     assert_eq!(rt;
         pen.step(&Flat::W {

@@ -1,5 +1,8 @@
 //! Commands read from bytes, with values worked out by hand.
 
+mod fields;
+mod refusals;
+
 use super::*;
 
 /// A whole document of one page with one rule.
@@ -57,6 +60,25 @@ fn reads_each_command_of_a_document(rt: HostRuntime) {
     );
     let end = Command::PostPost { post: 70, id: 2 };
     assert_eq!(rt; read_command(&ONE_RULE, 99, Context::Post), Ok((end, 105)));
+}
+
+/// Whether each part of a command is too short.
+fn is_short_when_cut(command: &[u8], context: Context) -> bool {
+    for len in 0..command.len() {
+        if read_command(&command[..len], 0, context) != Err(CommandFault::Short) {
+            return false;
+        }
+    }
+    true
+}
+
+#[test]
+fn cut_commands_are_short(rt: HostRuntime) {
+    assert!(rt; is_short_when_cut(&ONE_RULE[..15], Context::Start));
+    assert!(rt; is_short_when_cut(&ONE_RULE[15..60], Context::Between));
+    assert!(rt; is_short_when_cut(&ONE_RULE[60..69], Context::Page));
+    assert!(rt; is_short_when_cut(&ONE_RULE[70..99], Context::Between));
+    assert!(rt; is_short_when_cut(&ONE_RULE[99..105], Context::Post));
 }
 
 #[test]
@@ -133,14 +155,4 @@ fn goes_on_behind_a_command(rt: HostRuntime) {
     let (first, place) = command_at(&bytes, 0, Context::Page);
     let left = Command::Right(-1);
     assert_eq!(rt; (first, place), (left, 2));
-}
-
-#[test]
-fn names_the_fault(rt: HostRuntime) {
-    let on_a_page = |bytes: &[u8]| read_command(bytes, 0, Context::Page).map(|read| read.1);
-    assert_eq!(rt; on_a_page(&[]), Err(CommandFault::Short));
-    assert_eq!(rt; on_a_page(&[0xfa]), Err(CommandFault::Undefined(250)));
-    assert_eq!(rt; on_a_page(&[0xf8]), Err(CommandFault::Misplaced(248)));
-    assert_eq!(rt; on_a_page(&[0x41]), Err(CommandFault::NotYet(65)));
-    assert_eq!(rt; on_a_page(&[0x90, 0x00]), Err(CommandFault::Short));
 }

@@ -12,10 +12,10 @@ impl Ending {
         match self {
             Ending::Written => 0,
             Ending::Usage => 1,
-            Ending::Malformed => 2,
-            Ending::Overflow(_) => 3,
+            Ending::Document(_) => 2,
+            Ending::Page { .. } => 3,
             Ending::Input => 6,
-            Ending::Output => 7,
+            Ending::Output(_) => 7,
             Ending::Memory => 9,
         }
     }

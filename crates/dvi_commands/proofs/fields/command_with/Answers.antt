@@ -2,7 +2,33 @@ use Rattle.std.proofs.Common.{◌≡◌, arith, refl}
 use Rattle.std.proofs.lemmas.Int.{ints}
 use Rattle.std.proofs.lemmas.Bool.Decides.{nat_tests}
 use Rattle.dvi_commands.proofs.Motions.{motion, rule, post_post_stored, stored}
+use Rattle.dvi_commands.proofs.Numbered.{font, opcode_font, opcode_set, put, set}
+use Rattle.dvi_commands.proofs.Texts.{are_bytes, special}
 use Rattle.dvi_commands.proofs.fields.command_with.Goals as goal
+
+pub returns-in-0-to-127 : goal.returns-in-0-to-127
+returns-in-0-to-127 c = opcode_set c.args.opcode c.args.fields.now c.args.text.now _ (omega arith) (omega (arith, ints, c.from.ensures)) c.requires.whole c.requires.text
+
+pub returns-in-128-to-131 : goal.returns-in-128-to-131
+returns-in-128-to-131 c =
+    let same : stored c.code.result ≡ c.code.result = omega (arith, ints) in
+    set c.args.opcode c.args.fields.now c.args.text.now c.code.result _ (omega arith) (omega arith) c.requires.whole c.requires.text same c.code.ensures.fits c.code.ensures.written
+
+pub returns-in-133-to-136 : goal.returns-in-133-to-136
+returns-in-133-to-136 c =
+    let same : stored c.code-in-133-to-136.result ≡ c.code-in-133-to-136.result = omega (arith, ints) in
+    put c.args.opcode c.args.fields.now c.args.text.now c.code-in-133-to-136.result _ (omega arith) (omega arith) c.requires.whole c.requires.text same c.code-in-133-to-136.ensures.fits c.code-in-133-to-136.ensures.written
+
+pub returns-in-171-to-234 : goal.returns-in-171-to-234
+returns-in-171-to-234 c = opcode_font c.args.opcode c.args.fields.now c.args.text.now _ (omega arith) (omega arith) (omega (arith, ints, c.from-in-171-to-234.ensures)) c.requires.whole c.requires.text
+
+pub returns-in-235-to-238 : goal.returns-in-235-to-238
+returns-in-235-to-238 c =
+    let same : stored c.code-in-235-to-238.result ≡ c.code-in-235-to-238.result = omega (arith, ints) in
+    font c.args.opcode c.args.fields.now c.args.text.now c.code-in-235-to-238.result _ (omega arith) (omega arith) c.requires.whole c.requires.text same c.code-in-235-to-238.ensures.fits c.code-in-235-to-238.ensures.written
+
+pub returns-in-239-to-242 : goal.returns-in-239-to-242
+returns-in-239-to-242 c = special c.args.opcode c.args.fields.now c.args.text.now (omega arith) (omega arith) c.requires.whole c.requires.text c.requires.not_negative (are_bytes c.args.fields.now (λ k. omega (arith, c.type_inv.fields k)))
 
 pub returns-in-143-to-146 : goal.returns-in-143-to-146
 returns-in-143-to-146 c =

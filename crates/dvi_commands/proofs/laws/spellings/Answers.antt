@@ -1,4 +1,4 @@
-use Rattle.dvi_commands.proofs.Prefix.{no_spelling_begins_another}
+use Rattle.dvi_commands.proofs.Prefix.{no_spelling_begins_another, no_spelling_is_a_proper_prefix}
 use Rattle.dvi_commands.proofs.Told.{spelling_tells_the_command}
 use Rattle.dvi_commands.proofs.Refusals.{spelled_is_not_refused}
 use Rattle.dvi_commands.proofs.laws.spellings.Goals as goal
@@ -11,3 +11,6 @@ returns-clause-told c = spelling_tells_the_command
 
 pub returns-clause-accepted : goal.returns-clause-accepted
 returns-clause-accepted c = spelled_is_not_refused
+
+pub returns-clause-no_prefix : goal.returns-clause-no_prefix
+returns-clause-no_prefix c = no_spelling_is_a_proper_prefix

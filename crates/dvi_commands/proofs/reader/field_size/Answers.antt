@@ -1,7 +1,7 @@
 use Rattle.std.proofs.Common.{true, refl, arith, get_or}
 use Rattle.std.specs.Prelude.{◌==◌}
 use Rattle.std.proofs.lemmas.Bool.{agree_below_at, eqb-true}
-use Rattle.dvi_commands.specs.Spelling.{fixed_size}
+use Rattle.dvi_commands.specs.Refusal.{fixed_size}
 use Rattle.dvi_commands.specs.declared.reader.TheConstants.{FIELD_SIZES}
 use Rattle.dvi_commands.proofs.reader.field_size.Goals as goal
 

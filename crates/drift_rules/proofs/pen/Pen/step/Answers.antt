@@ -1,11 +1,9 @@
-use Rattle.std.proofs.Common.{[], refl}
+use Rattle.drift_rules.specs.Position.{seen_flat, KeepsNear}
+use Rattle.drift_rules.proofs.Near.{steps_keep_near}
+use Rattle.drift_rules.proofs.Held.{held_is_near}
 use Rattle.drift_rules.proofs.pen.Pen.step.Goals as goal
 
-pub returns-in-Ok-clause-moved : goal.returns-in-Ok-clause-moved
-returns-in-Ok-clause-moved c =
-    rw (← c.self.view_is) (c.in-Ok.ensures.after [])
-
-pub returns-in-Err-clause-overflow : goal.returns-in-Err-clause-overflow
-returns-in-Err-clause-overflow c =
-    let stopped = c.in-Err.ensures.overflow in
-    rw (← c.self.view_is, stopped.0) (λ _. rw stopped.0 at (stopped.1 []), λ _. refl)
+pub returns-clause-near : goal.returns-clause-near
+returns-clause-near c =
+    let before : KeepsNear c.args.self.now.conv c.args.self.now.state = rw (← c.self.view_is) (held_is_near c.self.inside.conv _ c.self.invariant) in
+    rw c.change.ensures.same_conversion (steps_keep_near _ c.args.self.now.state c.change.new.self.state (seen_flat c.args.flat.now) before c.in_ok-change.ensures.moved)

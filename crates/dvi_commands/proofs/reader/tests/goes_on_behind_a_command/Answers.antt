@@ -11,7 +11,7 @@ command_at-place-requires-clause-readable g c =
       are = (
         143 ∷ 255 ∷ [],
         147 ∷ [],
-        record { whole = refl; spelled = (1, (omega arith, omega arith, short), refl); allowed = refl; supported = refl },
-        (147 ∷ [], [], record { whole = refl; spelled = (0, refl, refl); allowed = refl; supported = refl }, refl),
+        record { whole = refl; spelled = (1, (omega arith, omega arith, short), refl); allowed = refl },
+        (147 ∷ [], [], record { whole = refl; spelled = (0, refl, refl); allowed = refl }, refl),
       );
     }

@@ -1,0 +1,8 @@
+use Rattle.dvi_run.proofs.Written.{runs_end, runs_of_good_pages}
+use Rattle.dvi_run.proofs.laws.texts.Goals as goal
+
+pub returns-clause-good : goal.returns-clause-good
+returns-clause-good c = runs_of_good_pages
+
+pub returns-clause-stopped : goal.returns-clause-stopped
+returns-clause-stopped c = runs_end

@@ -1,0 +1,201 @@
+//! Files that are no documents, and the lines of all endings.
+
+use super::{PUT_RULE, PUT_RULE_DOTS, document, ends, is_refused, page_text};
+use crate::ending::Ending;
+use crate::note::print;
+use drift_rules::PenFault;
+use dvi_commands::CommandFault;
+use outside::MemOutput;
+use page_index::{DocFault, PostField};
+use std::alloc::Global;
+use std::process::Abort;
+use std::test::Fail;
+
+/// Definitions of font -1: of size 128 and design size 128 with the name `a`, and others in its place.
+macro_rules! font {
+    ($size:literal, $design:literal, $letter:literal) => {
+        [
+            0xf6, 0xff, 0xff, 0xff, 0xff, 0, 0, 0, 0, 0, 0, 0, $size, 0, 0, 0, $design, 0, 1,
+            $letter,
+        ]
+    };
+}
+
+#[test]
+fn tells_where_a_document_is_cut_off(rt: HostRuntime) -> Result<(), Fail> {
+    let alloc = rt.alloc();
+    for n in 0..109 {
+        let line = format!(in alloc; "dvipbm: document: truncated at {n}\n")?;
+        assert!(rt; is_refused(alloc, &PUT_RULE[..n], line.as_bytes())?);
+    }
+    let text = page_text(alloc, &PUT_RULE_DOTS)?;
+    for n in 109..112 {
+        assert!(rt;
+            ends(
+                alloc,
+                &PUT_RULE[..n],
+                (64, 65536),
+                (&[], &[]),
+                0,
+                &text,
+                b""
+            )?
+        );
+    }
+    Ok(())
+}
+
+// Whether the put rule's document with some bytes changed from a place on is refused with this line.
+fn is_refused_with(alloc: Global, at: usize, new: &[u8], line: &[u8]) -> Result<bool, Fail> {
+    let mut bytes = Vec::from_slice(alloc, &PUT_RULE)?;
+    for (byte, new) in bytes.iter_mut().skip(at).zip(new) {
+        *byte = *new;
+    }
+    is_refused(alloc, &bytes, line)
+}
+
+#[test]
+fn tells_which_byte_is_wrong(rt: HostRuntime) -> Result<(), Fail> {
+    let alloc = rt.alloc();
+    let wrong: [(usize, &[u8], &[u8]); 22] = [
+        (0, &[0xf6], b"dvipbm: document: preamble at 0\n"),
+        (1, &[3], b"dvipbm: document: preamble at 1\n"),
+        (4, &[0, 0], b"dvipbm: document: preamble at 2\n"),
+        (6, &[0x80], b"dvipbm: document: preamble at 6\n"),
+        (10, &[0xff], b"dvipbm: document: preamble at 10\n"),
+        // num 2147483647 and den 1
+        (
+            2,
+            &[0x7f, 0xff, 0xff, 0xff, 0, 0, 0, 1],
+            b"dvipbm: document: scale at 2\n",
+        ),
+        (59, &[0xfe], b"dvipbm: document: back pointer at 15\n"),
+        (60, &[0x41], b"dvipbm: document: not yet 65 at 60\n"),
+        (
+            60,
+            &[0xfa],
+            b"dvipbm: document: command undefined 250 at 60\n",
+        ),
+        (
+            60,
+            &[0xf8],
+            b"dvipbm: document: command misplaced 248 at 60\n",
+        ),
+        (
+            60,
+            &[0xf2, 0xff],
+            b"dvipbm: document: command negative length at 60\n",
+        ),
+        (74, &[0x0e], b"dvipbm: document: postamble pointer at 70\n"),
+        (78, &[0xf7], b"dvipbm: document: postamble num at 70\n"),
+        (82, &[4], b"dvipbm: document: postamble den at 70\n"),
+        (86, &[0xe9], b"dvipbm: document: postamble mag at 70\n"),
+        (98, &[2], b"dvipbm: document: postamble pages at 70\n"),
+        (103, &[0x45], b"dvipbm: document: trailer at 100\n"),
+        (104, &[3], b"dvipbm: document: trailer at 104\n"),
+        (105, &[222], b"dvipbm: document: trailer at 105\n"),
+        (111, &[0], b"dvipbm: document: trailer at 111\n"),
+        (
+            99,
+            &[0xf8],
+            b"dvipbm: document: command misplaced 248 at 99\n",
+        ),
+        (
+            69,
+            &[0x8a, 0x8c],
+            b"dvipbm: document: command misplaced 0 at 71\n",
+        ),
+    ];
+    for (at, new, line) in wrong {
+        assert!(rt; is_refused_with(alloc, at, new, line)?, "at {at}");
+    }
+    assert!(rt; is_refused(alloc, b"", b"dvipbm: document: truncated at 0\n")?);
+    Ok(())
+}
+
+#[test]
+fn tells_which_font_is_wrong(rt: HostRuntime) -> Result<(), Fail> {
+    let alloc = rt.alloc();
+    let mut fonts = Vec::from_slice(alloc, &font!(128, 128, 0x61))?;
+    fonts.extend_from_slice(&font!(128, 128, 0x62))?;
+    let bytes = document(alloc, &fonts, &[])?;
+    assert!(rt; is_refused(alloc, &bytes, b"dvipbm: document: font clash -1 at 35\n")?);
+    let bytes = document(alloc, &font!(128, 0, 0x61), &[])?;
+    assert!(rt;
+        is_refused(
+            alloc,
+            &bytes,
+            b"dvipbm: document: font definition -1 at 15\n"
+        )?
+    );
+    Ok(())
+}
+
+#[test]
+fn refuses_too_many_bytes(rt: HostRuntime) -> Result<(), Fail> {
+    let alloc = rt.alloc();
+    let bytes = vec![in alloc; 0u8; 67_108_865]?;
+    let line = b"dvipbm: document: too long at 67108864\n";
+    assert!(rt; ends(alloc, &bytes, (8_000_000, 64), (&[], &[]), 2, b"", line)?);
+    Ok(())
+}
+
+#[test]
+fn has_a_line_for_each_ending(rt: HostRuntime) -> Result<(), Fail> {
+    let alloc = rt.alloc();
+    let short = DocFault::Command {
+        fault: CommandFault::Short,
+        at: 7,
+    };
+    let misplaced = DocFault::Command {
+        fault: CommandFault::Misplaced(140),
+        at: 15,
+    };
+    let mag = DocFault::Postamble {
+        field: PostField::Mag,
+        at: 2_000_000,
+    };
+    let clash = DocFault::FontClash {
+        number: i32::MIN,
+        at: 3,
+    };
+    let deep = Ending::Page {
+        page: 1_000_000,
+        fault: PenFault::StackDeep,
+        at: 12_345,
+    };
+    let lines: [(Ending, &[u8]); 11] = [
+        (Ending::Written, b""),
+        (Ending::Usage, b"dvipbm: usage\n"),
+        (Ending::Input, b"dvipbm: input failed\n"),
+        (Ending::Memory, b"dvipbm: out of memory\n"),
+        (Ending::Output(12), b"dvipbm: page 12: output failed\n"),
+        (deep, b"dvipbm: page 1000000 at 12345: stack deep\n"),
+        (
+            Ending::Document(short),
+            b"dvipbm: document: command short at 7\n",
+        ),
+        (
+            Ending::Document(misplaced),
+            b"dvipbm: document: command misplaced 140 at 15\n",
+        ),
+        (
+            Ending::Document(mag),
+            b"dvipbm: document: postamble mag at 2000000\n",
+        ),
+        (
+            Ending::Document(clash),
+            b"dvipbm: document: font clash -2147483648 at 3\n",
+        ),
+        (
+            Ending::Document(DocFault::TooManyPages { at: 46_000_015 }),
+            b"dvipbm: document: too many pages at 46000015\n",
+        ),
+    ];
+    for (ending, line) in lines {
+        let mut notes = MemOutput::new(alloc, 7, Vec::new(alloc));
+        print(&mut notes, &ending);
+        assert_eq!(rt; notes.bytes(), line);
+    }
+    Ok(())
+}

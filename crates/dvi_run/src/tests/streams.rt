@@ -1,0 +1,66 @@
+//! Words, and inputs, outputs and notes that fail.
+
+use super::{PUT_RULE, PUT_RULE_DOTS, document, ends, numbers, page_text};
+use crate::dvipbm_run;
+use outside::{MemInput, MemOutput};
+use std::process::Abort;
+use std::test::Fail;
+
+#[test]
+fn takes_no_words(rt: HostRuntime) -> Result<(), Fail> {
+    let alloc = rt.alloc();
+    let mut input = MemInput::new(Vec::from_slice(alloc, &PUT_RULE)?, 64, Vec::new(alloc));
+    let mut out = MemOutput::new(alloc, 64, Vec::new(alloc));
+    let mut notes = MemOutput::new(alloc, 64, Vec::new(alloc));
+    let words = vec![in alloc; String::from_str(alloc, "--trace")?]?;
+    let answer = dvipbm_run(alloc, &words, &mut input, &mut out, &mut notes);
+    assert_eq!(rt; answer, 1);
+    assert!(rt; out.bytes().is_empty());
+    assert_eq!(rt; notes.bytes(), b"dvipbm: usage\n".as_slice());
+    Ok(())
+}
+
+#[test]
+fn tells_what_failed(rt: HostRuntime) -> Result<(), Fail> {
+    let alloc = rt.alloc();
+    let line = b"dvipbm: input failed\n";
+    assert!(rt; ends(alloc, &PUT_RULE, (64, 64), (&[1], &[]), 6, b"", line)?);
+    assert!(rt; ends(alloc, &PUT_RULE, (64, 64), (&[2], &[]), 6, b"", line)?);
+    let line = b"dvipbm: page 1: output failed\n";
+    assert!(rt; ends(alloc, &PUT_RULE, (64, 64), (&[], &[1]), 7, b"", line)?);
+    assert!(rt; ends(alloc, &PUT_RULE, (64, 5), (&[], &[2]), 7, b"P4\n25", line)?);
+    Ok(())
+}
+
+#[test]
+fn leaves_a_front_of_the_page_that_failed(rt: HostRuntime) -> Result<(), Fail> {
+    let alloc = rt.alloc();
+    let bytes = document(alloc, &[], &[&PUT_RULE[60..69], &[], &[0x8e]])?;
+    // A page goes out in two writes: its head of 13 bytes, and its rows.
+    let mut text = page_text(alloc, &PUT_RULE_DOTS)?;
+    text.extend_from_slice(b"P4\n2550 3300\n")?;
+    let line = b"dvipbm: page 2: output failed\n";
+    assert!(rt;
+        ends(
+            alloc,
+            &bytes,
+            (4096, 2_000_000),
+            (&[], &[4]),
+            7,
+            &text,
+            line
+        )?
+    );
+    Ok(())
+}
+
+#[test]
+fn keeps_its_status_where_the_notes_fail(rt: HostRuntime) -> Result<(), Fail> {
+    let alloc = rt.alloc();
+    let mut input = MemInput::new(Vec::new(alloc), 64, Vec::new(alloc));
+    let mut out = MemOutput::new(alloc, 64, Vec::new(alloc));
+    let mut notes = MemOutput::new(alloc, 5, numbers(alloc, &[3])?);
+    assert_eq!(rt; dvipbm_run(alloc, &[], &mut input, &mut out, &mut notes), 2);
+    assert_eq!(rt; notes.bytes(), b"dvipbm: do".as_slice());
+    Ok(())
+}

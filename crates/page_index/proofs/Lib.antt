@@ -1,0 +1,14 @@
+mod Contexts
+mod Fields
+mod Filler
+mod FirstFault
+mod Follow
+mod FontTables
+mod Keys
+mod Readings
+mod Runs
+mod Spans
+mod Steps
+mod Begin
+mod Ended
+mod PageEnds

@@ -1,0 +1,7 @@
+pub mod Document
+pub mod Faults
+pub mod Fonts
+pub mod Judged
+pub mod Laws
+pub mod Pages
+pub mod Walked

@@ -1,0 +1,77 @@
+//! What is wrong with a document.
+use dvi_commands::CommandFault;
+use std::alloc::AllocError;
+
+/// A field of the postamble that doesn't agree with what stands before it.
+#[derive(Clone, Copy, Debug, PartialEq, Eq)]
+pub enum PostField {
+    /// The pointer to the last page's beginning.
+    Pointer,
+    Num,
+    Den,
+    Mag,
+    /// The number of pages, modulo 65536.
+    Pages,
+}
+
+/// What is wrong with a document, and at which byte, counted from 0: the first fault from the left.
+/// Knuth, DVItype, "Device-independent file format"; that a fault ends the reading, and the order of
+/// faults that meet, is this project's own choice.
+#[derive(Clone, Copy, Debug, PartialEq, Eq)]
+pub enum DocFault {
+    /// The file ends where a further byte is needed; `at` is its length.
+    Truncated { at: usize },
+    /// The first two bytes aren't 247 and 2, or num, den or mag isn't above 0; `at` is the field's place.
+    Preamble { at: usize },
+    /// No command can be read; `at` is the place of its opcode.
+    Command { fault: CommandFault, at: usize },
+    /// The pointer of the Bop at this place doesn't lead to the Bop before it.
+    BackPointer { at: usize },
+    /// The definition at this place says something else of the font number than one before it.
+    FontClash { number: i32, at: usize },
+    /// A field of the postamble at this place is wrong.
+    Postamble { field: PostField, at: usize },
+    /// A field or a byte behind the postamble is wrong; `at` is its place.
+    Trailer { at: usize },
+    /// A size of the definition at this place isn't between 1 and 2^27 - 1.
+    FontDef { number: i32, at: usize },
+    /// A DVI unit would be more than 512 dots; `at` is the place of num.
+    Scale { at: usize },
+    /// The Bop at this place begins the page numbered 1,000,001.
+    TooManyPages { at: usize },
+    /// The file has more than 67,108,864 bytes; `at` is that number.
+    TooLong { at: usize },
+    /// The command with this opcode stands on a page and isn't drawn yet.
+    NotYet { opcode: u8, at: usize },
+}
+
+/// Why a document was not read.
+#[derive(Clone, Copy, Debug, PartialEq, Eq)]
+pub enum IndexStop {
+    /// Something is wrong with it.
+    Fault(DocFault),
+    /// Memory was wanting.
+    NoMemory,
+}
+
+impl From<DocFault> for IndexStop {
+    ghost use Rattle.std.specs.Prelude.{◌≡◌};
+    ghost use Rattle.page_index.specs.declared.faults.IndexStop.TheVariants.{Fault};
+
+    ghost from_gives = { λ f stop. stop ≡ Fault f };
+
+    fn from(fault: DocFault) -> IndexStop {
+        IndexStop::Fault(fault)
+    }
+}
+
+impl From<AllocError> for IndexStop {
+    ghost use Rattle.std.specs.Prelude.{◌≡◌};
+    ghost use Rattle.page_index.specs.declared.faults.IndexStop.TheVariants.{NoMemory};
+
+    ghost from_gives = { λ _ stop. stop ≡ NoMemory };
+
+    fn from(_: AllocError) -> IndexStop {
+        IndexStop::NoMemory
+    }
+}

@@ -1,0 +1,134 @@
+//! The walk over a document's commands.
+ghost use Rattle.std.specs.Prelude.{◌≡◌, ◌<◌, ◌≤◌, IfErr, OnOk, None, drop, false, length, true};
+ghost use Rattle.dvi_commands.specs.Spelling.{Define, seen};
+ghost use Rattle.page_index.specs.Judged.{postpost_fault};
+ghost use Rattle.page_index.specs.Faults.{IsStopFor, as_doc_fault, is_not_yet_at, is_postpost_at};
+ghost use Rattle.page_index.specs.Walked.{EarlyFault, IsBegun, IsReadTo, definition, fonts_after, pages_after, progress_after};
+
+use crate::faults::{DocFault, IndexStop};
+use crate::fonts::{FontTable, key};
+use crate::preamble::Scaled;
+use crate::progress::{PageSpan, Progress, is_not_yet};
+use crate::trailer;
+use dvi_commands::{Command, CommandFault, Context, FontDef, read_command};
+use std::alloc::{AllocError as NoMemory, Global};
+
+const POSTPOST: u8 = 249;
+
+/// The pages and fonts that were read so far, and how far that is.
+#[derive(Drop)]
+pub struct Walk {
+    pub progress: Progress,
+    pub pages: Vec<PageSpan>,
+    pub fonts: FontTable,
+}
+
+// The fault that stands for a refusal at a place.
+fn doc_fault(fault: CommandFault, bytes: &[u8], at: usize) -> DocFault
+    requires { at ≤ length bytes.now }
+    ensures { result ≡ as_doc_fault at (drop at bytes.now) fault }
+{
+    match fault {
+        CommandFault::Short => DocFault::Truncated { at: bytes.len() },
+        CommandFault::Undefined(_) | CommandFault::Misplaced(_) | CommandFault::NegativeLength =>
+            DocFault::Command { fault, at },
+    }
+}
+
+// Judges what is judged before a command is whole: one that isn't drawn yet, and the fields of PostPost.
+fn judge_opcode(
+    bytes: &[u8],
+    at: usize,
+    context: Context,
+    post: Option<usize>,
+) -> Result<(), DocFault>
+    requires { at ≤ length bytes.now }
+    ensures drawn { OnOk result (is_not_yet_at context (drop at bytes.now) ≡ false) }
+    ensures postpost { OnOk result (is_postpost_at context (drop at bytes.now) ≡ true
+        → postpost_fault post at (drop at bytes.now) ≡ None) }
+    ensures fault { IfErr result (λ fault. EarlyFault context post at (drop at bytes.now) fault) }
+{
+    let Some(&opcode) = bytes.get(at) else {
+        return Ok(());
+    };
+    if is_not_yet(context, opcode) {
+        return Err(DocFault::NotYet { opcode, at });
+    }
+    match context {
+        Context::Post if opcode == POSTPOST => trailer::judge(bytes, at, post),
+        _ => Ok(()),
+    }
+}
+
+impl Walk {
+    /// Behind a preamble that was judged.
+    pub fn begin(alloc: Global, bytes: &[u8], first: &Scaled) -> Walk
+        requires { IsBegun bytes.now first.now }
+        ensures { IsReadTo bytes.now first.now result.progress result.pages.items result.fonts }
+    {
+        let next = match read_command(bytes, 0, Context::Start) {
+            Ok((_, next)) => next,
+            Err(_) => unreachable!(),
+        };
+        Walk {
+            progress: Progress::behind_preamble(next),
+            pages: Vec::new(alloc),
+            fonts: FontTable::new(alloc),
+        }
+    }
+
+    // Keeps a definition, unless the number has one.
+    fn define(&mut self, alloc: Global, def: &FontDef) -> Result<(), NoMemory>
+        ensures fonts { OnOk result (self.new.fonts ≡ fonts_after self.old.fonts (Define (definition def.now))) }
+        ensures progress { self.new.progress ≡ self.old.progress }
+        ensures pages { self.new.pages ≡ self.old.pages }
+    {
+        if self.fonts.get(def.number).is_none() {
+            self.fonts.add(def.number, key(alloc, def)?)?;
+        }
+        Ok(())
+    }
+
+    // Keeps what a command says of pages and fonts.
+    fn keep(&mut self, alloc: Global, command: &Command) -> Result<(), NoMemory>
+        ensures progress { self.new.progress ≡ self.old.progress }
+        ensures pages { OnOk result (self.new.pages.items ≡ pages_after self.old.progress self.old.pages.items (seen command.now)) }
+        ensures fonts { OnOk result (self.new.fonts ≡ fonts_after self.old.fonts (seen command.now)) }
+    {
+        match command {
+            Command::Define(def) => self.define(alloc, def),
+            Command::Eop => {
+                self.pages.push(PageSpan {
+                    start: self.progress.start,
+                    end: self.progress.at,
+                })?;
+                Ok(())
+            }
+            _ => Ok(()),
+        }
+    }
+
+    /// Reads one command more.
+    pub fn step(&mut self, alloc: Global, bytes: &[u8], first: &Scaled) -> Result<(), IndexStop>
+        requires read { IsReadTo bytes.now first.now self.old.progress self.old.pages.items self.old.fonts }
+        requires going { self.old.progress.is_ended ≡ false }
+        ensures read { OnOk result (IsReadTo bytes.now first.now self.new.progress self.new.pages.items self.new.fonts) }
+        ensures grows { OnOk result (self.old.progress.at < self.new.progress.at) }
+        ensures stop { IfErr result (λ stop. IsStopFor stop first.now.units.res bytes.now) }
+    {
+        let Progress { at, context, .. } = self.progress;
+        if let Err(fault) = judge_opcode(bytes, at, context, self.progress.post) {
+            return Err(IndexStop::Fault(fault));
+        }
+        let (command, next) = match read_command(bytes, at, context) {
+            Ok(read) => read,
+            Err(fault) => return Err(IndexStop::Fault(doc_fault(fault, bytes, at))),
+        };
+        if let Some(fault) = self.progress.fault_of(first, &self.fonts, &command) {
+            return Err(IndexStop::Fault(fault));
+        }
+        self.keep(alloc, &command)?;
+        self.progress = self.progress.after(&command, next);
+        Ok(())
+    }
+}
