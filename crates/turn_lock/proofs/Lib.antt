@@ -1,0 +1,11 @@
+pub mod Prefixes
+pub mod OwnCalls
+pub mod Longer
+pub mod OneView
+pub mod Lines
+pub mod Joining
+pub mod Closing
+pub mod Keeps
+pub mod Says
+pub mod BetweenCalls
+pub mod TwoSeats

@@ -1,0 +1,9 @@
+pub mod Codes
+pub mod Diaries
+pub mod Histories
+pub mod Laws
+pub mod RuleParts
+pub mod Seats
+pub mod Steps
+pub mod TurnRule
+pub mod Views

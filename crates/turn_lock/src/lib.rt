@@ -1,0 +1,18 @@
+//! A lock whose value goes from seat to seat in the order in which turns were drawn: a ticket lock.
+//! Its value keeps a history, and each seat knows a beginning of that history that it has seen. The
+//! rule that holds between any two steps of all seats stands in `specs/TurnRule.antt`.
+#![tactic(auto)]
+
+pub mod example;
+pub mod laws;
+mod lock;
+mod seat;
+mod steps;
+mod view;
+
+pub use lock::TurnLock;
+pub use seat::Seat;
+pub use view::{Stage, View};
+
+#[cfg(test)]
+mod tests;

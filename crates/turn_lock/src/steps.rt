@@ -1,0 +1,80 @@
+//! The rule of the lock, and what each step tells. These types are for the proofs alone.
+use crate::view::View;
+use atomic_table::{Join, Play, Split, TableRule};
+use cache_core::{About, Told};
+
+pub struct Turns;
+
+impl<T: Told> TableRule<Option<T>, View, About> for Turns {
+    ghost use Rattle.turn_lock.specs.TurnRule.{TurnRule};
+    ghost use Rattle.turn_lock.specs.Views.{opening_view};
+
+    ghost holds = { λ about. TurnRule T.history T.turns T.stands about.part };
+
+    ghost first = { λ about. opening_view about.part };
+}
+
+// Draws a ticket.
+pub struct Draw;
+
+impl<T> Play<Option<T>, View> for Draw {
+    ghost use Rattle.turn_lock.specs.Steps.{Drew};
+
+    ghost then = { Drew };
+}
+
+// Reads which ticket is served.
+pub struct Look;
+
+impl<T: Told> Play<Option<T>, View> for Look {
+    ghost use Rattle.turn_lock.specs.Steps.{Looked};
+
+    ghost then = { Looked T.history T.turns T.stands };
+}
+
+// Serves the next ticket.
+pub struct HandOn;
+
+impl<T: Told> Play<Option<T>, View> for HandOn {
+    ghost use Rattle.turn_lock.specs.Steps.{HandedOn};
+
+    ghost then = { HandedOn T.history };
+}
+
+// Seat 0 is told of the number that it makes next.
+pub struct AskNext;
+
+impl<T> Play<Option<T>, View> for AskNext {
+    ghost use Rattle.turn_lock.specs.Steps.{Asked};
+
+    ghost then = { Asked };
+}
+
+// Seat 0 compares what it had seen with what the seat had that it took in.
+pub struct Compare;
+
+impl<T> Play<Option<T>, View> for Compare {
+    ghost use Rattle.turn_lock.specs.Steps.{ComparedAll};
+
+    ghost then = { ComparedAll };
+}
+
+pub struct SplitOff;
+
+impl Split<View> for SplitOff {
+    ghost use Rattle.turn_lock.specs.Views.{split_view, new_view};
+
+    ghost left = { split_view };
+
+    ghost right = { new_view };
+}
+
+pub struct TakeIn;
+
+impl Join<View> for TakeIn {
+    ghost use Rattle.turn_lock.specs.Views.{comparing_view, spent_view};
+
+    ghost both = { comparing_view };
+
+    ghost spent = { spent_view };
+}

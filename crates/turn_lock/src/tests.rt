@@ -1,0 +1,246 @@
+//! Threads that take turns over a diary of who was there.
+ghost use Rattle.std.specs.Prelude.{◌≡◌, ◌+◌, ◌^◌, ◌≤◌, All, length, IfSome, IsTrue};
+ghost use Rattle.cache_core.specs.Histories.{own};
+ghost use Rattle.turn_lock.specs.declared.view.Stage.TheVariants.{Idle};
+ghost use Rattle.turn_lock.specs.Diaries.{calls_by};
+
+use crate::example::{Diary, turn, two_turns};
+use crate::{Seat, TurnLock};
+use std::alloc::Global;
+use std::sync::Wait;
+use std::sync::atomic::{AtomicU32, Ordering};
+use std::test::Fail;
+use std::thread;
+use std::thread::Threads;
+
+// Waits until so many threads have come, and says whether they came.
+fn meet(gate: &AtomicU32, all: u32) -> bool {
+    gate.fetch_add(1, Ordering::SeqCst);
+    for _ in 0..1_000_000u32 {
+        if gate.load(Ordering::SeqCst) >= all {
+            return true;
+        }
+        thread::yield_now();
+    }
+    false
+}
+
+// So many turns. False where memory was wanting.
+fn turns<R: Wait>(rt: &R, lock: &TurnLock<Diary>, seat: &mut Seat<Diary>, count: u64) -> bool
+    requires lock { seat.old.lock ≡ lock.now }
+    requires idle { seat.old.view.stage ≡ Idle }
+    requires room { seat.old.view.drawn + count ≤ 2 ^ 48 }
+    ensures lock { seat.new.lock ≡ seat.old.lock }
+    ensures idle { seat.new.view.stage ≡ Idle }
+    ensures number { seat.new.view.number ≡ seat.old.view.number }
+    ensures all { IsTrue result → length (own seat.old.view.number seat.new.view.seen)
+        ≡ length (own seat.old.view.number seat.old.view.seen) + count }
+{
+    let mut all = true;
+    for _i in 0..count {
+        all = turn(rt, lock, seat).is_ok() && all;
+    }
+    all
+}
+
+// Two threads meet, and then take so many turns each. With an answer, the diary has as many calls of each seat.
+fn two<R: Threads + Wait + Sync>(rt: &R, alloc: Global, count: u64) -> Option<Diary>
+    requires { count ≤ 2 ^ 48 }
+    ensures one { IfSome result (λ d. length (own 1 (calls_by d.seats.items)) ≡ count) }
+    ensures two { IfSome result (λ d. length (own 2 (calls_by d.seats.items)) ≡ count) }
+{
+    let Ok((lock, mut first)) = TurnLock::make(alloc, Diary::new(alloc)) else {
+        return None;
+    };
+    let one = lock.split(&mut first);
+    let two = lock.split(&mut first);
+    let by = &lock;
+    let gate = AtomicU32::new(0);
+    let met = &gate;
+    let ((one, ones), (two, twos)) = thread::join(
+        rt,
+        move || -> (Seat<Diary>, bool)
+            requires { (one.lock ≡ by.now) × (one.view.stage ≡ Idle) × (one.view.drawn + count ≤ 2 ^ 48) }
+            ensures lock { result.0.lock ≡ one.lock }
+            ensures idle { result.0.view.stage ≡ Idle }
+            ensures number { result.0.view.number ≡ one.view.number }
+            ensures all { IsTrue result.1 → length (own one.view.number result.0.view.seen)
+                ≡ length (own one.view.number one.view.seen) + count }
+        {
+            let mut one = one;
+            let all = meet(met, 2) && turns(rt, by, &mut one, count);
+            (one, all)
+        },
+        move || -> (Seat<Diary>, bool)
+            requires { (two.lock ≡ by.now) × (two.view.stage ≡ Idle) × (two.view.drawn + count ≤ 2 ^ 48) }
+            ensures lock { result.0.lock ≡ two.lock }
+            ensures idle { result.0.view.stage ≡ Idle }
+            ensures number { result.0.view.number ≡ two.view.number }
+            ensures all { IsTrue result.1 → length (own two.view.number result.0.view.seen)
+                ≡ length (own two.view.number two.view.seen) + count }
+        {
+            let mut two = two;
+            let all = meet(met, 2) && turns(rt, by, &mut two, count);
+            (two, all)
+        },
+    );
+    lock.join(&mut first, one);
+    lock.join(&mut first, two);
+    let diary = lock.close(first);
+    if ones && twos { Some(diary) } else { None }
+}
+
+// The first thread has the turn when the second asks for it, and gives after a long wait.
+fn late<R: Threads + Wait + Sync>(rt: &R, alloc: Global) -> Option<Diary> {
+    let Ok((lock, mut first)) = TurnLock::make(alloc, Diary::new(alloc)) else {
+        return None;
+    };
+    let one = lock.split(&mut first);
+    let two = lock.split(&mut first);
+    let by = &lock;
+    let gate = AtomicU32::new(0);
+    let met = &gate;
+    let (one, two) = thread::join(
+        rt,
+        move || -> bool
+            requires { (one.lock ≡ by.now) × (one.view.stage ≡ Idle) × (one.view.drawn ≡ 0) }
+        {
+            let mut one = one;
+            let mut diary = by.take(rt, &mut one);
+            let asked = meet(met, 2);
+            for _ in 0..10_000u32 {
+                thread::yield_now();
+            }
+            let noted = diary.note(one.number());
+            by.give(&mut one, diary);
+            asked && noted.is_ok()
+        },
+        move || -> bool
+            requires { (two.lock ≡ by.now) × (two.view.stage ≡ Idle) × (two.view.drawn ≡ 0) }
+        {
+            let mut two = two;
+            meet(met, 2) && turn(rt, by, &mut two).is_ok()
+        },
+    );
+    let diary = lock.take(rt, &mut first);
+    if one && two { Some(diary) } else { None }
+}
+
+// Eight seats that drew nothing.
+fn eight_seats(
+    alloc: Global,
+    lock: &TurnLock<Diary>,
+    first: &mut Seat<Diary>,
+) -> Option<Vec<Seat<Diary>>>
+    requires lock { first.old.lock ≡ lock.now }
+    requires first { (first.old.view.number ≡ 0) × (first.old.view.made ≡ 1) }
+    ensures first { (first.new.lock ≡ first.old.lock) × (first.new.view.stage ≡ first.old.view.stage) × (first.new.view.drawn ≡ first.old.view.drawn) }
+    ensures seats { IfSome result (λ seats. All (λ s. (s.lock ≡ lock.now) × (s.view.stage ≡ Idle) × (s.view.drawn ≡ 0)) seats.items) }
+{
+    let mut seats = Vec::new(alloc);
+    for _i in 0..8u32 {
+        let seat = lock.split(first);
+        if seats.push(seat).is_err() {
+            return None;
+        }
+    }
+    Some(seats)
+}
+
+// Each seat takes so many turns in a thread of its own, once all threads have met.
+fn all_turns<R: Threads + Wait + Sync>(
+    rt: &R,
+    lock: &TurnLock<Diary>,
+    seats: &mut [Seat<Diary>],
+    count: u64,
+) -> bool
+    requires seats { All (λ s. (s.lock ≡ lock.now) × (s.view.stage ≡ Idle) × (s.view.drawn ≡ 0)) seats.old }
+    requires room { count ≤ 2 ^ 48 }
+{
+    let gate = AtomicU32::new(0);
+    let good = AtomicU32::new(0);
+    thread::for_each_mut(
+        rt,
+        seats,
+        8,
+        &|_, seat: &mut Seat<Diary>|
+            requires { (seat.old.lock ≡ lock.now) × (seat.old.view.stage ≡ Idle) × (seat.old.view.drawn + count ≤ 2 ^ 48) }
+        {
+            if meet(&gate, 8) && turns(rt, lock, seat, count) {
+                good.fetch_add(1, Ordering::SeqCst);
+            }
+        },
+    );
+    good.load(Ordering::SeqCst) == 8
+}
+
+// Eight threads, each with a seat of its own.
+fn eight<R: Threads + Wait + Sync>(rt: &R, alloc: Global, count: u64) -> Option<Diary>
+    requires { count ≤ 2 ^ 48 }
+{
+    let Ok((lock, mut first)) = TurnLock::make(alloc, Diary::new(alloc)) else {
+        return None;
+    };
+    let mut seats = eight_seats(alloc, &lock, &mut first)?;
+    let good = all_turns(rt, &lock, &mut seats, count);
+    let diary = lock.take(rt, &mut first);
+    if good { Some(diary) } else { None }
+}
+
+// The numbers of two seats, and how many turns the first drew.
+fn counts<R: Wait>(rt: &R, alloc: Global) -> Option<(u32, u32, u64)> {
+    let Ok((lock, mut first)) = TurnLock::make(alloc, Diary::new(alloc)) else {
+        return None;
+    };
+    let second = lock.split(&mut first);
+    let noted = turn(rt, &lock, &mut first).is_ok() && turn(rt, &lock, &mut first).is_ok();
+    if noted {
+        Some((first.number(), second.number(), first.drawn()))
+    } else {
+        None
+    }
+}
+
+#[test]
+fn numbers_and_turns_of_seats(rt: HostRuntime) -> Result<(), Fail> {
+    assert_eq!(rt; counts(&rt, rt.alloc()), Some((0, 1, 2)));
+    Ok(())
+}
+
+#[test]
+fn two_turns_in_order(rt: HostRuntime) -> Result<(), Fail> {
+    let diary = two_turns(&rt, rt.alloc())?;
+    assert_eq!(rt; diary.seats.as_slice(), [0, 1].as_slice());
+    assert_eq!(rt; diary.turns, 2);
+    Ok(())
+}
+
+#[test]
+fn turns_two(rt: HostRuntime) -> Result<(), Fail> {
+    let diary = two(&rt, rt.alloc(), 100).ok_or("memory was wanting, or the threads did not meet")?;
+    assert_eq!(rt; diary.seats.len(), 200);
+    assert_eq!(rt; diary.turns, 200);
+    for seat in [1, 2] {
+        assert_eq!(rt; diary.seats.iter().filter(|&&s| s == seat).count(), 100);
+    }
+    Ok(())
+}
+
+#[test]
+fn a_turn_given_late(rt: HostRuntime) -> Result<(), Fail> {
+    let diary = late(&rt, rt.alloc()).ok_or("memory was wanting, or the threads did not meet")?;
+    assert_eq!(rt; diary.seats.as_slice(), [1, 2].as_slice());
+    Ok(())
+}
+
+#[test]
+fn eight_threads_of_a_thousand_turns(rt: HostRuntime) -> Result<(), Fail> {
+    let diary = eight(&rt, rt.alloc(), 1000).ok_or(
+        "memory was wanting, or the threads did not meet",
+    )?;
+    assert_eq!(rt; diary.turns, 8000);
+    for seat in 1..9 {
+        assert_eq!(rt; diary.seats.iter().filter(|&&s| s == seat).count(), 1000);
+    }
+    Ok(())
+}
