@@ -7,3 +7,7 @@ pub mod Blackened
 pub mod StoredBitmaps
 pub mod Counts
 pub mod Copied
+pub mod Shifts
+pub mod Joined
+pub mod Stamping
+pub mod SetRasters

@@ -2,3 +2,4 @@ pub mod Bitmap
 pub mod Packing
 pub mod Stored
 pub mod Changes
+pub mod Stamped

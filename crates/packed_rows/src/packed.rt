@@ -1,13 +1,16 @@
 //! A bitmap of packed rows.
 
-ghost use Rattle.std.specs.Prelude.{◌≡◌, ◌+◌, ◌^◌, ◌<◌, ◌≤◌, [], IfOk, slice_index_or};
+ghost use Rattle.std.specs.Prelude.{◌≡◌, ◌+◌, ◌^◌, ◌<◌, ◌≤◌, [], IfOk, slice_index_or, ℤ, pos, neg_ℤ, ◌≤ℤ◌, ◌<ℤ◌};
 ghost use Rattle.std.specs.List.{flat_map};
 ghost use Rattle.packed_rows.specs.Bitmap.{is_black};
 ghost use Rattle.packed_rows.specs.Changes.{white_bitmap, with_black, with_copies, black_count};
+ghost use Rattle.packed_rows.specs.Stamped.{with_raster};
 ghost use Rattle.packed_rows.specs.Packing.{row_text, pixels_of, IsPadded};
 
+use crate::offset::{offset_of, reached};
 use crate::row::{is_black, row_bytes};
 use crate::rows::{Span, blacken_rows, copy_rows};
+use crate::stamps::stamp_rows;
 use std::alloc::{AllocError as NoMemory, Global};
 use std::marker::Model;
 
@@ -89,6 +92,30 @@ impl PackedBitmap {
         copy_rows(&mut self.bytes, row_bytes(self.width), y, copies);
     }
 
+    /// Sets a raster on the bitmap, with its upper left pixel in column `x` of row `y`: the pixels that lie on a
+    /// black one of the raster become black, the others stay. What lies beside the bitmap is cut off.
+    pub fn stamp(&mut self, raster: &PackedBitmap, x: i64, y: i64)
+        requires x_low { neg_ℤ (pos (2 ^ 42)) ≤ℤ x }
+        requires x_high { x <ℤ pos (2 ^ 42) }
+        requires y_low { neg_ℤ (pos (2 ^ 42)) ≤ℤ y }
+        requires y_high { y <ℤ pos (2 ^ 42) }
+        ensures { self.new ≡ with_raster self.old raster.now x y }
+    {
+        let across = offset_of(x);
+        let down = offset_of(y);
+        let rows = reached(down, raster.height as usize, self.height as usize);
+        let stride = row_bytes(raster.width);
+        stamp_rows(
+            &mut self.bytes,
+            self.width,
+            &raster.bytes,
+            stride,
+            across,
+            down,
+            rows,
+        );
+    }
+
     /// The bytes of row `y`: eight pixels a byte, the first in the high bit, 1 for black, and zero bits behind the last.
     pub fn row(&self, y: u32) -> &[u8]
         requires { y < self.now.height }
@@ -141,6 +168,22 @@ mod tests {
         assert_eq!(rt; bitmap.row(2), [0x03, 0xc0].as_slice());
         assert!(rt; bitmap.is_black(6, 2) && !bitmap.is_black(5, 2));
         assert_eq!(rt; bitmap.count(), 8);
+        Ok(())
+    }
+
+    #[test]
+    fn a_raster_is_set_across_bytes(rt: HostRuntime) -> Result<(), Fail> {
+        let mut raster = PackedBitmap::white(rt.alloc(), 10, 2)?;
+        raster.blacken(Span { from: 0, until: 10 }, Span { from: 0, until: 1 });
+        let mut bitmap = PackedBitmap::white(rt.alloc(), 20, 3)?;
+        bitmap.stamp(&raster, 5, 1);
+        bitmap.stamp(&raster, -8, 0);
+        bitmap.stamp(&raster, 19, 2);
+        bitmap.stamp(&raster, 0, -1);
+        assert_eq!(rt;
+            bitmap.rows(),
+            [0xc0, 0, 0, 0x07, 0xfe, 0, 0, 0, 0x10].as_slice()
+        );
         Ok(())
     }
 }

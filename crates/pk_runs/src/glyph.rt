@@ -73,4 +73,13 @@ impl Raster {
     {
         self.bits.is_black(x, y)
     }
+
+    /// The pixels as a packed bitmap, for whoever sets the raster on a page.
+    pub fn bits(&self) -> &PackedBitmap
+        ensures value { result.now ≡ self.now }
+        ensures narrow { result.now.width ≤ 16384 }
+        ensures low { result.now.height ≤ 16384 }
+    {
+        &self.bits
+    }
 }

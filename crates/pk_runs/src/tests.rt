@@ -102,6 +102,7 @@ fn rasters_of_given_rows(rt: HostRuntime) -> Result<(), Fail> {
     let given = Raster::of(rt.alloc(), &rows)?;
     assert_eq!(rt; (given.width(), given.height()), (3, 2));
     assert_eq!(rt; (row_of(&given, 0), row_of(&given, 1)), (0b101, 0b001));
+    assert_eq!(rt; given.bits().rows(), [0xa0, 0x20].as_slice());
     let none = Raster::of(rt.alloc(), &[])?;
     assert_eq!(rt; (none.width(), none.height()), (0, 0));
     Ok(())

@@ -1,11 +1,11 @@
 -- Pages of marks.
-use Rattle.std.proofs.Common.{◌≡◌, ℕ, ℤ, pos, ◌+ℤ◌, int_le, int_lt, ◌&&◌, subst, ◌<◌, Bool, true, false, ◌||◌, List, [], ◌∷◌, ◌++◌, refl, ap, ◌∙◌}
+use Rattle.std.proofs.Common.{◌≡◌, ℕ, ℤ, pos, ◌+ℤ◌, int_le, int_lt, ◌&&◌, subst, ◌<◌, Bool, true, false, ◌||◌, List, [], ◌∷◌, ◌++◌, refl, ap, sym, ◌∙◌}
 use Rattle.std.specs.List.{list_any}
 use Rattle.std.proofs.lemmas.List.Folds.{list_any-append}
 use Rattle.packed_rows.specs.Bitmap.{Bitmap, is_black}
 use Rattle.packed_rows.specs.Changes.{is_within, with_black}
 use Rattle.packed_rows.proofs.StoredBitmaps.{dot_of, same_dots}
-use Rattle.raster_page.specs.Ink.{Inked, Bar, covers, is_inked, page_of, with_mark, MarksAdd, NewestMayStandLast, DotsAreDecidedAlone}
+use Rattle.raster_page.specs.Ink.{Inked, Bar, covers, is_inked, page_of, with_mark, MarksAdd, NewestMayStandLast, DotsAreDecidedAlone, MarksCommute}
 
 abbrev made : ℕ → ℕ → List (List Bool) → Bitmap
 made width height rows = record { width = width; height = height; rows = rows }
@@ -30,6 +30,17 @@ newest_may_stand_last width height marks mark = ap (made width height) (same_dot
 -- a dot of a page on which one more mark is set
 pub marked_dot : (page : Bitmap) (mark : Inked) (x y : ℕ) → x < page.width → y < page.height → is_black (with_mark page mark) x y ≡ (covers x y mark || is_black page x y)
 marked_dot page mark x y in_row on_page = dot_of page.width page.height x y (λ k r. covers k r mark || is_black page k r) in_row on_page
+
+pub marks_commute : MarksCommute
+marks_commute page first second = ap (made page.width page.height) (same_dots page.width page.height (λ x y. covers x y second || is_black (with_mark page first) x y) (λ x y. covers x y first || is_black (with_mark page second) x y)
+    (λ x y in_row on_page. ap (λ b. covers x y second || b) (marked_dot page first x y in_row on_page) ∙ swapped (covers x y second) (covers x y first) (is_black page x y)
+    ∙ sym (ap (λ b. covers x y first || b) (marked_dot page second x y in_row on_page))))
+  where
+    swapped : (a b c : Bool) → (a || (b || c)) ≡ (b || (a || c))
+    swapped true true c = refl
+    swapped true false c = refl
+    swapped false true c = refl
+    swapped false false c = refl
 
 -- ---- a rule
 

@@ -1,4 +1,4 @@
-//! A page of dots: blank, with black rectangles set on it, read dot by dot or as the packed rows that a
+//! A page of dots: blank, with black rectangles and rasters set on it, read dot by dot or as the packed rows that a
 //! PBM file holds.
 #![tactic(auto)]
 
@@ -8,5 +8,5 @@ mod span;
 #[cfg(test)]
 mod tests;
 
-pub use laws::marks;
+pub use laws::{either_order, marks};
 pub use page::Page;

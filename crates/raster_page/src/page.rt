@@ -4,7 +4,7 @@ ghost use Rattle.std.specs.Prelude.{◌≡◌, ℕ, ◌*◌, ◌^◌, ◌<◌, �
 ghost use Rattle.std.specs.List.{flat_map};
 ghost use Rattle.packed_rows.specs.Bitmap.{Bitmap, is_black};
 ghost use Rattle.packed_rows.specs.Packing.{row_text, pixels_of, IsPadded};
-ghost use Rattle.raster_page.specs.Ink.{Inked, Bar, covers, page_of, with_mark};
+ghost use Rattle.raster_page.specs.Ink.{Inked, Dots, Bar, covers, page_of, with_mark};
 ghost use Rattle.packed_rows.specs.Changes.{black_count};
 
 use crate::span::clipped;
@@ -91,6 +91,23 @@ impl Page {
         let columns = clipped(x, w, self.dots.width());
         let rows = clipped(y, h, self.dots.height());
         self.dots.blacken(columns, rows);
+    }
+
+    /// Makes the dots of the page black that lie on a black pixel of the bitmap, whose upper left pixel lies in
+    /// column `x` of row `y`. The others stay. What lies beside the page is cut off.
+    pub fn stamp(&mut self, bitmap: &PackedBitmap, x: i64, y: i64)
+        requires x_low { neg_ℤ (pos (2 ^ 42)) ≤ℤ x }
+        requires x_high { x <ℤ pos (2 ^ 42) }
+        requires y_low { neg_ℤ (pos (2 ^ 42)) ≤ℤ y }
+        requires y_high { y <ℤ pos (2 ^ 42) }
+
+        ensures ink { self.new ≡ with_mark self.old (Dots bitmap.now x y) }
+        ensures dots { (column row : ℕ) → column < self.old.width → row < self.old.height →
+            is_black self.new column row ≡ (covers column row (Dots bitmap.now x y) || is_black self.old column row) }
+        ensures marks { (marks : List Inked) → self.old ≡ page_of self.old.width self.old.height marks →
+            self.new ≡ page_of self.old.width self.old.height (Dots bitmap.now x y ∷ marks) }
+    {
+        self.dots.stamp(bitmap, x, y);
     }
 
     /// The bytes of row `y`: eight dots a byte, the first in the high bit, 1 for black, and zero bits behind the last.

@@ -1,6 +1,7 @@
 //! Small pages, with bytes worked out by hand.
 
 use crate::Page;
+use packed_rows::{PackedBitmap, Span};
 use std::test::Fail;
 
 #[test]
@@ -64,5 +65,20 @@ fn rules_beside_the_page_leave_it(rt: HostRuntime) -> Result<(), Fail> {
     );
     assert_eq!(rt; page.rows(), [0xff, 0x80, 0xff, 0x80].as_slice());
     assert_eq!(rt; page.count(), 18);
+    Ok(())
+}
+
+#[test]
+fn a_bitmap_is_set_beside_a_rule(rt: HostRuntime) -> Result<(), Fail> {
+    let mut bitmap = PackedBitmap::white(rt.alloc(), 4, 4)?;
+    bitmap.blacken(Span { from: 0, until: 4 }, Span { from: 0, until: 4 });
+    let mut page = Page::blank(rt.alloc(), 10, 4)?;
+    page.stamp(&bitmap, -2, -2);
+    page.rule(4, 1, 1, 2);
+    page.stamp(&bitmap, 9, 2);
+    assert_eq!(rt;
+        page.rows(),
+        [0xc0, 0, 0xc8, 0, 0x08, 0x40, 0, 0x40].as_slice()
+    );
     Ok(())
 }

@@ -1,0 +1,10 @@
+//! Sets glyphs on a page of dots.
+#![tactic(auto)]
+
+mod glyph;
+mod laws;
+#[cfg(test)]
+mod tests;
+
+pub use glyph::paint;
+pub use laws::glyphs;

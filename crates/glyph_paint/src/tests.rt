@@ -1,0 +1,172 @@
+//! Small pages, with bytes worked out by hand.
+
+use crate::paint;
+use pk_runs::{Raster, RunStop, raster};
+use raster_page::Page;
+use std::alloc::Global;
+use std::test::Fail;
+
+// Rows 101 and 011.
+fn step(alloc: Global) -> Result<Raster, RunStop> {
+    raster(alloc, &[0xac], 14, true, 3, 2)
+}
+
+// Rows 11111111111111111111, 10000000000000000001 and 11001010010111000011.
+fn wide(alloc: Global) -> Result<Raster, RunStop> {
+    raster(
+        alloc,
+        &[0xff, 0xff, 0xf8, 0x00, 0x01, 0xca, 0x5c, 0x30],
+        14,
+        true,
+        20,
+        3,
+    )
+}
+
+#[test]
+fn a_corner_at_the_upper_left(rt: HostRuntime) -> Result<(), Fail> {
+    let corner = raster(rt.alloc(), &[0xff, 0xff], 14, true, 4, 4)?;
+    let mut page = Page::blank(rt.alloc(), 8, 4)?;
+    paint(&mut page, &corner, -2, -2);
+    assert_eq!(rt; page.rows(), [0xc0, 0xc0, 0, 0].as_slice());
+    Ok(())
+}
+
+#[test]
+fn columns_0_to_3(rt: HostRuntime) -> Result<(), Fail> {
+    let glyph = step(rt.alloc())?;
+    let mut page = Page::blank(rt.alloc(), 24, 8)?;
+    paint(&mut page, &glyph, 0, 0);
+    paint(&mut page, &glyph, 9, 2);
+    paint(&mut page, &glyph, 2, 4);
+    paint(&mut page, &glyph, 11, 6);
+    assert_eq!(rt;
+        page.rows(),
+        [
+            0xa0, 0, 0, 0x60, 0, 0, 0, 0x50, 0, 0, 0x30, 0, 0x28, 0, 0, 0x18, 0, 0, 0, 0x14, 0, 0,
+            0x0c, 0,
+        ]
+        .as_slice()
+    );
+    Ok(())
+}
+
+#[test]
+fn columns_4_to_7(rt: HostRuntime) -> Result<(), Fail> {
+    let glyph = step(rt.alloc())?;
+    let mut page = Page::blank(rt.alloc(), 24, 8)?;
+    paint(&mut page, &glyph, 4, 0);
+    paint(&mut page, &glyph, 13, 2);
+    paint(&mut page, &glyph, 6, 4);
+    paint(&mut page, &glyph, 15, 6);
+    assert_eq!(rt;
+        page.rows(),
+        [
+            0x0a, 0, 0, 0x06, 0, 0, 0, 0x05, 0, 0, 0x03, 0, 0x02, 0x80, 0, 0x01, 0x80, 0, 0, 0x01,
+            0x40, 0, 0, 0xc0,
+        ]
+        .as_slice()
+    );
+    Ok(())
+}
+
+#[test]
+fn over_the_left_and_right_edges(rt: HostRuntime) -> Result<(), Fail> {
+    let glyph = wide(rt.alloc())?;
+    let mut left = Page::blank(rt.alloc(), 21, 4)?;
+    paint(&mut left, &glyph, -5, 0);
+    assert_eq!(rt;
+        left.rows(),
+        [0xff, 0xfe, 0, 0, 0x02, 0, 0x4b, 0x86, 0, 0, 0, 0].as_slice()
+    );
+    let mut right = Page::blank(rt.alloc(), 21, 4)?;
+    paint(&mut right, &glyph, 10, 0);
+    assert_eq!(rt;
+        right.rows(),
+        [0, 0x3f, 0xf8, 0, 0x20, 0, 0, 0x32, 0x90, 0, 0, 0].as_slice()
+    );
+    Ok(())
+}
+
+#[test]
+fn over_the_upper_and_lower_edges(rt: HostRuntime) -> Result<(), Fail> {
+    let glyph = wide(rt.alloc())?;
+    let mut page = Page::blank(rt.alloc(), 21, 4)?;
+    paint(&mut page, &glyph, 0, -2);
+    paint(&mut page, &glyph, 1, 3);
+    assert_eq!(rt;
+        page.rows(),
+        [0xca, 0x5c, 0x30, 0, 0, 0, 0, 0, 0, 0x7f, 0xff, 0xf8].as_slice()
+    );
+    Ok(())
+}
+
+#[test]
+fn over_the_corners(rt: HostRuntime) -> Result<(), Fail> {
+    let glyph = wide(rt.alloc())?;
+    let mut left = Page::blank(rt.alloc(), 21, 4)?;
+    paint(&mut left, &glyph, -5, -1);
+    paint(&mut left, &glyph, -5, 2);
+    assert_eq!(rt;
+        left.rows(),
+        [0, 0x02, 0, 0x4b, 0x86, 0, 0xff, 0xfe, 0, 0, 0x02, 0].as_slice()
+    );
+    let mut right = Page::blank(rt.alloc(), 21, 4)?;
+    paint(&mut right, &glyph, 10, -2);
+    paint(&mut right, &glyph, 10, 3);
+    assert_eq!(rt;
+        right.rows(),
+        [0, 0x32, 0x90, 0, 0, 0, 0, 0, 0, 0, 0x3f, 0xf8].as_slice()
+    );
+    Ok(())
+}
+
+#[test]
+fn beside_the_page(rt: HostRuntime) -> Result<(), Fail> {
+    let glyph = wide(rt.alloc())?;
+    let mut page = Page::blank(rt.alloc(), 21, 4)?;
+    paint(&mut page, &glyph, 21, 0);
+    paint(&mut page, &glyph, -20, 0);
+    paint(&mut page, &glyph, 0, 4);
+    paint(&mut page, &glyph, 0, -3);
+    paint(&mut page, &glyph, 2_199_023_255_552, 0);
+    paint(&mut page, &glyph, -2_199_023_255_552, 0);
+    paint(&mut page, &glyph, 0, 2_199_023_255_552);
+    paint(&mut page, &glyph, 0, -2_199_023_255_552);
+    assert_eq!(rt; page.count(), 0);
+    paint(&mut page, &glyph, 20, 3);
+    paint(&mut page, &glyph, -19, -2);
+    assert_eq!(rt;
+        page.rows(),
+        [0x80, 0, 0, 0, 0, 0, 0, 0, 0, 0, 0, 0x08].as_slice()
+    );
+    Ok(())
+}
+
+#[test]
+fn larger_than_the_page_and_empty(rt: HostRuntime) -> Result<(), Fail> {
+    let glyph = wide(rt.alloc())?;
+    let mut inner = Page::blank(rt.alloc(), 5, 2)?;
+    paint(&mut inner, &glyph, -4, -1);
+    assert_eq!(rt; inner.rows(), [0, 0xa0].as_slice());
+    let mut upper = Page::blank(rt.alloc(), 5, 2)?;
+    paint(&mut upper, &glyph, 0, 0);
+    assert_eq!(rt; upper.rows(), [0xf8, 0x80].as_slice());
+    let low = raster(rt.alloc(), &[], 14, true, 5, 0)?;
+    paint(&mut upper, &low, 0, 0);
+    let narrow = raster(rt.alloc(), &[], 14, true, 0, 2)?;
+    paint(&mut upper, &narrow, 0, 0);
+    assert_eq!(rt; upper.rows(), [0xf8, 0x80].as_slice());
+    Ok(())
+}
+
+#[test]
+fn white_pixels_leave_black_ones(rt: HostRuntime) -> Result<(), Fail> {
+    let glyph = wide(rt.alloc())?;
+    let mut page = Page::blank(rt.alloc(), 21, 4)?;
+    page.rule(0, 0, 21, 4);
+    paint(&mut page, &glyph, 3, 1);
+    paint(&mut page, &glyph, -3, -1);
+    assert_eq!(rt; page.count(), 84);
+    Ok(())
+}

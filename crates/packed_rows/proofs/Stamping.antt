@@ -1,0 +1,92 @@
+-- Rows that were set on rows one after another, and the bitmap that comes of it.
+use Rattle.std.proofs.Common.{◌≡◌, ℕ, ◌+◌, ◌-◌, ◌*◌, ◌<◌, ◌≤◌, ◌⊎◌, inl, inr, Bool, true, false, ◌&&◌, ◌||◌, ltb, leb, List, length, take, drop, refl, ap, sym, subst, ◌∙◌, arith}
+use Rattle.std.proofs.lemmas.Bool.{cases_lt, le-ltb, and_right}
+use Rattle.std.proofs.lemmas.Bool.Decides.{nat_tests}
+use borrow.Rule.Slice.PartMut.{put_mid}
+use Rattle.packed_rows.specs.Packing.{pixel, IsPadded}
+use Rattle.packed_rows.specs.Stored.{row_at}
+use Rattle.packed_rows.specs.Changes.{is_within}
+use Rattle.packed_rows.specs.Stamped.{pixel_over}
+use Rattle.packed_rows.proofs.Blackened.{elsewhere, ordered}
+use Rattle.packed_rows.proofs.StoredRows.{row_at-put_same, row_at-put_other, row_at-length}
+
+-- what the pixels of a row of so many bytes become under one that has the pixels f
+abbrev pub AreUnder : ℕ → (ℕ → Bool) → List ℕ → List ℕ → Type 0
+AreUnder width f old new = (x : ℕ) → x < width → pixel new x ≡ (f x || pixel old x)
+
+-- the rows from `first` to `last` were set, where f x y is what lies over pixel x of row y
+pub record IsStamped (stride width first last : ℕ) (f : ℕ → ℕ → Bool) (old new : List ℕ) : Type 0 where
+  pub len : length new ≡ length old
+  pub dots : (x y : ℕ) → x < width → y * stride + stride ≤ length old → pixel (row_at stride new y) x ≡ (is_within first last y && f x y || pixel (row_at stride old y) x)
+  pub padded : (y : ℕ) → y * stride + stride ≤ length old → IsPadded width (row_at stride old y) → IsPadded width (row_at stride new y)
+
+in_step : (first y : ℕ) → first ≤ y → is_within first (y + 1) y ≡ true
+in_step first y h = grind (arith, nat_tests)
+
+not_yet : (first y : ℕ) → is_within first y y ≡ false
+not_yet first y = and_right (leb first y) (ltb y y) (le-ltb y y (omega arith))
+
+now_in : (a b p : Bool) → b ≡ false → (a || (b && a || p)) ≡ (true && a || p)
+now_in true b p h = refl
+now_in false b p h = ap (λ d. d && false || p) h
+
+-- before the first row
+pub stamped_none : (stride width first : ℕ) (f : ℕ → ℕ → Bool) (old : List ℕ) → IsStamped stride width first first f old old
+stamped_none stride width first f old = record {
+  len = refl;
+  dots = λ x y _ _. sym (ap (λ b. b && f x y || pixel (row_at stride old y) x) (nowhere y));
+  padded = λ y _ p. p;
+}
+  where
+    nowhere : (y : ℕ) → is_within first first y ≡ false
+    nowhere y = grind (arith, nat_tests)
+
+step : (stride width first y : ℕ) (f : ℕ → ℕ → Bool) (old mid new : List ℕ) → first ≤ y → y * stride + stride ≤ length mid → length new ≡ stride
+    → AreUnder width (λ x. f x y) (row_at stride mid y) new → IsPadded width new → IsStamped stride width first y f old mid
+    → IsStamped stride width first (y + 1) f old (put_mid (y * stride) stride mid new)
+step stride width first y f old mid new low fit long under padded before = record {
+  len = put_long ∙ before.len;
+  dots = λ x z in_row on_page. dots_at x z in_row on_page (ordered y z (cases_lt y z) (cases_lt z y));
+  padded = λ z on_page p. padded_at z on_page p (ordered y z (cases_lt y z) (cases_lt z y));
+}
+  where
+    put_long : length (put_mid (y * stride) stride mid new) ≡ length mid
+    put_long = row_at-length (y * stride) stride mid new fit long
+
+    same : row_at stride (put_mid (y * stride) stride mid new) y ≡ new
+    same = row_at-put_same stride y mid new fit long
+
+    here_at : (x : ℕ) → x < width → y * stride + stride ≤ length old
+        → pixel (row_at stride (put_mid (y * stride) stride mid new) y) x ≡ (is_within first (y + 1) y && f x y || pixel (row_at stride old y) x)
+    here_at x in_row on_page =
+        ap (λ l. pixel l x) same ∙ under x in_row ∙ ap (λ b. f x y || b) (before.dots x y in_row on_page)
+        ∙ now_in (f x y) (is_within first y y) (pixel (row_at stride old y) x) (not_yet first y)
+        ∙ ap (λ b. b && f x y || pixel (row_at stride old y) x) (sym (in_step first y low))
+
+    dots_at : (x z : ℕ) → x < width → z * stride + stride ≤ length old → (((z < y) ⊎ (y < z)) ⊎ (z ≡ y))
+        → pixel (row_at stride (put_mid (y * stride) stride mid new) z) x ≡ (is_within first (y + 1) z && f x z || pixel (row_at stride old z) x)
+    dots_at x z in_row on_page (inl apart) =
+        ap (λ l. pixel l x) (row_at-put_other stride y z mid new fit long apart) ∙ before.dots x z in_row on_page
+        ∙ ap (λ b. b && f x z || pixel (row_at stride old z) x) (elsewhere first y z apart)
+    dots_at x z in_row on_page (inr here) =
+        subst (λ (r : ℕ). pixel (row_at stride (put_mid (y * stride) stride mid new) r) x ≡ (is_within first (y + 1) r && f x r || pixel (row_at stride old r) x)) (sym here)
+        (here_at x in_row (subst (λ (r : ℕ). r * stride + stride ≤ length old) here on_page))
+
+    padded_at : (z : ℕ) → z * stride + stride ≤ length old → IsPadded width (row_at stride old z) → (((z < y) ⊎ (y < z)) ⊎ (z ≡ y)) → IsPadded width (row_at stride (put_mid (y * stride) stride mid new) z)
+    padded_at z on_page p (inl apart) = subst (λ (l : List ℕ). IsPadded width l) (sym (row_at-put_other stride y z mid new fit long apart)) (before.padded z on_page p)
+    padded_at z on_page p (inr here) = subst (λ (l : List ℕ). IsPadded width l) (sym (ap (λ r. row_at stride (put_mid (y * stride) stride mid new) r) here ∙ same)) padded
+
+-- one row more; the row is a slice whose length the code computes
+pub stamped_more : (stride width first y k : ℕ) (f : ℕ → ℕ → Bool) (old mid new : List ℕ) → k ≡ stride → first ≤ y → y * stride + stride ≤ length mid
+    → length new ≡ stride → AreUnder width (λ x. f x y) (take k (drop (y * stride) mid)) new → IsPadded width new
+    → IsStamped stride width first y f old mid → IsStamped stride width first (y + 1) f old (put_mid (y * stride) k mid new)
+stamped_more stride width first y k f old mid new e low fit long under padded before =
+    subst (λ (n : ℕ). IsStamped stride width first (y + 1) f old (put_mid (y * stride) n mid new)) (sym e)
+    (step stride width first y f old mid new low fit long (λ x in_row. under x in_row ∙ ap (λ l. f x y || pixel l x) row) padded before)
+  where
+    row : take k (drop (y * stride) mid) ≡ row_at stride mid y
+    row = ap (λ n. take n (drop (y * stride) mid)) e
+
+-- what lies over pixel x of row y
+abbrev pub over : List ℕ → ℕ → ℕ → ℕ → ℕ → ℕ → ℕ → ℕ → Bool
+over upper stride start skipped down_start down_skipped x y = pixel_over (row_at stride upper (y + down_skipped - down_start)) start skipped x

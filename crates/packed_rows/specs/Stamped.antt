@@ -1,0 +1,24 @@
+-- A raster that is set on a bitmap: the pixels that lie on its black ones become black, the others stay.
+use Rattle.std.specs.Prelude.{ℕ, ◌+◌, ◌-◌, ℤ, pos, ◌-ℤ◌, Bool, false, ◌&&◌, ◌||◌, ◌==◌, List, nat_le}
+use Rattle.std.specs.Int.{bit_at}
+use Rattle.packed_rows.specs.Bitmap.{Bitmap, is_black, from_fn}
+use Rattle.packed_rows.specs.Packing.{pixel}
+
+-- a pixel of a raster by its place, which may lie outside: white there
+abbrev pub is_black_at : Bitmap → ℤ → ℤ → Bool
+is_black_at raster (pos x) (pos y) = is_black raster x y
+is_black_at raster _ _ = false
+
+-- a bitmap on which a raster is set, with its upper left pixel in column `left` of row `top`
+abbrev pub with_raster : Bitmap → Bitmap → ℤ → ℤ → Bitmap
+with_raster b raster left top = record { width = b.width; height = b.height; rows = from_fn b.height (λ y. from_fn b.width (λ x. is_black_at raster (pos x -ℤ left) (pos y -ℤ top) || is_black b x y)) }
+
+-- ---- one row over another, its first pixel over pixel start - skipped
+
+-- what lies over pixel x, white where the upper row has none
+abbrev pub pixel_over : List ℕ → ℕ → ℕ → ℕ → Bool
+pixel_over upper start skipped x = nat_le start (x + skipped) && pixel upper (x + skipped - start)
+
+-- pixel k of the eight that a byte holds
+abbrev pub byte_pixel : ℕ → ℕ → Bool
+byte_pixel byte k = bit_at byte (7 - k) == 1

@@ -1,0 +1,10 @@
+pub mod Kept
+pub mod Added
+pub mod SoFar
+pub mod OneItem
+pub mod ItemLists
+pub mod OneMeaning
+pub mod Cuts
+pub mod Forms
+pub mod BarFont
+pub mod Answered

@@ -1,0 +1,10 @@
+pub mod Preamble
+pub mod Items
+pub mod Packets
+pub mod Reading
+pub mod Fonts
+pub mod Faults
+pub mod Stops
+pub mod Laws
+pub mod Written
+pub mod Rows
