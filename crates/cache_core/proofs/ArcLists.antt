@@ -9,14 +9,11 @@ use Rattle.std.proofs.lemmas.List.{take-map}
 use Rattle.lru.specs.LruCache.{LruCache, promoted, last_entry, put_entries, displaced}
 use Rattle.outside.specs.declared.keys.FontKey.{FontKey}
 use Rattle.cache_core.specs.Machine.{key_eq}
-use Rattle.cache_core.specs.Views.{fonts_of, gone_key}
+use Rattle.cache_core.specs.Views.{fonts_of, gone_key, passes}
 use Rattle.cache_core.proofs.FontLists.{lookup_image, promoted_image}
 
 abbrev pub same_key : {A : Type 0} → Arc FontKey A → Arc FontKey A → Bool
 same_key x y = key_eq (arc_value x) (arc_value y)
-
-abbrev pub passes : {A : Type 0} → FontKey → Arc FontKey A → Bool
-passes k y = key_eq k (arc_value y)
 
 abbrev pub key_of : {T A : Type 0} → Arc FontKey A × Arc T A → FontKey
 key_of f = arc_value f.0

@@ -1,9 +1,10 @@
 -- What contracts see of the entries, the claims and the fonts: plain values, and no places in memory.
-use Rattle.std.specs.Prelude.{ℕ, ◌-◌, List, map, Option, slice_get}
+use Rattle.std.specs.Prelude.{ℕ, ◌-◌, Bool, List, map, Option, slice_get}
 use Rattle.std.specs.Option.{option_map}
 use Rattle.std.specs.Arc.{arc_value}
 use Rattle.std.specs.declared.sync.Arc.{Arc}
 use Rattle.outside.specs.declared.keys.FontKey.{FontKey}
+use Rattle.cache_core.specs.Machine.{key_eq}
 use Rattle.cache_core.specs.declared.calls.Call.{Call}
 use Rattle.cache_core.specs.declared.calls.Done.{Done}
 use Rattle.cache_core.specs.declared.calls.Done.TheVariants as done
@@ -37,3 +38,7 @@ fonts_of fonts = map (λ f. (arc_value f.0, arc_value f.1)) fonts
 -- the key of the font that leaves where a font is added to so many at most
 abbrev pub gone_key : {T : Type 0} → List (FontKey × T) → ℕ → Option FontKey
 gone_key fonts capacity = option_map (λ f. f.0) (slice_get fonts (capacity - 1))
+
+-- whether a stored key is this one
+abbrev pub passes : {A : Type 0} → FontKey → Arc FontKey A → Bool
+passes k y = key_eq k (arc_value y)

@@ -5,7 +5,7 @@ ghost use Rattle.std.specs.Arc.{arc_value};
 ghost use Rattle.std.specs.Map.{lookup};
 ghost use Rattle.lru.specs.LruCache.{promoted};
 ghost use Rattle.cache_core.specs.Machine.{key_eq};
-ghost use Rattle.cache_core.specs.Views.{fonts_of, gone_key};
+ghost use Rattle.cache_core.specs.Views.{fonts_of, gone_key, passes};
 
 use lru::LruCache;
 use outside::FontKey;
@@ -13,6 +13,14 @@ use std::alloc::AllocError as NoMemory;
 use std::sync::Arc;
 
 pub(crate) type Fonts<T> = LruCache<Arc<FontKey>, Arc<T>>;
+
+// Makes the font of this key the newest.
+fn to_front<T: Drop>(fonts: &mut Fonts<T>, key: &Arc<FontKey>)
+    ensures moved { fonts.new.entries ≡ promoted (passes (arc_value key.now)) fonts.old.entries }
+    ensures capacity { fonts.new.cap ≡ fonts.old.cap }
+{
+    fonts.promote(key);
+}
 
 // The font of this key, which becomes the newest.
 pub(crate) fn find<T: Drop>(
@@ -31,7 +39,7 @@ pub(crate) fn find<T: Drop>(
         Some(font) => Arc::try_clone(font)?,
         None => return Ok(None),
     };
-    fonts.promote(key);
+    to_front(fonts, key);
     Ok(Some(found))
 }
 

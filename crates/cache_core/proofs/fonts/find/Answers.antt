@@ -16,4 +16,4 @@ pub returns-clause-found : goal.returns-clause-found
 returns-clause-found g c = ap Some c.in_ok-found-in-Some.ensures ∙ sym (present (arc_value c.args.key.now) c.args.fonts.now.entries c.in-Some.font.now (sym c.peek.ensures ∙ ap option_copied c.in-Some.is))
 
 pub returns-clause-moved : goal.returns-clause-moved
-returns-clause-moved g c = ap (λ l. fonts_of l.entries) c.promote.ensures.entries ∙ promotes (arc_value c.args.key.now) c.args.fonts.now.entries
+returns-clause-moved g c = ap fonts_of c.to_front.ensures.moved ∙ promotes (arc_value c.args.key.now) c.args.fonts.now.entries
