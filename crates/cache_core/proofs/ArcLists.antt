@@ -9,7 +9,8 @@ use Rattle.std.proofs.lemmas.List.{take-map}
 use Rattle.lru.specs.LruCache.{LruCache, promoted, last_entry, put_entries, displaced}
 use Rattle.outside.specs.declared.keys.FontKey.{FontKey}
 use Rattle.cache_core.specs.Machine.{key_eq}
-use Rattle.cache_core.specs.Views.{fonts_of, gone_key, passes}
+use Rattle.cache_core.specs.declared.entry.Evicted.{Evicted}
+use Rattle.cache_core.specs.Views.{fonts_of, gone_font, gone_key, evicted_seen, evicted_key, passes}
 use Rattle.cache_core.proofs.FontLists.{lookup_image, promoted_image}
 
 abbrev pub same_key : {A : Type 0} → Arc FontKey A → Arc FontKey A → Bool
@@ -55,9 +56,19 @@ module _ {T A : Type 0} where
   last_gone es n full = gone_at es n ∙ ap (λ m. option_map (key_of {T = T} {A = A}) (slice_get es (m - 1))) (sym full)
 
   module _ (c : LruCache (Arc FontKey A) (Arc T A)) (k : Arc FontKey A) (v : Arc T A) (new : lookup (key_eq (arc_value k)) (fonts_of c.entries) ≡ None) where
-    pub pushes_out : option_map (key_of {T = T} {A = A}) (displaced same_key c k v) ≡ gone_key (fonts_of c.entries) c.cap
-    pushes_out = rw (absent (arc_value k) c.entries new) (sym (gone_at c.entries c.cap))
+    pub pushes_out : option_map (λ (f : Arc FontKey A × Arc T A). (arc_value f.0, arc_value f.1)) (displaced same_key c k v) ≡ gone_font (fonts_of c.entries) c.cap
+    pushes_out = rw (absent (arc_value k) c.entries new) (sym (slice_get-map (λ (f : Arc FontKey A × Arc T A). (arc_value f.0, arc_value f.1)) c.entries (c.cap - 1)))
 
     pub puts : fonts_of (put_entries same_key c k v) ≡ (arc_value k, arc_value v) ∷ take (c.cap - 1) (fonts_of c.entries)
     puts = rw (no_pair (arc_value k) c.entries (absent (arc_value k) c.entries new))
         (ap (λ l. (arc_value k, arc_value v) ∷ l) (sym (take-map (λ (f : Arc FontKey A × Arc T A). (arc_value f.0, arc_value f.1)) (c.cap - 1) c.entries)))
+
+module _ {T : Type 0} where
+  both_keys : (o : Option (Evicted T)) → evicted_key o ≡ option_map (λ (f : FontKey × T). f.0) (option_map evicted_seen o)
+  both_keys None = refl
+  both_keys (Some x) = refl
+
+  -- the key that is handed out with a font that left is the key that left
+  pub key_of_left : (left : Option (Evicted T)) (fonts : List (FontKey × T)) (capacity : ℕ) → option_map evicted_seen left ≡ gone_font fonts capacity
+      → evicted_key left ≡ gone_key fonts capacity
+  key_of_left left fonts capacity e = both_keys left ∙ ap (option_map (λ (f : FontKey × T). f.0)) e

@@ -4,6 +4,7 @@ pub mod Changes
 pub mod FewClaims
 pub mod FontLists
 pub mod Keys
+pub mod Looks
 pub mod OwnClaims
 pub mod Sound
 pub mod Steps

@@ -9,6 +9,7 @@ use Rattle.cache_core.specs.declared.calls.Call.{Call}
 use Rattle.cache_core.specs.declared.calls.Done.{Done}
 use Rattle.cache_core.specs.declared.calls.Done.TheVariants as done
 use Rattle.cache_core.specs.declared.entry.Entry.{Entry}
+use Rattle.cache_core.specs.declared.entry.Evicted.{Evicted}
 use Rattle.cache_core.specs.declared.entry.Act.{Act}
 use Rattle.cache_core.specs.declared.entry.Act.TheVariants as act
 use Rattle.cache_core.specs.declared.claims.Claim.{Claim}
@@ -35,9 +36,19 @@ claims_of claims = map claim_seen claims
 abbrev pub fonts_of : {T A : Type 0} → List (Arc FontKey A × Arc T A) → List (FontKey × T)
 fonts_of fonts = map (λ f. (arc_value f.0, arc_value f.1)) fonts
 
--- the key of the font that leaves where a font is added to so many at most
+-- the font that leaves where one is added to so many at most, with its key, and that key alone
+abbrev pub gone_font : {T : Type 0} → List (FontKey × T) → ℕ → Option (FontKey × T)
+gone_font fonts capacity = slice_get fonts (capacity - 1)
+
 abbrev pub gone_key : {T : Type 0} → List (FontKey × T) → ℕ → Option FontKey
-gone_key fonts capacity = option_map (λ f. f.0) (slice_get fonts (capacity - 1))
+gone_key fonts capacity = option_map (λ f. f.0) (gone_font fonts capacity)
+
+-- a font that has left, with its key, and the key of one
+abbrev pub evicted_seen : {T : Type 0} → Evicted T → FontKey × T
+evicted_seen e = (arc_value e.key, arc_value e.font)
+
+abbrev pub evicted_key : {T : Type 0} → Option (Evicted T) → Option FontKey
+evicted_key gone = option_map (λ e. arc_value e.key) gone
 
 -- whether a stored key is this one
 abbrev pub passes : {A : Type 0} → FontKey → Arc FontKey A → Bool

@@ -1,4 +1,4 @@
-//! The entries of the history, and the answers of a look.
+//! The entries of the history, the answers of a look, and what a fill hands out.
 use outside::FontKey;
 use std::sync::Arc;
 
@@ -34,4 +34,11 @@ pub enum Look<T: Drop> {
     Claimed,
     /// Another seat has claimed the key: the caller loads the font for itself and keeps nothing here.
     Busy,
+}
+
+/// A font that left, with its key.
+#[derive(Drop)]
+pub struct Evicted<T: Drop> {
+    pub key: Arc<FontKey>,
+    pub font: Arc<T>,
 }

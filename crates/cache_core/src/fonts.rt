@@ -5,8 +5,9 @@ ghost use Rattle.std.specs.Arc.{arc_value};
 ghost use Rattle.std.specs.Map.{lookup};
 ghost use Rattle.lru.specs.LruCache.{promoted};
 ghost use Rattle.cache_core.specs.Machine.{key_eq};
-ghost use Rattle.cache_core.specs.Views.{fonts_of, gone_key, passes};
+ghost use Rattle.cache_core.specs.Views.{fonts_of, gone_font, gone_key, evicted_seen, passes};
 
+use crate::entry::Evicted;
 use lru::LruCache;
 use outside::FontKey;
 use std::alloc::AllocError as NoMemory;
@@ -57,32 +58,32 @@ fn leaver<T: Drop>(fonts: &Fonts<T>) -> Result<Option<Arc<FontKey>>, NoMemory>
     }
 }
 
-// Adds a font whose key isn't there. The key whose font leaves for it is given twice, to keep and to tell.
+// Adds a font whose key isn't there. Gives the key that leaves for it, to note, and its font with the key.
 pub(crate) fn store<T: Drop>(
     fonts: &mut Fonts<T>,
     key: &Arc<FontKey>,
     font: Arc<T>,
-) -> Result<(Option<Arc<FontKey>>, Option<Arc<FontKey>>), Arc<T>>
+) -> Result<(Option<Arc<FontKey>>, Option<Evicted<T>>), Arc<T>>
     requires { lookup (key_eq (arc_value key.now)) (fonts_of fonts.old.entries) ≡ None }
     ensures gone { IfOk result (λ gone. option_map arc_value gone.0
         ≡ gone_key (fonts_of fonts.old.entries) fonts.old.cap) }
-    ensures told { IfOk result (λ gone. option_map arc_value gone.1
-        ≡ gone_key (fonts_of fonts.old.entries) fonts.old.cap) }
+    ensures left { IfOk result (λ gone. option_map evicted_seen gone.1
+        ≡ gone_font (fonts_of fonts.old.entries) fonts.old.cap) }
     ensures added { OnOk result (fonts_of fonts.new.entries
         ≡ (arc_value key.now, arc_value font) ∷ take (fonts.old.cap - 1) (fonts_of fonts.old.entries)) }
     ensures capacity { fonts.new.cap ≡ fonts.old.cap }
     ensures back { IfErr result (λ handed. handed ≡ font) }
     ensures same { OnErr result (fonts.new ≡ fonts.old) }
 {
-    let Ok(told) = leaver(fonts) else {
+    let Ok(noted) = leaver(fonts) else {
         return Err(font);
     };
     let Ok(kept) = Arc::try_clone(key) else {
         return Err(font);
     };
     match fonts.push(kept, font) {
-        Ok(Some((gone, _))) => Ok((Some(gone), told)),
-        Ok(None) => Ok((None, told)),
+        Ok(Some((key, font))) => Ok((noted, Some(Evicted { key, font }))),
+        Ok(None) => Ok((noted, None)),
         Err(failed) => Err(failed.value.1),
     }
 }

@@ -19,7 +19,7 @@ mod told;
 pub use about::About;
 pub use calls::{Call, Done};
 pub use common::Common;
-pub use entry::{Act, Entry, Look};
+pub use entry::{Act, Entry, Evicted, Look};
 pub use stands::Stands;
 pub use state::CacheState;
 pub use told::Told;

@@ -7,11 +7,11 @@ ghost use Rattle.std.specs.Map.{lookup};
 ghost use Rattle.cache_core.specs.declared.common.Common.{Common};
 ghost use Rattle.cache_core.specs.declared.calls.Done.TheVariants.{Filled, Released};
 ghost use Rattle.cache_core.specs.Machine.{key_eq, claim_of};
-ghost use Rattle.cache_core.specs.Views.{calls_of, claims_of, fonts_of};
+ghost use Rattle.cache_core.specs.Views.{calls_of, claims_of, fonts_of, gone_font, evicted_seen, evicted_key};
 ghost use Rattle.cache_core.specs.States.{machine, machine_of, call, answered, GivesFont, IsReached, Takes, SameFonts, AddsFont, StateStands};
 
 use crate::claims::{Claim, add_claim, end, is_claimed};
-use crate::entry::{Act, Entry, Look};
+use crate::entry::{Act, Entry, Evicted, Look};
 use crate::fonts::{Fonts, find, store};
 use crate::stands::Stands;
 use crate::told::Told;
@@ -186,15 +186,46 @@ impl<T: Stands> CacheState<T> {
             → T.stands_for (arc_value value) (arc_value key.now) part
             → StateStands T.stands_for self.new part }
     {
+        match self.fill_keeping(seat, key, value)? {
+            Some(Evicted { key, font: _ }) => Ok(Some(key)),
+            None => Ok(None),
+        }
+    }
+
+    /// As `fill`, and hands out the font that left with its key, so that the caller lets it go where
+    /// it likes: it may be the font's last owner.
+    pub fn fill_keeping(
+        &mut self,
+        seat: u32,
+        key: &Arc<FontKey>,
+        value: Arc<T>,
+    ) -> Result<Option<Evicted<T>>, Arc<T>>
+        requires few_turns { self.old.turns < 2 ^ 62 }
+        requires claim { claim_of seat self.old.claims ≡ Some (arc_value key.now) }
+        ensures turns { self.new.turns ≡ self.old.turns + 1 }
+        ensures capacity { self.new.capacity ≡ self.old.capacity }
+        ensures taken { IfOk result (λ gone. Takes self.old.capacity (machine self.old) (machine self.new)
+            (call seat (arc_value key.now) (Filled (evicted_key gone)))) }
+        ensures noted { IfOk result (λ gone. self.new.history
+            ≡ self.old.history ++ call seat (arc_value key.now) (Filled (evicted_key gone)) ∷ []) }
+        ensures left { IfOk result (λ gone. option_map evicted_seen gone ≡ gone_font self.old.fonts self.old.capacity) }
+        ensures fonts { IfOk result (λ _. AddsFont (arc_value key.now) (arc_value value) self.old.fonts self.new.fonts) }
+        ensures back { IfErr result (λ handed. handed ≡ value) }
+        ensures refused { OnErr result (self.new ≡ record self.old { turns = self.old.turns + 1 }) }
+        ensures reached { IsReached self.new }
+        ensures stands { (part : Common) → StateStands T.stands_for self.old part
+            → T.stands_for (arc_value value) (arc_value key.now) part
+            → StateStands T.stands_for self.new part }
+    {
         self.turns += 1;
-        let (gone, told) = store(&mut self.resident, key, value)?;
+        let (gone, left) = store(&mut self.resident, key, value)?;
         let key = end(&mut self.claims, seat);
         self.entries.push_reserved(Entry {
             seat,
             key,
             act: Act::Filled { gone },
         });
-        Ok(told)
+        Ok(left)
     }
 
     /// Gives up the claim that the seat holds. It takes no memory.

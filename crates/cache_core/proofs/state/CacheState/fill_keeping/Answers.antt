@@ -5,12 +5,13 @@ use Rattle.std.specs.Map.{lookup}
 use Rattle.cache_core.specs.declared.calls.Done.TheVariants.{Filled}
 use Rattle.cache_core.specs.declared.entry.Act.TheVariants as act
 use Rattle.cache_core.specs.Machine.{empty, key_eq, claim_of, machine_after}
-use Rattle.cache_core.specs.Views.{calls_of, claims_of, fonts_of}
+use Rattle.cache_core.specs.Views.{calls_of, claims_of, fonts_of, evicted_key}
 use Rattle.cache_core.specs.States.{Cache, machine, machine_of, call, Takes, AddsFont}
+use Rattle.cache_core.proofs.ArcLists.{key_of_left}
 use Rattle.cache_core.proofs.FontLists.{values_after}
 use Rattle.cache_core.proofs.Changes.{noted, filled, fill_reaches}
 use Rattle.cache_core.proofs.Turns.{claimed_is_missing, fill_stands}
-use Rattle.cache_core.proofs.state.CacheState.fill.Goals as goal
+use Rattle.cache_core.proofs.state.CacheState.fill_keeping.Goals as goal
 
 pub store-requires : goal.store-requires
 store-requires g c =
@@ -37,11 +38,11 @@ pub returns-clause-taken : goal.returns-clause-taken
 returns-clause-taken g c =
     let holds : claim_of c.args.seat (claims_of c.self.inside.claims.items) ≡ Some (arc_value c.args.key.now) = ap (λ v. claim_of c.args.seat v.claims) c.self.view_is ∙ c.requires.claim in
     let key : arc_value c.end-key.result ≡ arc_value c.args.key.now = cc (holds, c.end-key.ensures.key) in
-    let told : option_map arc_value c.in_ok-gone.told ≡ option_map arc_value c.in_ok-gone.gone = c.in_ok-gone.ensures.told ∙ sym c.in_ok-gone.ensures.gone in
-    subst (λ (v : Cache g.row.T.Denot). Takes v.capacity (machine v) (machine_of (fonts_of c.store.new.fonts.entries) (claims_of c.end-key.new.claims.items)) (call c.args.seat (arc_value c.args.key.now) (Filled (option_map arc_value c.in_ok-gone.told)))) c.self.view_is
+    let told = key_of_left c.in_ok-gone.left (fonts_of c.self.inside.resident.entries) c.self.inside.resident.cap c.in_ok-gone.ensures.left in
+    subst (λ (v : Cache g.row.T.Denot). Takes v.capacity (machine v) (machine_of (fonts_of c.store.new.fonts.entries) (claims_of c.end-key.new.claims.items)) (call c.args.seat (arc_value c.args.key.now) (Filled (evicted_key c.in_ok-gone.left)))) c.self.view_is
     (filled c.self.inside.resident.cap (fonts_of c.self.inside.resident.entries) (claims_of c.self.inside.claims.items) (claims_of c.end-key.new.claims.items)
     (calls_of c.self.inside.entries.items) (calls_of c.push_reserved.new.self.items) c.args.seat (arc_value c.args.key.now) c.self.invariant.reached holds c.end-key.ensures.rest
-    (fonts_of c.store.new.fonts.entries) (arc_value c.args.value) (option_map arc_value c.in_ok-gone.told) c.self.invariant.some_font c.in_ok-gone.ensures.told c.in_ok-gone.ensures.added)
+    (fonts_of c.store.new.fonts.entries) (arc_value c.args.value) (evicted_key c.in_ok-gone.left) c.self.invariant.some_font told c.in_ok-gone.ensures.added)
 
 pub returns-clause-fonts : goal.returns-clause-fonts
 returns-clause-fonts g c =

@@ -1,0 +1,3 @@
+pub mod Joined
+pub mod LastCalls
+pub mod Turns

@@ -1,0 +1,234 @@
+//! The cache, and its calls.
+ghost use Rattle.std.specs.Prelude.{◌≡◌, ◌+◌, ◌^◌, ◌<◌, ◌≤◌, [], ◌∷◌, ◌++◌, Some, None, IfOk, IfErr, OnErr};
+ghost use Rattle.std.specs.Option.{option_map};
+ghost use Rattle.std.specs.Arc.{arc_value};
+ghost use mathlib.Core.List.{IsPrefix};
+ghost use Rattle.cache_core.specs.declared.common.Common.{Common};
+ghost use Rattle.cache_core.specs.declared.calls.Done.TheVariants.{Filled, Released};
+ghost use Rattle.cache_core.specs.Histories.{own, open_claim, left_by};
+ghost use Rattle.cache_core.specs.Machine.{Legal};
+ghost use Rattle.cache_core.specs.States.{call, answered};
+ghost use Rattle.cache_core.specs.Views.{calls_of};
+ghost use Rattle.turn_lock.specs.declared.view.Stage.TheVariants.{Idle};
+ghost use Rattle.turn_lock.specs.Histories.{AllMade, OwnsSame};
+ghost use Rattle.turn_lock.specs.Views.{opening_view, split_view, new_view, joined_view};
+ghost use Rattle.turn_lock.specs.Seats.{AllJoined};
+ghost use Rattle.font_cache.specs.Laws.{FewClaims};
+ghost use Rattle.font_cache.specs.Turns.{EndsWithCall, HitStands, told_of};
+
+use cache_core::{CacheState, Entry, Evicted, Look, Stands};
+use outside::FontKey;
+use std::alloc::{AllocError as NoMemory, Global};
+use std::marker::Model;
+use std::sync::{Arc, Wait};
+use turn_lock::{Seat, TurnLock};
+
+/// A seat of a font cache.
+pub type CacheSeat<T> = Seat<CacheState<T>>;
+
+/// A font cache that its seats use in turn. Contracts see which lock it is. Each call needs seats of
+/// this same cache.
+#[derive(Drop)]
+pub struct FontCache<T: Stands> {
+    lock: TurnLock<CacheState<T>>,
+}
+
+impl<T: Stands> Model for FontCache<T> {
+    ghost use Rattle.atomic_table.specs.Seated.{TableId, table_id_coded};
+
+    ghost Value = { TableId };
+
+    ghost coded = { table_id_coded };
+
+    ghost view = { λ c. c.lock };
+}
+
+// The key of the font that left, which is let go.
+fn key_alone<T: Stands>(
+    filled: Result<Option<Evicted<T>>, Arc<T>>,
+) -> Result<Option<Arc<FontKey>>, Arc<T>>
+    ensures { result ≡ told_of filled }
+{
+    match filled? {
+        Some(Evicted { key, font: _ }) => Ok(Some(key)),
+        None => Ok(None),
+    }
+}
+
+impl<T: Stands> FontCache<T> {
+    /// An empty cache of so many fonts at most, 1 to 256, with its seat 0, which has seen nothing, drew nothing and
+    /// doesn't have the turn. The caller's proof picks the common part of all seats, which has this capacity.
+    pub fn make(alloc: Global, capacity: usize) -> Result<(FontCache<T>, CacheSeat<T>), NoMemory>
+        ghost part: { Common }
+        requires some_font { 1 ≤ capacity }
+        requires few_fonts { capacity ≤ 256 }
+        requires capacity { capacity ≡ part.capacity }
+        ensures lock { IfOk result (λ made. made.1.lock ≡ made.0) }
+        ensures seat { IfOk result (λ made. made.1.view ≡ opening_view part) }
+    {
+        let state = CacheState::new(alloc, capacity)?;
+        match TurnLock::make(alloc, state) {
+            Ok((lock, seat)) => Ok((FontCache { lock }, seat)),
+            Err(_) => Err(NoMemory),
+        }
+    }
+
+    /// Makes one more seat. It has the next number, has seen what seat 0 has, has no calls of its own, drew nothing and
+    /// doesn't have the turn. Seat 0 counts it, and is else as it was.
+    pub fn split(&self, first: &mut CacheSeat<T>) -> CacheSeat<T>
+        requires lock { first.old.lock ≡ self.now }
+        requires first { first.old.view.number ≡ 0 }
+        requires room { first.old.view.made < 1024 }
+        ensures first_lock { first.new.lock ≡ first.old.lock }
+        ensures first { first.new.view ≡ split_view first.old.view }
+        ensures new_lock { result.lock ≡ first.old.lock }
+        ensures new { result.view ≡ new_view first.old.view }
+        ensures no_calls { own first.old.view.made first.old.view.seen ≡ [] }
+    {
+        self.lock.split(first)
+    }
+
+    /// Takes another seat in. Seat 0 has then seen the longer of both histories, which goes on from both. It has the
+    /// calls of the other's number that the other had, and of its own number and of each number joined before those
+    /// that it had itself.
+    pub fn join(&self, first: &mut CacheSeat<T>, other: CacheSeat<T>)
+        requires lock { first.old.lock ≡ self.now }
+        requires other_lock { other.lock ≡ self.now }
+        requires first { first.old.view.number ≡ 0 }
+        requires idle { first.old.view.stage ≡ Idle }
+        requires other_idle { other.view.stage ≡ Idle }
+        ensures lock { first.new.lock ≡ first.old.lock }
+        ensures seen { first.new.view ≡ joined_view first.old.view other.view }
+        ensures begins { IsPrefix first.old.view.seen first.new.view.seen }
+        ensures other_begins { IsPrefix other.view.seen first.new.view.seen }
+        ensures theirs { own other.view.number first.new.view.seen ≡ own other.view.number other.view.seen }
+        ensures mine { own 0 first.new.view.seen ≡ own 0 first.old.view.seen }
+        ensures before { OwnsSame first.old.view.joined first.new.view.seen first.old.view.seen }
+    {
+        self.lock.join(first, other);
+    }
+
+    /// Looks a key up in one turn, for a seat that holds no claim, and waits for the turn. The answer is the machine's
+    /// after the history that was there, which goes on from what the seat had seen: `Hit` with a font that stands for
+    /// the key in the common part, else `Busy` where another seat claims the key, else `Claimed`. `NoMemory` adds no
+    /// call.
+    pub fn look<R: Wait>(
+        &self,
+        rt: &R,
+        seat: &mut CacheSeat<T>,
+        key: &Arc<FontKey>,
+    ) -> Result<Look<T>, NoMemory>
+        requires lock { seat.old.lock ≡ self.now }
+        requires idle { seat.old.view.stage ≡ Idle }
+        requires room { seat.old.view.drawn < 2 ^ 48 }
+        requires free { open_claim (own seat.old.view.number seat.old.view.seen) ≡ None }
+        ensures lock { seat.new.lock ≡ seat.old.lock }
+        ensures idle { seat.new.view.stage ≡ Idle }
+        ensures number { seat.new.view.number ≡ seat.old.view.number }
+        ensures drawn { seat.new.view.drawn ≡ seat.old.view.drawn + 1 }
+        ensures common_part { seat.new.view.part ≡ seat.old.view.part }
+        ensures joined { (seat.new.view.made ≡ seat.old.view.made) × (seat.new.view.joined ≡ seat.old.view.joined) }
+        ensures begins { IsPrefix seat.old.view.seen seat.new.view.seen }
+        ensures legal { Legal seat.old.view.part.capacity seat.new.view.seen }
+        ensures last { IfOk result (λ reply. EndsWithCall seat.old.view.part.capacity
+            (call seat.old.view.number (arc_value key.now) (answered reply)) seat.old.view.seen seat.new.view.seen) }
+        ensures own { IfOk result (λ reply. own seat.old.view.number seat.new.view.seen
+            ≡ own seat.old.view.number seat.old.view.seen
+            ++ call seat.old.view.number (arc_value key.now) (answered reply) ∷ []) }
+        ensures claim { IfOk result (λ reply. open_claim (own seat.old.view.number seat.new.view.seen)
+            ≡ left_by (arc_value key.now) (answered reply)) }
+        ensures stands { IfOk result (λ reply. HitStands T.stands_for reply (arc_value key.now) seat.old.view.part) }
+        ensures refused { OnErr result (own seat.old.view.number seat.new.view.seen
+            ≡ own seat.old.view.number seat.old.view.seen) }
+    {
+        let mut state = self.lock.take(rt, seat);
+        let reply = state.look(seat.number(), key);
+        self.lock.give(seat, state);
+        reply
+    }
+
+    /// Hands in, in one turn, the font of the key that the seat has claimed, which ends the claim; waits for the turn.
+    /// The font stands for the key in the common part. The answer is the key whose font left for it. `Err` means that
+    /// memory was wanting: it hands the font back and adds no call, so the seat still holds its claim. The font that
+    /// left is let go when the turn has been handed on.
+    pub fn fill<R: Wait>(
+        &self,
+        rt: &R,
+        seat: &mut CacheSeat<T>,
+        key: &Arc<FontKey>,
+        value: Arc<T>,
+    ) -> Result<Option<Arc<FontKey>>, Arc<T>>
+        requires lock { seat.old.lock ≡ self.now }
+        requires idle { seat.old.view.stage ≡ Idle }
+        requires room { seat.old.view.drawn < 2 ^ 48 }
+        requires claim { open_claim (own seat.old.view.number seat.old.view.seen) ≡ Some (arc_value key.now) }
+        requires stands { T.stands_for (arc_value value) (arc_value key.now) seat.old.view.part }
+        ensures lock { seat.new.lock ≡ seat.old.lock }
+        ensures idle { seat.new.view.stage ≡ Idle }
+        ensures number { seat.new.view.number ≡ seat.old.view.number }
+        ensures drawn { seat.new.view.drawn ≡ seat.old.view.drawn + 1 }
+        ensures common_part { seat.new.view.part ≡ seat.old.view.part }
+        ensures joined { (seat.new.view.made ≡ seat.old.view.made) × (seat.new.view.joined ≡ seat.old.view.joined) }
+        ensures begins { IsPrefix seat.old.view.seen seat.new.view.seen }
+        ensures legal { Legal seat.old.view.part.capacity seat.new.view.seen }
+        ensures last { IfOk result (λ gone. EndsWithCall seat.old.view.part.capacity
+            (call seat.old.view.number (arc_value key.now) (Filled (option_map arc_value gone)))
+            seat.old.view.seen seat.new.view.seen) }
+        ensures own { IfOk result (λ gone. own seat.old.view.number seat.new.view.seen
+            ≡ own seat.old.view.number seat.old.view.seen
+            ++ call seat.old.view.number (arc_value key.now) (Filled (option_map arc_value gone)) ∷ []) }
+        ensures free { IfOk result (λ _. open_claim (own seat.old.view.number seat.new.view.seen) ≡ None) }
+        ensures back { IfErr result (λ handed. handed ≡ value) }
+        ensures refused { OnErr result (own seat.old.view.number seat.new.view.seen
+            ≡ own seat.old.view.number seat.old.view.seen) }
+    {
+        let mut state = self.lock.take(rt, seat);
+        let filled = state.fill_keeping(seat.number(), key, value);
+        self.lock.give(seat, state);
+        // Only now, since this seat may be the last owner of the font that left.
+        key_alone(filled)
+    }
+
+    /// Gives up, in one turn, the claim that the seat holds; waits for the turn. It takes no memory.
+    pub fn release<R: Wait>(&self, rt: &R, seat: &mut CacheSeat<T>, key: &Arc<FontKey>)
+        requires lock { seat.old.lock ≡ self.now }
+        requires idle { seat.old.view.stage ≡ Idle }
+        requires room { seat.old.view.drawn < 2 ^ 48 }
+        requires claim { open_claim (own seat.old.view.number seat.old.view.seen) ≡ Some (arc_value key.now) }
+        ensures lock { seat.new.lock ≡ seat.old.lock }
+        ensures idle { seat.new.view.stage ≡ Idle }
+        ensures number { seat.new.view.number ≡ seat.old.view.number }
+        ensures drawn { seat.new.view.drawn ≡ seat.old.view.drawn + 1 }
+        ensures common_part { seat.new.view.part ≡ seat.old.view.part }
+        ensures joined { (seat.new.view.made ≡ seat.old.view.made) × (seat.new.view.joined ≡ seat.old.view.joined) }
+        ensures begins { IsPrefix seat.old.view.seen seat.new.view.seen }
+        ensures legal { Legal seat.old.view.part.capacity seat.new.view.seen }
+        ensures last { EndsWithCall seat.old.view.part.capacity
+            (call seat.old.view.number (arc_value key.now) Released) seat.old.view.seen seat.new.view.seen }
+        ensures own { own seat.old.view.number seat.new.view.seen
+            ≡ own seat.old.view.number seat.old.view.seen
+            ++ call seat.old.view.number (arc_value key.now) Released ∷ [] }
+        ensures free { open_claim (own seat.old.view.number seat.new.view.seen) ≡ None }
+    {
+        let mut state = self.lock.take(rt, seat);
+        state.release(seat.number(), key);
+        self.lock.give(seat, state);
+    }
+
+    /// The whole history, once all other seats were joined and no turn is held: just what seat 0 has seen. It is legal
+    /// for the capacity of the common part, has no call of a number that wasn't made, and claims each key at most once
+    /// more than its font left and its claims were given up together. The fonts are let go.
+    pub fn close(self, first: CacheSeat<T>) -> Vec<Entry>
+        requires lock { first.lock ≡ self }
+        requires first { first.view.number ≡ 0 }
+        requires idle { first.view.stage ≡ Idle }
+        requires joined { AllJoined first.view }
+        ensures history { calls_of result.items ≡ first.view.seen }
+        ensures legal { Legal first.view.part.capacity (calls_of result.items) }
+        ensures made { AllMade first.view.made (calls_of result.items) }
+        ensures few_claims { FewClaims (calls_of result.items) }
+    {
+        let FontCache { lock } = self;
+        lock.close(first).finish()
+    }
+}

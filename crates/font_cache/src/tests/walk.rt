@@ -1,0 +1,170 @@
+//! The machine of a cache of three fonts once more, in few words, for tests alone: it judges a history from outside.
+use std::alloc::Global;
+use std::test::Fail;
+
+// How many fonts are kept.
+const ROOM: usize = 3;
+
+// What a caller was told at one call.
+#[derive(Clone, Copy)]
+pub(crate) struct Note {
+    // The key by its size, a letter for what was done, and the key that left, or 0.
+    pub(crate) told: (u32, char, u32),
+    // The number of the font that was found or handed in, or 0.
+    pub(crate) font: u32,
+}
+
+impl Note {
+    pub(crate) fn new(key: u32, act: char, gone: u32, font: u32) -> Note {
+        Note {
+            told: (key, act, gone),
+            font,
+        }
+    }
+}
+
+// The fonts that are there, newest first, each a key and the font's number; and the claims, each a seat and a key.
+#[derive(Drop)]
+pub(crate) struct Walk {
+    fonts: Vec<(u32, u32)>,
+    claims: Vec<(u32, u32)>,
+}
+
+impl Walk {
+    pub(crate) fn new(alloc: Global) -> Walk {
+        Walk {
+            fonts: Vec::new(alloc),
+            claims: Vec::new(alloc),
+        }
+    }
+
+    fn font_of(&self, key: u32) -> Option<u32> {
+        self.fonts
+            .iter()
+            .find(|font: &&(u32, u32)| font.0 == key)
+            .map(|font: &(u32, u32)| font.1)
+    }
+
+    fn claim_of(&self, seat: u32) -> Option<u32> {
+        self.claims
+            .iter()
+            .find(|claim: &&(u32, u32)| claim.0 == seat)
+            .map(|claim: &(u32, u32)| claim.1)
+    }
+
+    fn is_claimed(&self, key: u32) -> bool {
+        self.claims.iter().any(|claim: &(u32, u32)| claim.1 == key)
+    }
+
+    // Puts a font at the front, and gives the key of the one that leaves for it, or 0.
+    fn put(&mut self, key: u32, font: u32) -> u32 {
+        if self.fonts.insert(0, (key, font)).is_err() {
+            return 0;
+        }
+        if self.fonts.len() <= ROOM {
+            return 0;
+        }
+        self.fonts.pop().map_or(0, |gone: (u32, u32)| gone.0)
+    }
+
+    // Brings a font to the front, and says whether it was there.
+    fn renew(&mut self, key: u32, font: u32) -> bool {
+        let was_there = self.font_of(key) == Some(font);
+        self.fonts.retain(|other: &(u32, u32)| other.0 != key);
+        self.put(key, font);
+        was_there
+    }
+
+    // Ends the claim of a seat, and says whether it was on this key.
+    fn end(&mut self, seat: u32, key: u32) -> bool {
+        let was_held = self.claim_of(seat) == Some(key);
+        self.claims.retain(|claim: &(u32, u32)| claim.0 != seat);
+        was_held
+    }
+
+    // Claims a key that is neither there nor claimed, and says whether that was so.
+    fn claim(&mut self, seat: u32, key: u32) -> bool {
+        let is_free = self.font_of(key).is_none() && !self.is_claimed(key);
+        is_free && self.claims.push((seat, key)).is_ok()
+    }
+
+    // Makes the change of a call, and says whether it may be made.
+    pub(crate) fn takes(&mut self, seat: u32, note: &Note) -> bool {
+        let (key, act, gone) = note.told;
+        let holds_none = self.claim_of(seat).is_none();
+        match act {
+            'h' => holds_none && self.renew(key, note.font),
+            'b' => holds_none && self.font_of(key).is_none() && self.is_claimed(key),
+            'c' => holds_none && self.claim(seat, key),
+            'f' => self.end(seat, key)
+                && self.font_of(key).is_none()
+                && self.put(key, note.font) == gone,
+            'r' => self.end(seat, key),
+            _ => false,
+        }
+    }
+}
+
+// Seat 1 claims key 5, or brings in four fonts where one leaves: the newest three are then 8, 5 and 7.
+fn one_claim() -> [Note; 1] {
+    [Note::new(5, 'c', 0, 0)]
+}
+
+fn four_fonts() -> [Note; 9] {
+    [
+        Note::new(5, 'c', 0, 0),
+        Note::new(5, 'f', 0, 15),
+        Note::new(6, 'c', 0, 0),
+        Note::new(6, 'f', 0, 16),
+        Note::new(7, 'c', 0, 0),
+        Note::new(7, 'f', 0, 17),
+        Note::new(5, 'h', 0, 15),
+        Note::new(8, 'c', 0, 0),
+        Note::new(8, 'f', 6, 18),
+    ]
+}
+
+// Whether these calls of seat 1 are taken, and whether the last call then is.
+fn judged(alloc: Global, calls: &[Note], seat: u32, last: &Note) -> (bool, bool) {
+    let mut walk = Walk::new(alloc);
+    let mut all = true;
+    for call in calls {
+        all = walk.takes(1, call) && all;
+    }
+    (all, walk.takes(seat, last))
+}
+
+#[test]
+fn calls_that_the_walk_refuses(rt: HostRuntime) -> Result<(), Fail> {
+    let claimed = [
+        (1, Note::new(5, 'b', 0, 0)),
+        (1, Note::new(6, 'c', 0, 0)),
+        (2, Note::new(5, 'c', 0, 0)),
+        (2, Note::new(5, 'h', 0, 0)),
+        (2, Note::new(5, 'f', 0, 1)),
+        (2, Note::new(5, 'r', 0, 0)),
+        (2, Note::new(6, 'b', 0, 0)),
+        (1, Note::new(5, 'f', 6, 1)),
+    ];
+    for (seat, last) in &claimed {
+        assert_eq!(rt;
+            judged(rt.alloc(), &one_claim(), *seat, last),
+            (true, false)
+        );
+    }
+    let full = [
+        (1, Note::new(5, 'h', 0, 17)),
+        (1, Note::new(6, 'h', 0, 16)),
+        (1, Note::new(7, 'c', 0, 0)),
+        (1, Note::new(8, 'r', 0, 0)),
+    ];
+    for (seat, last) in &full {
+        assert_eq!(rt;
+            judged(rt.alloc(), &four_fonts(), *seat, last),
+            (true, false)
+        );
+    }
+    let free = Note::new(6, 'c', 0, 0);
+    assert_eq!(rt; judged(rt.alloc(), &four_fonts(), 2, &free), (true, true));
+    Ok(())
+}
