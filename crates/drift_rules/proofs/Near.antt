@@ -3,7 +3,7 @@ use Rattle.std.proofs.Common.{◌≡◌, ℕ, ◌+◌, ◌*◌, ◌/◌, ◌<◌
 use Rattle.std.specs.List.{AllByRecursion}
 use Rattle.std.proofs.lemmas.Int.{ints}
 use Rattle.pixel_round.specs.Pixels.{Fraction, round}
-use Rattle.drift_rules.specs.Position.{State, IsNear, AreNear, KeepsNear, Step, StepsKeepNear, drifted, at_h, at_v, PagesKeepNear, FlatCommand, at_origin, zeros, Leads, Skip, Rule, Right, W, X, Down, Y, Z, W0, X0, Y0, Z0, Push, Pop, restoring}
+use Rattle.drift_rules.specs.Position.{State, IsNear, AreNear, KeepsNear, Step, StepsKeepNear, drifted, at_h, at_v, PagesKeepNear, FlatCommand, at_origin, zeros, Leads, Skip, Char, Rule, Right, W, X, Down, Y, Z, W0, X0, Y0, Z0, Push, Pop, restoring}
 use Rattle.drift_rules.specs.declared.flat.Registers.{Registers}
 use Rattle.drift_rules.specs.declared.faults.PenFault.TheVariants.{Overflow, StackDeep}
 
@@ -40,6 +40,8 @@ stays c s t k e =
 
 pub steps_keep_near : StepsKeepNear
 steps_keep_near c s t Skip k e = stays c s t k e
+steps_keep_near c s t (Char key code width true) k e = stays c s t k e
+steps_keep_near c s t (Char key code width false) k e = subst (λ (x : State). KeepsNear c x) (held _ _ t e) (near_across c s s.now _ _ k refl refl)
 steps_keep_near c s t (Rule height width true) k e = stays c s t k e
 steps_keep_near c s t (Rule height width false) k e = subst (λ (x : State). KeepsNear c x) (held _ _ t e) (near_across c s s.now _ _ k refl refl)
 steps_keep_near c s t (Right p space) k e = subst (λ (x : State). KeepsNear c x) (held _ _ t e) (near_across c s s.now _ _ k refl refl)

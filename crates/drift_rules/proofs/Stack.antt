@@ -7,7 +7,7 @@ use Rattle.pixel_round.specs.Pixels.{Fraction}
 use Rattle.drift_rules.specs.declared.flat.Registers.{Registers}
 use Rattle.drift_rules.specs.declared.faults.PenFault.{PenFault}
 use Rattle.drift_rules.specs.declared.faults.PenFault.TheVariants.{Overflow, StackEmpty, StackDeep}
-use Rattle.drift_rules.specs.Position.{State, FlatCommand, Leads, MAX_SAVED, Step, after, restoring, Skip, Rule, Right, W, X, Down, Y, Z, W0, X0, Y0, Z0, Push, Pop}
+use Rattle.drift_rules.specs.Position.{State, FlatCommand, Leads, MAX_SAVED, Step, after, restoring, Skip, Char, Rule, Right, W, X, Down, Y, Z, W0, X0, Y0, Z0, Push, Pop}
 use Rattle.drift_rules.specs.Stack.{is_push, is_pop, pushes, pops, PopsItsOwn, IsBalanced, PopsGiveBack, SavedStay, FewAreSaved, EmptyAtAPop, DeepAtAPush}
 use Rattle.drift_rules.proofs.Near.{held, saved_is}
 
@@ -34,6 +34,8 @@ same_saved b s t e = sym (ap saved_of (held b s t e))
 
 pub saved_stays : (c : Fraction) (s t : State) (f : FlatCommand) → is_push f ≡ false → is_pop f ≡ false → Step c s f t → t.saved ≡ s.saved
 saved_stays c s t Skip _ _ e = let was : s ≡ t = cc in sym (ap saved_of was)
+saved_stays c s t (Char key code width true) _ _ e = let was : s ≡ t = cc in sym (ap saved_of was)
+saved_stays c s t (Char key code width false) _ _ e = same_saved _ _ t e
 saved_stays c s t (Rule height width true) _ _ e = let was : s ≡ t = cc in sym (ap saved_of was)
 saved_stays c s t (Rule height width false) _ _ e = same_saved _ _ t e
 saved_stays c s t (Right p space) _ _ e = same_saved _ _ t e
@@ -224,6 +226,8 @@ goes_on s fault e = cc
 -- a command that neither saves nor restores has one fault
 pub only_overflow : (c : Fraction) (s : State) (f : FlatCommand) (fault : PenFault) → is_push f ≡ false → is_pop f ≡ false → after c s f ≡ Err fault → fault ≡ Overflow
 only_overflow c s Skip fault _ _ e = absurd (goes_on s fault e)
+only_overflow c s (Char key code width true) fault _ _ e = absurd (goes_on s fault e)
+only_overflow c s (Char key code width false) fault _ _ e = overflow_by _ _ fault e
 only_overflow c s (Rule height width true) fault _ _ e = absurd (goes_on s fault e)
 only_overflow c s (Rule height width false) fault _ _ e = overflow_by _ _ fault e
 only_overflow c s (Right p space) fault _ _ e = overflow_by _ _ fault e

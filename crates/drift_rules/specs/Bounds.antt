@@ -5,7 +5,7 @@ use Rattle.pixel_round.specs.Pixels.{Fraction}
 use Rattle.drift_rules.specs.declared.flat.Registers.{Registers}
 use Rattle.drift_rules.specs.declared.flat.Mark.{Mark}
 use Rattle.drift_rules.specs.declared.flat.Mark.TheVariants as code
-use Rattle.drift_rules.specs.Position.{AreNear, FlatCommand, Skip, Rule, Right, W, X, Down, Y, Z, W0, X0, Y0, Z0, Push, Pop, State}
+use Rattle.drift_rules.specs.Position.{AreNear, FlatCommand, Skip, Char, Rule, Right, W, X, Down, Y, Z, W0, X0, Y0, Z0, Push, Pop, State}
 
 -- a number of a command: four bytes in two's complement hold nothing farther from 0
 abbrev pub IsNumber : ℤ → Type 0
@@ -19,6 +19,7 @@ pub record IsSpace (space : ℤ) : Type 0 where
 -- what may be handed to a pen
 abbrev pub IsInReach : FlatCommand → Type 0
 IsInReach Skip = Unit {0}
+IsInReach (Char key number width put) = IsNumber width
 IsInReach (Rule height width put) = IsNumber height × IsNumber width
 IsInReach (Right by space) = IsNumber by × IsSpace space
 IsInReach (W by space) = IsNumber by × IsSpace space
@@ -54,6 +55,10 @@ pub record IsHeldState (c : Fraction) (s : State) : Type 0 where
 abbrev pub IsWithinReach : ℤ → Type 0
 IsWithinReach z = unsigned_abs z + 2 ^ 20 ≤ 2 ^ 42
 
+-- a row or a column so near that it stays there where the offset of a glyph, a number of four bytes, is taken away too
+abbrev pub IsPlaceable : ℤ → Type 0
+IsPlaceable z = unsigned_abs z + 2 ^ 32 ≤ 2 ^ 42
+
 -- a rectangle with at least one dot
 pub record IsRectangle (x y w h : ℤ) : Type 0 where
   pub left : IsWithinReach x
@@ -63,5 +68,5 @@ pub record IsRectangle (x y w h : ℤ) : Type 0 where
 
 -- a mark as a page's painter takes it
 abbrev pub IsPaintable : Mark → Type 0
-IsPaintable (code.Char hh vv) = IsWithinReach hh × IsWithinReach vv
+IsPaintable (code.Char hh vv) = IsPlaceable hh × IsPlaceable vv
 IsPaintable (code.Rule x y w h) = IsRectangle x y w h

@@ -2,6 +2,8 @@
 -- pop).
 use Rattle.std.specs.Prelude.{◌≡◌, ℕ, ◌≤◌, ℤ, pos, negsuc, ◌+ℤ◌, ◌-ℤ◌, ◌*ℤ◌, unsigned_abs, Bool, true, false, ◌||◌, List, [], ◌∷◌, length, nat_le, int_le, int_lt, if◌then◌else◌, Result, Ok, Err}
 use Rattle.std.specs.List.{AllByRecursion}
+use Rattle.std.specs.Arc.{arc_value}
+use Rattle.outside.specs.declared.keys.FontKey.{FontKey}
 use Rattle.pixel_round.specs.Pixels.{Fraction, round, ceil}
 use Rattle.drift_rules.specs.declared.flat.Registers.{Registers}
 use Rattle.drift_rules.specs.declared.flat.Flat.{Flat}
@@ -9,9 +11,11 @@ use Rattle.drift_rules.specs.declared.flat.Flat.TheVariants as code
 use Rattle.drift_rules.specs.declared.faults.PenFault.{PenFault}
 use Rattle.drift_rules.specs.declared.faults.PenFault.TheVariants.{Overflow, StackEmpty, StackDeep}
 
--- a flat command, with all that it names as a value: a rule's height, width and whether it is put, a motion and the space
+-- a flat command, with all that it names as a value: a character's font, code, width and whether it is put, a rule's height, width and
+-- whether it is put, a motion and the space
 pub data FlatCommand : Type 0 where
   Skip : FlatCommand
+  Char : FontKey → ℕ → ℤ → Bool → FlatCommand
   Rule : ℤ → ℤ → Bool → FlatCommand
   Right : ℤ → ℤ → FlatCommand
   W : ℤ → ℤ → FlatCommand
@@ -110,6 +114,8 @@ restoring (r ∷ saved) = Ok (record { now = r; saved = saved })
 -- the state after a flat command, or why there is none
 abbrev pub after : Fraction → State → FlatCommand → Result State PenFault
 after c s Skip = Ok s
+after c s (Char key code width true) = Ok s
+after c s (Char key code width false) = over c s width (round c width)
 after c s (Rule height width true) = Ok s
 after c s (Rule height width false) = over c s width (ceil c width)
 after c s (Right p space) = right_by c s s.now p space
@@ -138,6 +144,7 @@ Leads c s (f ∷ flats) t = (mid : State) × Step c s f mid × Leads c mid flats
 
 abbrev pub seen_flat : Flat → FlatCommand
 seen_flat code.Skip = Skip
+seen_flat (code.Char key number width put) = Char (arc_value key) number width put
 seen_flat (code.Rule height width put) = Rule height width put
 seen_flat (code.Right by space) = Right by space
 seen_flat (code.W by space) = W by space

@@ -1,4 +1,6 @@
 //! A page without virtual characters, and what a step of the pen marks.
+use outside::FontKey;
+use std::sync::Arc;
 
 /// A command of a page in which every virtual character is expanded. Lengths and motions are in DVI units; `space` is the size
 /// of the font that is current where the command stands, divided by 6 and rounded down, and 0 where none is.
@@ -6,28 +8,66 @@
 pub enum Flat {
     /// Nothing: a command that moves and marks nothing.
     Skip,
+    /// A character of the font with this key, with its reference point at the present place. A character that is put, not set,
+    /// moves nothing; `width` is its width.
+    Char {
+        key: Arc<FontKey>,
+        code: u8,
+        width: i64,
+        put: bool,
+    },
     /// A rule with its lower left corner at the present place. A rule that is put, not set, moves nothing.
-    Rule { height: i64, width: i64, put: bool },
+    Rule {
+        height: i64,
+        width: i64,
+        put: bool,
+    },
     /// To the right.
-    Right { by: i64, space: i64 },
+    Right {
+        by: i64,
+        space: i64,
+    },
     /// To the right, and w becomes the motion.
-    W { by: i64, space: i64 },
+    W {
+        by: i64,
+        space: i64,
+    },
     /// To the right, and x becomes the motion.
-    X { by: i64, space: i64 },
+    X {
+        by: i64,
+        space: i64,
+    },
     /// Down.
-    Down { by: i64, space: i64 },
+    Down {
+        by: i64,
+        space: i64,
+    },
     /// Down, and y becomes the motion.
-    Y { by: i64, space: i64 },
+    Y {
+        by: i64,
+        space: i64,
+    },
     /// Down, and z becomes the motion.
-    Z { by: i64, space: i64 },
+    Z {
+        by: i64,
+        space: i64,
+    },
     /// To the right by w.
-    W0 { space: i64 },
+    W0 {
+        space: i64,
+    },
     /// To the right by x.
-    X0 { space: i64 },
+    X0 {
+        space: i64,
+    },
     /// Down by y.
-    Y0 { space: i64 },
+    Y0 {
+        space: i64,
+    },
     /// Down by z.
-    Z0 { space: i64 },
+    Z0 {
+        space: i64,
+    },
     /// All eight registers are saved, and stay as they are.
     Push,
     /// All eight registers become those that were saved last, which are saved no longer. Nothing is rounded.

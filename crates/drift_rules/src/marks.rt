@@ -16,6 +16,10 @@ pub(crate) fn mark_at(conv: &Conv, now: Registers, flat: &Flat) -> Option<Mark>
     ensures paintable { IfSome result IsPaintable }
 {
     match flat {
+        Flat::Char { .. } => Some(Mark::Char {
+            hh: now.hh,
+            vv: now.vv,
+        }),
         Flat::Rule { height, width, .. } => rule_at(conv, now, *height, *width),
         _ => None,
     }

@@ -31,6 +31,12 @@ pub(crate) fn moved(conv: &Conv, now: Registers, flat: &Flat) -> Result<Register
 {
     match flat {
         Flat::Skip => Ok(now),
+        Flat::Char { put: true, .. } => Ok(now),
+        Flat::Char {
+            width,
+            put: false,
+            ..
+        } => over(conv, now, *width, conv.round(*width)),
         Flat::Rule { put: true, .. } => Ok(now),
         Flat::Rule {
             width,

@@ -1,9 +1,21 @@
-//! Worked motions, pushes and pops at one half of a dot for a unit and a space of 2, by computation.
+//! Worked characters, motions, pushes and pops at one half of a dot for a unit and a space of 2, by computation.
 
-ghost use Rattle.std.specs.Prelude.{◌≡◌, pos, negsuc, Ok, Err, [], ◌∷◌};
+ghost use Rattle.std.specs.Prelude.{◌≡◌, ℕ, Bool, pos, negsuc, true, false, Ok, Err, Some, [], ◌∷◌};
+ghost use Rattle.outside.specs.declared.keys.FontKey.{FontKey};
 ghost use Rattle.drift_rules.specs.declared.faults.PenFault.{PenFault};
-ghost use Rattle.drift_rules.specs.Position.{after, at_origin, zeros, Right, Down, Push, Pop};
-ghost use Rattle.drift_rules.specs.Rows.{half, at, at_v_2, at_h_2, drifted_place, row, with_saved};
+ghost use Rattle.drift_rules.specs.Position.{after, at_origin, zeros, Char, Right, Down, Push, Pop};
+ghost use Rattle.drift_rules.specs.Marks.{mark_of};
+ghost use Rattle.drift_rules.specs.Rows.{half, at, at_h_2, at_h_5, at_v_2, char_mark, drifted_place, row, with_saved};
+
+/// A set character moves hh by its rounded width, and the drift rule holds it: of h = 6 and hh = 6 it makes hh = 5. A width of -3 is
+/// -1.5 dots, of which hh takes -2. A put one moves nothing, and both are marked where they stand, whatever their font and code are.
+pub fn characters()
+    ensures set_1 { (key : FontKey) (code : ℕ) → after half at_origin (Char key code (pos 1) false) ≡ row (pos 1) (pos 1) }
+    ensures set_3_back { (key : FontKey) (code : ℕ) → after half at_h_2 (Char key code (negsuc 2) false) ≡ row (negsuc 0) (pos 0) }
+    ensures held { (key : FontKey) (code : ℕ) → after half at_h_5 (Char key code (pos 1) false) ≡ row (pos 6) (pos 5) }
+    ensures put_stays { (key : FontKey) (code : ℕ) → after half at_h_2 (Char key code (pos 1) true) ≡ Ok at_h_2 }
+    ensures marked { (key : FontKey) (code : ℕ) (put : Bool) → mark_of half drifted_place (Char key code (pos 6) put) ≡ Some (char_mark (pos 5) (pos 9)) }
+{}
 
 /// From h = 2 and hh = 2: a word space and a long way back are rounded anew, a small motion drifts.
 pub fn across()

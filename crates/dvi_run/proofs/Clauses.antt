@@ -1,15 +1,17 @@
 -- From how a run ends to what its status says.
-use Rattle.std.proofs.Common.{◌≡◌, ◌∙◌, inl, inr, ℕ, List, [], ◌∷◌, Option, Some, None, arith, refl, sym, ap}
-use Rattle.outside.specs.Counts.{Rose}
+use Rattle.std.proofs.Common.{◌≡◌, ◌∙◌, ◌⊎◌, inl, inr, ℕ, List, [], ◌∷◌, Option, Some, None, refl, sym, ap}
+use Rattle.outside.specs.Library.{Files}
 use Rattle.page_index.specs.Document.{Reading}
 use Rattle.page_index.specs.Faults.{IsFirstFault}
 use Rattle.page_index.specs.declared.faults.DocFault.{DocFault}
-use Rattle.dvi_run.specs.Reading.{OfRead}
-use Rattle.dvi_run.specs.Pages.{FailingPage, IsRun, PageValue, RESOLUTION, run_fault}
-use Rattle.dvi_run.specs.Endings.{IsAmong, IsEnding, IsPlaced, OfRun, Stopped, Wrote, WroteFront, status_of, statuses}
-use Rattle.dvi_run.specs.Laws.{OneRun, RunsHaveNoFault}
-use Rattle.dvi_run.specs.declared.ending.Ending.{Ending}
-use Rattle.dvi_run.specs.declared.ending.Ending.TheVariants as ending
+use Rattle.vf_expand.specs.Faults.{PageFaultSeen}
+use Rattle.vf_expand.specs.Faults as fault
+use Rattle.page_draw.specs.Values.{PageValue}
+use Rattle.dvi_run.specs.Reading.{IsAllRead, OfRead}
+use Rattle.dvi_run.specs.Pages.{FailingPage, Given, IsRun, IsWholeRun, run_fault}
+use Rattle.dvi_run.specs.Endings.{EndingSeen, Written, Usage, Document, Page, Source, Input, Output, Memory, IsAmong, IsEnding, IsPlaced, OfRun, Stopped, Wrote, WroteBefore, WroteFront, WroteSome, page_status, status_of, statuses}
+use Rattle.dvi_run.specs.Laws.{OneReading, OneRun, RunsHaveNoFault}
+use Rattle.dvi_run.proofs.OneRun.{all_good, ends_once}
 
 of_each : (P Q : List ℕ → Type 0) (old : Option (List ℕ)) → ((bytes : List ℕ) → P bytes → Q bytes) → OfRead old P → OfRead old Q
 of_each P Q None f p = tt
@@ -19,137 +21,233 @@ of_all : (Q : List ℕ → Type 0) (old : Option (List ℕ)) → ((bytes : List 
 of_all Q None f = tt
 of_all Q (Some bytes) f = f _
 
-pub has_status : (e : Ending) → IsAmong (status_of e) statuses
-has_status ending.Written = inl refl
-has_status ending.Usage = inr (inl refl)
-has_status (ending.Document fault) = inr (inr (inl refl))
-has_status (ending.Page page fault at) = inr (inr (inr (inl refl)))
-has_status ending.Input = inr (inr (inr (inr (inl refl))))
-has_status (ending.Output page) = inr (inr (inr (inr (inr (inl refl)))))
-has_status ending.Memory = inr (inr (inr (inr (inr (inr (inl refl))))))
+-- a page's status is 3 or 4
+abbrev AtPage : ℕ → Type 0
+AtPage n = (n ≡ 3) ⊎ (n ≡ 4)
 
--- ---- what is owed for each
+at_page : (f : PageFaultSeen) → AtPage (page_status f)
+at_page (fault.NoFont n) = inl refl
+at_page fault.NoCurrentFont = inl refl
+at_page (fault.NoCharacter k c) = inl refl
+at_page (fault.NoGlyph k c) = inl refl
+at_page fault.TooLong = inl refl
+at_page (fault.Font k f) = inr refl
+at_page (fault.Pen f) = inl refl
 
-abbrev IsRefused : Ending → List ℕ → Type 0
-IsRefused e bytes = (fault : DocFault) → IsFirstFault RESOLUTION bytes fault → IsAmong (status_of e) (2 ∷ 6 ∷ 9 ∷ [])
+status_at : (n : ℕ) → AtPage n → IsAmong n statuses
+status_at n (inl three) = inr (inr (inl three))
+status_at n (inr four) = inr (inr (inr (inl four)))
 
-abbrev IsStopped : Ending → List ℕ → Type 0
-IsStopped e bytes = (reading : Reading) (values : List PageValue) (page : FailingPage) → IsRun bytes reading values → run_fault values ≡ Some page
-    → IsAmong (status_of e) (3 ∷ 6 ∷ 7 ∷ 9 ∷ [])
+-- a number is none of six
+is_none : (n : ℕ) → (n ≡ 0 → ⊥) → (n ≡ 2 → ⊥) → (n ≡ 3 → ⊥) → (n ≡ 4 → ⊥) → (n ≡ 5 → ⊥) → (n ≡ 7 → ⊥) → IsAmong n (0 ∷ 2 ∷ 3 ∷ 4 ∷ 5 ∷ 7 ∷ []) → ⊥
+is_none n a b c d e f (inl is) = a is
+is_none n a b c d e f (inr (inl is)) = b is
+is_none n a b c d e f (inr (inr (inl is))) = c is
+is_none n a b c d e f (inr (inr (inr (inl is)))) = d is
+is_none n a b c d e f (inr (inr (inr (inr (inl is))))) = e is
+is_none n a b c d e f (inr (inr (inr (inr (inr (inl is)))))) = f is
+is_none n a b c d e f (inr (inr (inr (inr (inr (inr none)))))) = none
 
-module _ (one_run : OneRun) (no_fault : RunsHaveNoFault) where
-  -- a document has no fault
-  not_both : (bytes : List ℕ) (P : List PageValue → Type 0) (fault : DocFault) → OfRun bytes P → IsFirstFault RESOLUTION bytes fault → ⊥
-  not_both bytes P fault run first = no_fault bytes run.0 run.1 fault run.2 first
+-- ---- what is owed for each, where the input tells its bytes
 
-  -- and not two runs' values
-  same_end : (bytes : List ℕ) (reading : Reading) (values : List PageValue) (a b : Option FailingPage) → OfRun bytes (λ vs. run_fault vs ≡ a) → IsRun bytes reading values
-      → run_fault values ≡ b → a ≡ b
-  same_end bytes reading values a b run other is = sym run.3 ∙ ap run_fault (one_run bytes run.0 reading run.1 values run.2 other) ∙ is
+module _ (old new : Option (List ℕ)) (OutputFailed SourceFailed OutputKept InputFailed : Type 0) (g : Given) (left rest : Option (List ℕ)) where
+  abbrev Ends : EndingSeen → Type 0
+  Ends e = IsEnding old new OutputFailed SourceFailed OutputKept InputFailed g left rest e
 
-  module _ {I O : Type 0} (left : I → Option (List ℕ)) (input_faults : I → ℕ) (written : O → Option (List ℕ)) (output_faults : O → ℕ)
-      (words : ℕ) (input input2 : I) (out out2 : O) (none : words ≡ 0) where
-    abbrev Ends : Ending → Type 0
-    Ends e = IsEnding left input_faults written output_faults e words input input2 out out2
+  pub has_status : (e : EndingSeen) → Ends e → IsAmong (status_of e) statuses
+  has_status Written h = inl refl
+  has_status Usage h = absurd h
+  has_status (Document fault) h = inr (inl refl)
+  has_status (Page page) h = status_at (page_status page.fault) (at_page page.fault)
+  has_status (Source page) h = inr (inr (inr (inr (inl refl))))
+  has_status Input h = inr (inr (inr (inr (inr (inl refl)))))
+  has_status (Output page) h = inr (inr (inr (inr (inr (inr (inl refl))))))
+  has_status Memory h = inr (inr (inr (inr (inr (inr (inr (inl refl)))))))
 
-    pub refused_by : (e : Ending) → Ends e → OfRead (left input) (IsRefused e)
-    refused_by ending.Usage h = absurd (omega (arith, h.0, none))
-    refused_by (ending.Document fault) h = of_all (IsRefused (ending.Document fault)) (left input) (λ bytes f first. inl refl)
-    refused_by (ending.Page page fault at) h =
-        let P = Stopped (written out) (written out2) (record { page = page; fault = fault; at = at }) in
-        of_each (λ bytes. OfRun bytes P) (IsRefused (ending.Page page fault at)) (left input) (λ bytes run f first. absurd (not_both bytes P f run first)) h.2
-    refused_by ending.Input h = of_all (IsRefused ending.Input) (left input) (λ bytes f first. inr (inl refl))
-    refused_by (ending.Output page) h =
-        let P = WroteFront (written out) (written out2) page in
-        of_each (λ bytes. OfRun bytes P) (IsRefused (ending.Output page)) (left input) (λ bytes run f first. absurd (not_both bytes P f run first)) h.3
-    refused_by ending.Written h =
-        let P = Wrote (written out) (written out2) in
-        of_each (λ bytes. OfRun bytes P) (IsRefused ending.Written) (left input) (λ bytes run f first. absurd (not_both bytes P f run first)) h.2
-    refused_by ending.Memory h = of_all (IsRefused ending.Memory) (left input) (λ bytes f first. inr (inr (inl refl)))
+  -- a page's status is no other
+  no_other : {A : Type 0} (page : FailingPage) (n : ℕ) → page_status page.fault ≡ n → (n ≡ 3 → ⊥) → (n ≡ 4 → ⊥) → A
+  no_other page n is not_three not_four = elim (at_page page.fault) [ inl three ↦ absurd (not_three (sym is ∙ three)) | inr four ↦ absurd (not_four (sym is ∙ four)) ]
 
-    pub stopped_by : (e : Ending) → Ends e → OfRead (left input) (IsStopped e)
-    stopped_by ending.Usage h = absurd (omega (arith, h.0, none))
-    stopped_by (ending.Document fault) h =
-        of_each (λ bytes. IsFirstFault RESOLUTION bytes fault) (IsStopped (ending.Document fault)) (left input)
-        (λ bytes first reading values page run is. absurd (no_fault bytes reading values fault run first)) h.2
-    stopped_by (ending.Page page fault at) h = of_all (IsStopped (ending.Page page fault at)) (left input) (λ bytes reading values page run is. inl refl)
-    stopped_by ending.Input h = of_all (IsStopped ending.Input) (left input) (λ bytes reading values page run is. inr (inl refl))
-    stopped_by (ending.Output n) h = of_all (IsStopped (ending.Output n)) (left input) (λ bytes reading values page run is. inr (inr (inl refl)))
-    stopped_by ending.Written h =
-        of_each (λ bytes. OfRun bytes (Wrote (written out) (written out2))) (IsStopped ending.Written) (left input)
-        (λ bytes run reading values page other is.
-        let bad : None ≡ Some page = same_end bytes reading values None (Some page) (run.0, run.1, run.2, run.3.good) other is in absurd cc) h.2
-    stopped_by ending.Memory h = of_all (IsStopped ending.Memory) (left input) (λ bytes reading values page run is. inr (inr (inr (inl refl))))
+  module _ (reading : OneReading) (one_run : OneRun) (no_fault : RunsHaveNoFault) where
+    -- a document has no fault
+    not_both : (bytes : List ℕ) (P : Reading → List PageValue → Type 0) (fault : DocFault) → OfRun g bytes P → IsFirstFault g.res bytes fault → ⊥
+    not_both bytes P fault run first = no_fault g bytes run.0 run.1 fault run.2 first
 
-    abbrev IsComplete : Ending → List ℕ → Type 0
-    IsComplete e bytes = (reading : Reading) (values : List PageValue) → IsRun bytes reading values → run_fault values ≡ None
-        → (Rose (input_faults input) (input_faults input2) → ⊥) → (Rose (output_faults out) (output_faults out2) → ⊥) → IsAmong (status_of e) (0 ∷ 9 ∷ [])
+    abbrev IsRefused : EndingSeen → List ℕ → Type 0
+    IsRefused e bytes = (fault : DocFault) → IsFirstFault g.res bytes fault → IsAmong (status_of e) (2 ∷ 6 ∷ 9 ∷ [])
 
-    pub complete_by : (e : Ending) → Ends e → OfRead (left input) (IsComplete e)
-    complete_by ending.Usage h = absurd (omega (arith, h.0, none))
-    complete_by (ending.Document fault) h =
-        of_each (λ bytes. IsFirstFault RESOLUTION bytes fault) (IsComplete (ending.Document fault)) (left input)
-        (λ bytes first reading values run is i o. absurd (no_fault bytes reading values fault run first)) h.2
-    complete_by (ending.Page page fault at) h =
-        let failing : FailingPage = record { page = page; fault = fault; at = at } in
-        of_each (λ bytes. OfRun bytes (Stopped (written out) (written out2) failing)) (IsComplete (ending.Page page fault at)) (left input)
-        (λ bytes run reading values other is i o.
-        let bad : Some failing ≡ None = same_end bytes reading values (Some failing) None (run.0, run.1, run.2, run.3.fails) other is in absurd cc) h.2
-    complete_by ending.Input h = of_all (IsComplete ending.Input) (left input) (λ bytes reading values run is i o. absurd (i h.1))
-    complete_by (ending.Output page) h = of_all (IsComplete (ending.Output page)) (left input) (λ bytes reading values run is i o. absurd (o h.2))
-    complete_by ending.Written h = of_all (IsComplete ending.Written) (left input) (λ bytes reading values run is i o. inl refl)
-    complete_by ending.Memory h = of_all (IsComplete ending.Memory) (left input) (λ bytes reading values run is i o. inr (inl refl))
+    pub refused_by : (e : EndingSeen) → Ends e → OfRead left (IsRefused e)
+    refused_by Usage h = absurd h
+    refused_by (Document fault) h = of_all (IsRefused (Document fault)) left (λ bytes f first. inl refl)
+    refused_by (Page page) h =
+        let P : Reading → List PageValue → Type 0 = λ _. Stopped old new page in
+        of_each (λ bytes. OfRun g bytes P) (IsRefused (Page page)) left (λ bytes run f first. absurd (not_both bytes P f run first)) h.1
+    refused_by (Source page) h =
+        let P : Reading → List PageValue → Type 0 = WroteBefore old new page in
+        of_each (λ bytes. OfRun g bytes P) (IsRefused (Source page)) left (λ bytes run f first. absurd (not_both bytes P f run first)) h.1
+    refused_by Input h = of_all (IsRefused Input) left (λ bytes f first. inr (inl refl))
+    refused_by (Output page) h =
+        let P : Reading → List PageValue → Type 0 = λ _. WroteFront old new page in
+        of_each (λ bytes. OfRun g bytes P) (IsRefused (Output page)) left (λ bytes run f first. absurd (not_both bytes P f run first)) h.1
+    refused_by Written h =
+        let P : Reading → List PageValue → Type 0 = Wrote old new in
+        of_each (λ bytes. OfRun g bytes P) (IsRefused Written) left (λ bytes run f first. absurd (not_both bytes P f run first)) h.1
+    refused_by Memory h = of_all (IsRefused Memory) left (λ bytes f first. inr (inr (inl refl)))
 
-module _ {I O : Type 0} (left : I → Option (List ℕ)) (input_faults : I → ℕ) (written : O → Option (List ℕ)) (output_faults : O → ℕ)
-    (words : ℕ) (input input2 : I) (out out2 : O) where
-  abbrev EndsSo : Ending → Type 0
-  EndsSo e = IsEnding left input_faults written output_faults e words input input2 out out2
+    module _ (files : Files) (told : g.library ≡ Some files) where
+      abbrev IsStopped : EndingSeen → List ℕ → Type 0
+      IsStopped e bytes = (r : Reading) (values : List PageValue) (page : FailingPage) → IsRun g bytes r values → run_fault values ≡ Some page
+          → IsAmong (status_of e) (page_status page.fault ∷ 5 ∷ 6 ∷ 7 ∷ 9 ∷ [])
 
-  -- the fault that a status has
+      pub stopped_by : (e : EndingSeen) → Ends e → OfRead left (IsStopped e)
+      stopped_by Usage h = absurd h
+      stopped_by (Document fault) h =
+          of_each (λ bytes. IsFirstFault g.res bytes fault) (IsStopped (Document fault)) left
+          (λ bytes first r values page run is. absurd (no_fault g bytes r values fault run first)) h.1
+      stopped_by (Page own) h =
+          of_each (λ bytes. OfRun g bytes (λ _. Stopped old new own)) (IsStopped (Page own)) left
+          (λ bytes run r values page other is.
+          let same : own ≡ page = ends_once reading one_run g files told bytes run.0 r run.1 values own page run.2 other run.3.fails is in
+          inl (ap (λ (p : FailingPage). page_status p.fault) same)) h.1
+      stopped_by (Source n) h = of_all (IsStopped (Source n)) left (λ bytes r values page run is. inr (inl refl))
+      stopped_by Input h = of_all (IsStopped Input) left (λ bytes r values page run is. inr (inr (inl refl)))
+      stopped_by (Output n) h = of_all (IsStopped (Output n)) left (λ bytes r values page run is. inr (inr (inr (inl refl))))
+      stopped_by Written h =
+          of_each (λ bytes. OfRun g bytes (Wrote old new)) (IsStopped Written) left
+          (λ bytes run r values page other is.
+          let none : run_fault values ≡ None =
+          all_good reading one_run g files told bytes run.0 r run.1 values (record { run = run.2; all = run.3.all }) run.3.good other in
+          let bad : Some page ≡ None = sym is ∙ none in absurd cc) h.1
+      stopped_by Memory h = of_all (IsStopped Memory) left (λ bytes r values page run is. inr (inr (inr (inr (inl refl)))))
+
+      abbrev IsComplete : EndingSeen → List ℕ → Type 0
+      IsComplete e bytes = (r : Reading) (values : List PageValue) → IsWholeRun g bytes r values → run_fault values ≡ None
+          → (InputFailed → ⊥) → (SourceFailed → ⊥) → (OutputFailed → ⊥) → IsAmong (status_of e) (0 ∷ 9 ∷ [])
+
+      pub complete_by : (e : EndingSeen) → Ends e → OfRead left (IsComplete e)
+      complete_by Usage h = absurd h
+      complete_by (Document fault) h =
+          of_each (λ bytes. IsFirstFault g.res bytes fault) (IsComplete (Document fault)) left
+          (λ bytes first r values whole is i s o. absurd (no_fault g bytes r values fault whole.run first)) h.1
+      complete_by (Page own) h =
+          of_each (λ bytes. OfRun g bytes (λ _. Stopped old new own)) (IsComplete (Page own)) left
+          (λ bytes run r values whole is i s o.
+          let none : run_fault run.1 ≡ None = all_good reading one_run g files told bytes r run.0 values run.1 whole is run.2 in
+          let bad : Some own ≡ None = sym run.3.fails ∙ none in absurd cc) h.1
+      complete_by (Source n) h = of_all (IsComplete (Source n)) left (λ bytes r values whole is i s o. absurd (s h.2))
+      complete_by Input h = of_all (IsComplete Input) left (λ bytes r values whole is i s o. absurd (i h.0))
+      complete_by (Output n) h = of_all (IsComplete (Output n)) left (λ bytes r values whole is i s o. absurd (o h.2))
+      complete_by Written h = of_all (IsComplete Written) left (λ bytes r values whole is i s o. inl refl)
+      complete_by Memory h = of_all (IsComplete Memory) left (λ bytes r values whole is i s o. inr (inl refl))
+
+  -- ---- what a status has
+
   abbrev HasFault : List ℕ → Type 0
-  HasFault bytes = (fault : DocFault) × IsFirstFault RESOLUTION bytes fault
+  HasFault bytes = (fault : DocFault) × IsFirstFault g.res bytes fault
 
-  pub document_by : (e : Ending) → status_of e ≡ 2 → EndsSo e → OfRead (left input) HasFault
-  document_by (ending.Document fault) is h = of_each (λ bytes. IsFirstFault RESOLUTION bytes fault) HasFault (left input) (λ bytes first. (fault, first)) h.2
-  document_by ending.Written is h = cc
-  document_by ending.Usage is h = cc
-  document_by (ending.Page page fault at) is h = cc
-  document_by ending.Input is h = cc
-  document_by (ending.Output page) is h = cc
-  document_by ending.Memory is h = cc
+  pub document_by : (e : EndingSeen) → status_of e ≡ 2 → Ends e → OfRead left HasFault × OutputKept
+  document_by Written is h = cc
+  document_by Usage is h = cc
+  document_by (Document fault) is h = (of_each (λ bytes. IsFirstFault g.res bytes fault) HasFault left (λ bytes first. (fault, first)) h.1, h.2)
+  document_by (Page page) is h = no_other page 2 is (λ three. cc) (λ four. cc)
+  document_by (Source page) is h = cc
+  document_by Input is h = cc
+  document_by (Output page) is h = cc
+  document_by Memory is h = cc
 
-  abbrev HasPage : List ℕ → Type 0
-  HasPage bytes = (page : FailingPage) × OfRun bytes (Stopped (written out) (written out2) page)
+  abbrev HasPage : ℕ → List ℕ → Type 0
+  HasPage status bytes = (page : FailingPage) × (status ≡ page_status page.fault) × OfRun g bytes (λ _. Stopped old new page)
 
-  pub page_by : (e : Ending) → status_of e ≡ 3 → EndsSo e → OfRead (left input) HasPage
-  page_by (ending.Page page fault at) is h =
-      let failing : FailingPage = record { page = page; fault = fault; at = at } in
-      of_each (λ bytes. OfRun bytes (Stopped (written out) (written out2) failing)) HasPage (left input) (λ bytes run. (failing, run)) h.2
-  page_by ending.Written is h = cc
-  page_by ending.Usage is h = cc
-  page_by (ending.Document fault) is h = cc
-  page_by ending.Input is h = cc
-  page_by (ending.Output page) is h = cc
-  page_by ending.Memory is h = cc
+  not_page : {A : Type 0} (n : ℕ) → (n ≡ 3 → ⊥) → (n ≡ 4 → ⊥) → IsAmong n (3 ∷ 4 ∷ []) → A
+  not_page n not_three not_four (inl three) = absurd (not_three three)
+  not_page n not_three not_four (inr (inl four)) = absurd (not_four four)
+  not_page n not_three not_four (inr (inr none)) = absurd none
+
+  pub page_by : (e : EndingSeen) → IsAmong (status_of e) (3 ∷ 4 ∷ []) → Ends e → OfRead left (HasPage (status_of e))
+  page_by Written is h = not_page 0 (λ three. cc) (λ four. cc) is
+  page_by Usage is h = not_page 1 (λ three. cc) (λ four. cc) is
+  page_by (Document fault) is h = not_page 2 (λ three. cc) (λ four. cc) is
+  page_by (Page page) is h =
+      of_each (λ bytes. OfRun g bytes (λ _. Stopped old new page)) (HasPage (page_status page.fault)) left (λ bytes run. (page, refl, run)) h.1
+  page_by (Source page) is h = not_page 5 (λ three. cc) (λ four. cc) is
+  page_by Input is h = not_page 6 (λ three. cc) (λ four. cc) is
+  page_by (Output page) is h = not_page 7 (λ three. cc) (λ four. cc) is
+  page_by Memory is h = not_page 9 (λ three. cc) (λ four. cc) is
+
+  abbrev HasBefore : List ℕ → Type 0
+  HasBefore bytes = (page : ℕ) × OfRun g bytes (WroteBefore old new page)
+
+  pub source_by : (e : EndingSeen) → status_of e ≡ 5 → Ends e → OfRead left HasBefore × SourceFailed
+  source_by Written is h = cc
+  source_by Usage is h = cc
+  source_by (Document fault) is h = cc
+  source_by (Page page) is h = no_other page 5 is (λ three. cc) (λ four. cc)
+  source_by (Source page) is h = (of_each (λ bytes. OfRun g bytes (WroteBefore old new page)) HasBefore left (λ bytes run. (page, run)) h.1, h.2)
+  source_by Input is h = cc
+  source_by (Output page) is h = cc
+  source_by Memory is h = cc
+
+  pub input_by : (e : EndingSeen) → status_of e ≡ 6 → Ends e → InputFailed × OutputKept
+  input_by Written is h = cc
+  input_by Usage is h = cc
+  input_by (Document fault) is h = cc
+  input_by (Page page) is h = no_other page 6 is (λ three. cc) (λ four. cc)
+  input_by (Source page) is h = cc
+  input_by Input is h = h
+  input_by (Output page) is h = cc
+  input_by Memory is h = cc
 
   abbrev HasFront : List ℕ → Type 0
-  HasFront bytes = (page : ℕ) × OfRun bytes (WroteFront (written out) (written out2) page)
+  HasFront bytes = (page : ℕ) × OfRun g bytes (λ _. WroteFront old new page)
 
-  pub front_by : (e : Ending) → status_of e ≡ 7 → EndsSo e → OfRead (left input) HasFront
-  front_by (ending.Output page) is h = of_each (λ bytes. OfRun bytes (WroteFront (written out) (written out2) page)) HasFront (left input) (λ bytes run. (page, run)) h.3
-  front_by ending.Written is h = cc
-  front_by ending.Usage is h = cc
-  front_by (ending.Document fault) is h = cc
-  front_by (ending.Page page fault at) is h = cc
-  front_by ending.Input is h = cc
-  front_by ending.Memory is h = cc
+  pub output_by : (e : EndingSeen) → status_of e ≡ 7 → Ends e → OfRead left HasFront × OutputFailed
+  output_by Written is h = cc
+  output_by Usage is h = cc
+  output_by (Document fault) is h = cc
+  output_by (Page page) is h = no_other page 7 is (λ three. cc) (λ four. cc)
+  output_by (Source page) is h = cc
+  output_by Input is h = cc
+  output_by (Output page) is h = (of_each (λ bytes. OfRun g bytes (λ _. WroteFront old new page)) HasFront left (λ bytes run. (page, run)) h.1, h.2)
+  output_by Memory is h = cc
+
+  pub written_by : (e : EndingSeen) → status_of e ≡ 0 → Ends e → OfRead left (λ bytes. OfRun g bytes (Wrote old new))
+  written_by Written is h = h.1
+  written_by Usage is h = cc
+  written_by (Document fault) is h = cc
+  written_by (Page page) is h = no_other page 0 is (λ three. cc) (λ four. cc)
+  written_by (Source page) is h = cc
+  written_by Input is h = cc
+  written_by (Output page) is h = cc
+  written_by Memory is h = cc
+
+  pub memory_by : (e : EndingSeen) → status_of e ≡ 9 → Ends e → (OutputKept ⊎ OfRead left (λ bytes. OfRun g bytes (λ _. WroteSome old new)))
+  memory_by Written is h = cc
+  memory_by Usage is h = cc
+  memory_by (Document fault) is h = cc
+  memory_by (Page page) is h = no_other page 9 is (λ three. cc) (λ four. cc)
+  memory_by (Source page) is h = cc
+  memory_by Input is h = cc
+  memory_by (Output page) is h = cc
+  memory_by Memory is h = h
+
+  -- the input was read, but where it failed or memory was wanting
+  pub read_by : (e : EndingSeen) → IsAmong (status_of e) (0 ∷ 2 ∷ 3 ∷ 4 ∷ 5 ∷ 7 ∷ []) → Ends e → IsAllRead left rest
+  read_by Written is h = h.0
+  read_by Usage is h = absurd h
+  read_by (Document fault) is h = h.0
+  read_by (Page page) is h = h.0
+  read_by (Source page) is h = h.0
+  read_by Input is h = absurd (is_none 6 (λ e. cc) (λ e. cc) (λ e. cc) (λ e. cc) (λ e. cc) (λ e. cc) is)
+  read_by (Output page) is h = h.0
+  read_by Memory is h = absurd (is_none 9 (λ e. cc) (λ e. cc) (λ e. cc) (λ e. cc) (λ e. cc) (λ e. cc) is)
 
   -- what the line says is so
-  pub placed_by : (e : Ending) → EndsSo e → IsPlaced e (left input) (written out) (written out2)
-  placed_by (ending.Document fault) h = h.2
-  placed_by (ending.Page page fault at) h = h.2
-  placed_by (ending.Output page) h = h.3
-  placed_by ending.Written h = tt
-  placed_by ending.Usage h = tt
-  placed_by ending.Input h = tt
-  placed_by ending.Memory h = tt
+  pub placed_by : (e : EndingSeen) → Ends e → IsPlaced g e left old new
+  placed_by (Document fault) h = h.1
+  placed_by (Page page) h = h.1
+  placed_by (Source page) h = h.1
+  placed_by (Output page) h = h.1
+  placed_by Written h = tt
+  placed_by Usage h = tt
+  placed_by Input h = tt
+  placed_by Memory h = tt

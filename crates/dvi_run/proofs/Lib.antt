@@ -1,9 +1,8 @@
 pub mod Told
 pub mod Notes
-pub mod Steps
-pub mod Values
-pub mod Written
+pub mod Puts
+pub mod Fronts
 pub mod OneRun
-pub mod HasRun
+pub mod Written
 pub mod Outcomes
 pub mod Clauses

@@ -1,27 +1,91 @@
--- Bytes are one document, with one list of values.
-use Rattle.std.proofs.Common.{◌≡◌, ℕ, List, length, refl, sym, ap, ap₂, ◌∙◌, Option, Some, None}
+-- Bytes are one document, and over told font files each page has one value.
+use Rattle.std.proofs.Common.{◌≡◌, ◌≤◌, ℕ, suc, List, [], ◌∷◌, ◌++◌, length, arith, refl, sym, ap, ap₂, subst, ◌∙◌, inl, inr, Option, Some, None}
 use Rattle.std.specs.Prelude.{IsSome, unwrap_or}
-use Rattle.pixel_round.specs.Pixels.{conversion}
+use Rattle.std.proofs.lemmas.Bool.{cases_lt}
+use Rattle.std.proofs.lemmas.List.{length-append}
+use Rattle.outside.specs.Library.{Files}
+use Rattle.outside.specs.declared.keys.FontKey.{FontKey}
 use Rattle.pixel_round.specs.declared.units.Units.{Units}
-use Rattle.packed_rows.specs.Bitmap.{from_fn}
-use Rattle.packed_rows.proofs.Lists.{length-from_fn}
-use Rattle.page_index.specs.Document.{Reading, pages_begun}
-use Rattle.page_index.specs.Pages.{document_units}
-use Rattle.dvi_run.specs.Pages.{AreValues, PageValue, RESOLUTION, value_of}
-
-abbrev values_by : Reading → Units → List PageValue
-values_by reading units = from_fn (pages_begun reading) (value_of (conversion units) reading)
-
-pub one_list : (r s : Reading) (v w : List PageValue) → r ≡ s → AreValues r v → AreValues s w → v ≡ w
-one_list r s v w same a b =
-    let found : Some a.units ≡ Some b.units = sym a.of_preamble ∙ ap (document_units RESOLUTION) same ∙ b.of_preamble in
-    let units : a.units ≡ b.units = cc in
-    a.are ∙ ap₂ values_by same units ∙ sym b.are
-
--- there are as many values as pages
-pub count_is : (r : Reading) (v : List PageValue) → AreValues r v → length v ≡ pages_begun r
-count_is r v a = ap length a.are ∙ length-from_fn (pages_begun r) (value_of (conversion a.units) r)
+use Rattle.page_index.specs.Document.{Reading}
+use Rattle.page_index.specs.Pages.{Indexed, document_units}
+use Rattle.font_decode.specs.Decoding.{IsFontIn, IsFontOf}
+use Rattle.page_draw.specs.Values.{PageValue}
+use Rattle.page_draw.specs.Drawn.{IsPageValue}
+use Rattle.page_draw.specs.Laws.{PagesHaveOneValue}
+use Rattle.dvi_run.specs.Pages.{FailingPage, Given, HaveValues, IsRun, IsValueOf, IsWholeRun, run_fault}
+use Rattle.dvi_run.specs.Laws.{OneReading, OneRun, RunsHaveFronts}
+use Rattle.dvi_run.proofs.Fronts.{faults_end_the_run, front_is_good}
 
 pub is_there : (o : Option ℕ) → IsSome o → o ≡ Some (unwrap_or o 0)
 is_there None some = cc
 is_there (Some at) some = refl
+
+-- ---- the first values
+
+first_values : (g : Given) (r : Reading) (i : ℕ) (values rest : List PageValue) → HaveValues g r i (values ++ rest) → HaveValues g r i values
+first_values g r i [] rest have = tt
+first_values g r i (v ∷ values) rest have = (have.0, first_values g r (suc i) values rest have.1)
+
+pub fronts : RunsHaveFronts
+fronts g bytes reading values rest run = record {
+  document = run.document;
+  pages = record {
+    few = let few = run.pages.few in let size = length-append values rest in omega (arith, few, size);
+    are = first_values g reading 0 values rest run.pages.are;
+  };
+}
+
+-- ---- one value
+
+module _ (one : PagesHaveOneValue) (g : Given) (files : Files) (told : g.library ≡ Some files) where
+  abbrev indexed : Reading → Indexed
+  indexed r = record { res = g.res; reading = r }
+
+  found : (r : Reading) (i : ℕ) (v : PageValue) (looks : List FontKey) (u : Units) → document_units g.res r ≡ Some u
+      → IsPageValue (IsFontOf g.library (document_units g.res r)) (indexed r) g.sheet i v looks → IsPageValue (IsFontIn files u) (indexed r) g.sheet i v looks
+  found r i v looks u is value =
+      subst (λ (m : Option Units). IsPageValue (IsFontOf (Some files) m) (indexed r) g.sheet i v looks) is
+      (subst (λ (o : Option Files). IsPageValue (IsFontOf o (document_units g.res r)) (indexed r) g.sheet i v looks) told value)
+
+  same_value : (r : Reading) (i : ℕ) (v w : PageValue) → IsValueOf g r i v → IsValueOf g r i w → v ≡ w
+  same_value r i v w a b =
+      let u = a.1.units in
+      let is = a.1.of_document in
+      (one files u (indexed r) g.sheet i v w a.0 b.0 (found r i v a.0 u is a.1) (found r i w b.0 u is b.1)).0
+
+  longer : (r : Reading) (i : ℕ) (v w : List PageValue) → HaveValues g r i v → HaveValues g r i w → length v ≤ length w → (rest : List PageValue) × (w ≡ v ++ rest)
+  longer r i [] w a b le = (w, refl)
+  longer r i (x ∷ v) [] a b le = absurd (omega (arith, le))
+  longer r i (x ∷ v) (y ∷ w) a b le =
+      let more = longer r (suc i) v w a.1 b.1 (omega (arith, le)) in
+      (more.0, ap₂ (λ (p : PageValue) (ps : List PageValue). p ∷ ps) (same_value r i y x b.0 a.0) more.1)
+
+pub one_run : PagesHaveOneValue → OneReading → OneRun
+one_run one reading g files bytes r s v w told a b le =
+    let same : r ≡ s = reading g bytes r s v w a b in
+    longer one g files told s 0 v w (subst (λ (x : Reading). HaveValues g x 0 v) same a.pages.are) b.pages.are le
+
+-- ---- two lists of one run
+
+module _ (reading : OneReading) (one : OneRun) (g : Given) (files : Files) (told : g.library ≡ Some files) (bytes : List ℕ) where
+  -- one fails where the other does
+  pub ends_once : (r s : Reading) (v w : List PageValue) (p q : FailingPage) → IsRun g bytes r v → IsRun g bytes s w → run_fault v ≡ Some p → run_fault w ≡ Some q → p ≡ q
+  ends_once r s v w p q a b is other = elim (cases_lt (length v) (length w)) [
+    | inl shorter ↦ shorter_first r s v w p q a b is other (omega (arith, shorter))
+    | inr longer ↦ sym (shorter_first s r w v q p b a other is longer)
+  ]
+    where
+      shorter_first : (r s : Reading) (v w : List PageValue) (p q : FailingPage) → IsRun g bytes r v → IsRun g bytes s w → run_fault v ≡ Some p → run_fault w ≡ Some q
+          → length v ≤ length w → p ≡ q
+      shorter_first r s v w p q a b is other le =
+          let more = one g files bytes r s v w told a b le in
+          let same : Some p ≡ Some q = sym (faults_end_the_run v more.0 p is).0 ∙ ap run_fault (sym more.1) ∙ other in
+          cc
+
+  -- where all pages have bitmaps, the first ones do
+  pub all_good : (r s : Reading) (v w : List PageValue) → IsWholeRun g bytes r v → run_fault v ≡ None → IsRun g bytes s w → run_fault w ≡ None
+  all_good r s v w a good b =
+      let same : r ≡ s = reading g bytes r s v w a.run b in
+      let few : length w ≤ length v = rw a.all (rw same b.pages.few) in
+      let more = one g files bytes s r w v told b a.run few in
+      front_is_good w more.0 (ap run_fault (sym more.1) ∙ good)

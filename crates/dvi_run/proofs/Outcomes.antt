@@ -1,45 +1,39 @@
 -- From the parts of a run to how it ends.
-use Rattle.std.proofs.Common.{◌≡◌, inl, inr, ℕ, List, Option}
+use Rattle.std.proofs.Common.{inl, inr, ℕ, List, Option}
 use Rattle.page_index.specs.Document.{IsDocument, Reading}
 use Rattle.page_index.specs.Faults.{IsFirstFault}
+use Rattle.page_draw.specs.Values.{PageValue}
 use Rattle.dvi_run.specs.Reading.{IsRead}
-use Rattle.dvi_run.specs.Pages.{AreValues, PageValue, RESOLUTION}
-use Rattle.dvi_run.specs.Endings.{EndsBytes, EndsPages, IsEnding, OfRun, Stopped, Wrote, WroteFront, WroteSome}
-use Rattle.dvi_run.specs.declared.ending.Ending.{Ending}
-use Rattle.dvi_run.specs.declared.ending.Ending.TheVariants as ending
+use Rattle.dvi_run.specs.Pages.{AreValues, Given}
+use Rattle.dvi_run.specs.Endings.{EndingSeen, Written, Usage, Document, Page, Source, Input, Output, Memory, EndsBytes, EndsPages, IsEnding, OfRun, Stopped, Wrote, WroteBefore, WroteFront, WroteSome}
 use Rattle.dvi_run.proofs.Told.{all_read, of_read}
 
-of_run : (bytes : List ℕ) (reading : Reading) (values : List PageValue) (P : List PageValue → Type 0) → IsDocument RESOLUTION bytes reading → AreValues reading values
-    → P values → OfRun bytes P
-of_run bytes reading values P document are p = (reading, values, record { document = document; pages = are }, p)
-
-module _ {O : Type 0} (written : O → Option (List ℕ)) (output_faults : O → ℕ) (out out2 : O) where
+module _ (old new : Option (List ℕ)) (OutputFailed SourceFailed OutputKept : Type 0) (g : Given) where
   -- the pages of a document were written, or some of them
-  pub pages_end : (e : Ending) (bytes : List ℕ) (reading : Reading) (values : List PageValue) → IsDocument RESOLUTION bytes reading → AreValues reading values
-      → EndsPages e (written out) (written out2) (output_faults out) (output_faults out2) values → EndsBytes written output_faults e out out2 bytes
-  pages_end ending.Written bytes reading values document are h = of_run bytes reading values (Wrote (written out) (written out2)) document are h
-  pages_end (ending.Page page fault at) bytes reading values document are h =
-      of_run bytes reading values (Stopped (written out) (written out2) (record { page = page; fault = fault; at = at })) document are h
-  pages_end (ending.Output page) bytes reading values document are h =
-      (of_run bytes reading values (WroteFront (written out) (written out2) page) document are h.0, h.1)
-  pages_end ending.Memory bytes reading values document are h = inr (of_run bytes reading values (WroteSome (written out) (written out2)) document are h)
-  pages_end ending.Usage bytes reading values document are h = absurd h
-  pages_end (ending.Document fault) bytes reading values document are h = absurd h
-  pages_end ending.Input bytes reading values document are h = absurd h
+  pub pages_end : (bytes : List ℕ) (reading : Reading) (values : List PageValue) → IsDocument g.res bytes reading → AreValues g reading values
+      → (e : EndingSeen) → EndsPages old new OutputFailed SourceFailed e reading values → EndsBytes old new OutputFailed SourceFailed OutputKept g bytes e
+  pages_end bytes reading values document are Written h = (reading, values, record { document = document; pages = are }, h)
+  pages_end bytes reading values document are (Page page) h = (reading, values, record { document = document; pages = are }, h)
+  pages_end bytes reading values document are (Source page) h = ((reading, values, record { document = document; pages = are }, h.0), h.1)
+  pages_end bytes reading values document are (Output page) h = ((reading, values, record { document = document; pages = are }, h.0), h.1)
+  pages_end bytes reading values document are Memory h = inr (reading, values, record { document = document; pages = are }, h)
+  pages_end bytes reading values document are Usage h = absurd h
+  pages_end bytes reading values document are (Document fault) h = absurd h
+  pages_end bytes reading values document are Input h = absurd h
 
-  module _ {I : Type 0} (left : I → Option (List ℕ)) (input_faults : I → ℕ) (words : ℕ) (input input2 : I) (none : words ≡ 0) (bytes : List ℕ)
-      (read : IsRead (left input) (left input2) bytes) where
-    -- the bytes were read before
-    pub bytes_end : (e : Ending) → EndsBytes written output_faults e out out2 bytes → IsEnding left input_faults written output_faults e words input input2 out out2
-    bytes_end ending.Written h =
-        (none, all_read _ _ _ read, of_read (λ bytes. OfRun bytes (Wrote (written out) (written out2))) _ _ _ read h)
-    bytes_end (ending.Document fault) h =
-        (none, all_read _ _ _ read, of_read (λ bytes. IsFirstFault RESOLUTION bytes fault) _ _ _ read h.0, h.1)
-    bytes_end (ending.Page page fault at) h =
-        (none, all_read _ _ _ read, of_read (λ bytes. OfRun bytes (Stopped (written out) (written out2) (record { page = page; fault = fault; at = at }))) _ _ _ read h)
-    bytes_end (ending.Output page) h =
-        (none, all_read _ _ _ read, h.1, of_read (λ bytes. OfRun bytes (WroteFront (written out) (written out2) page)) _ _ _ read h.0)
-    bytes_end ending.Memory (inl same) = (none, inl same)
-    bytes_end ending.Memory (inr h) = (none, inr (of_read (λ bytes. OfRun bytes (WroteSome (written out) (written out2))) _ _ _ read h))
-    bytes_end ending.Usage h = absurd h
-    bytes_end ending.Input h = absurd h
+  -- the bytes were read before
+  pub bytes_end : (InputFailed : Type 0) (left rest : Option (List ℕ)) (bytes : List ℕ) → IsRead left rest bytes
+      → (e : EndingSeen) → EndsBytes old new OutputFailed SourceFailed OutputKept g bytes e → IsEnding old new OutputFailed SourceFailed OutputKept InputFailed g left rest e
+  bytes_end I left rest bytes read Written h = (all_read left rest bytes read, of_read (λ bytes. OfRun g bytes (Wrote old new)) left rest bytes read h)
+  bytes_end I left rest bytes read (Document fault) h =
+      (all_read left rest bytes read, of_read (λ bytes. IsFirstFault g.res bytes fault) left rest bytes read h.0, h.1)
+  bytes_end I left rest bytes read (Page page) h =
+      (all_read left rest bytes read, of_read (λ bytes. OfRun g bytes (λ _. Stopped old new page)) left rest bytes read h)
+  bytes_end I left rest bytes read (Source page) h =
+      (all_read left rest bytes read, of_read (λ bytes. OfRun g bytes (WroteBefore old new page)) left rest bytes read h.0, h.1)
+  bytes_end I left rest bytes read (Output page) h =
+      (all_read left rest bytes read, of_read (λ bytes. OfRun g bytes (λ _. WroteFront old new page)) left rest bytes read h.0, h.1)
+  bytes_end I left rest bytes read Memory (inl same) = inl same
+  bytes_end I left rest bytes read Memory (inr h) = inr (of_read (λ bytes. OfRun g bytes (λ _. WroteSome old new)) left rest bytes read h)
+  bytes_end I left rest bytes read Usage h = absurd h
+  bytes_end I left rest bytes read Input h = absurd h

@@ -1,170 +1,148 @@
 -- The pages of a document that were written so far.
-use Rattle.std.proofs.Common.{◌≡◌, ℕ, zero, suc, ◌+◌, ◌<◌, ◌≤◌, List, [], ◌∷◌, ◌++◌, length, take, map, refl, sym, ap, ap₂, subst, ◌∙◌, arith, append_assoc, append-nil, inl, inr, Option, Some, None, Ok, Err}
-use Rattle.std.specs.Prelude.{unwrap_or}
-use Rattle.std.specs.Option.{option_map}
+use Rattle.std.proofs.Common.{◌≡◌, ℕ, suc, ◌+◌, ◌<◌, ◌≤◌, List, [], ◌∷◌, ◌++◌, length, take, map, refl, sym, ap, subst, ◌∙◌, arith, append-nil, Option, Some, Ok, Err}
 use Rattle.std.specs.List.{flat_map}
 use Rattle.std.specs.Io.KnownBytes.{Appends}
-use Rattle.std.proofs.lemmas.Bool.{cases_lt}
 use Rattle.std.proofs.lemmas.Grind.{flat_map-append}
-use Rattle.std.proofs.lemmas.List.{length-map, map-append}
-use Rattle.std.proofs.Math.Seq.{take-append_seam}
+use Rattle.std.proofs.lemmas.List.{length-append, length-map, map-append, take_all}
 use Rattle.outside.specs.Streams.{AppendsPrefix}
-use Rattle.outside.proofs.Growth.{grown_none, grown_twice, rose_later}
-use Rattle.pixel_round.specs.Pixels.{Fraction, conversion}
-use Rattle.pixel_round.specs.declared.units.Units.{Units}
-use Rattle.packed_rows.specs.Bitmap.{Bitmap, from_fn}
-use Rattle.packed_rows.proofs.Lists.{length-from_fn}
-use Rattle.dvi_commands.specs.Reading.{Placed, placed_from}
+use Rattle.outside.proofs.Growth.{grown_none, grown_twice}
+use Rattle.packed_rows.specs.Bitmap.{Bitmap}
 use Rattle.page_index.specs.Document.{Reading, pages_begun}
-use Rattle.page_index.specs.Pages.{document_units, eop_at, page_commands}
+use Rattle.vf_expand.specs.Faults.{seen_fault}
+use Rattle.page_draw.specs.Values.{PageValue, PlacedFault}
+use Rattle.page_draw.specs.declared.stop.PageStop.TheVariants as draw
 use Rattle.pbm_output.specs.Pbm.{page_text}
-use Rattle.dvi_run.specs.Drawing.{PlacedFault, default_sheet, flats_of, page_value}
-use Rattle.dvi_run.specs.Pages.{AreValues, FailingPage, PageValue, RESOLUTION, failing_page, first_fault, run_fault, run_text, value_of, whole_pages}
-use Rattle.dvi_run.specs.Laws.{RunsEndAtTheFirstFault, RunsOfGoodPages, good}
-use Rattle.dvi_run.specs.Endings.{EndsPages, IsPageStop, Stopped, Wrote, WroteFront, WroteSome, ending_at}
-use Rattle.dvi_run.specs.declared.pages.PageStop.{PageStop}
-use Rattle.dvi_run.specs.declared.pages.PageStop.TheVariants as stop
-use Rattle.dvi_run.specs.declared.sheet.Sheet.{Sheet}
+use Rattle.dvi_run.specs.Pages.{AreValues, Given, HaveValues, IsValueOf, failing_page, run_text, whole_pages}
+use Rattle.dvi_run.specs.Laws.{good}
+use Rattle.dvi_run.specs.Endings.{EndingSeen, EndsPages, IsWriteStop, Stopped, Wrote, WroteBefore, WroteFront, WroteSome, ending_at}
+use Rattle.dvi_run.specs.declared.pages.WriteStop.{WriteStop}
+use Rattle.dvi_run.specs.declared.pages.WriteStop.TheVariants as stop
+use Rattle.dvi_run.proofs.Fronts.{runs_end, runs_of_good_pages, whole_all}
 
--- ---- pages with bitmaps, and what follows them
+-- ---- one value more
 
-pub whole_first : (pages : List Bitmap) (values : List PageValue) → whole_pages (map good pages ++ values) ≡ pages ++ whole_pages values
-whole_first [] values = refl
-whole_first (page ∷ pages) values = ap (λ (ps : List Bitmap). page ∷ ps) (whole_first pages values)
+values_more : (g : Given) (r : Reading) (i n : ℕ) (values : List PageValue) (v : PageValue) → HaveValues g r i values → n ≡ i + length values → IsValueOf g r n v
+    → HaveValues g r i (values ++ v ∷ [])
+values_more g r i n [] v have is value =
+    let here : n ≡ i = omega (arith, is) in
+    (subst (λ (k : ℕ). IsValueOf g r k v) here value, tt)
+values_more g r i n (w ∷ values) v have is value =
+    let next : n ≡ suc i + length values = omega (arith, is) in
+    (have.0, values_more g r (suc i) n values v have.1 next value)
 
-fault_behind : (pages : List Bitmap) (values : List PageValue) → first_fault (map good pages ++ values) ≡ first_fault values
-fault_behind [] values = refl
-fault_behind (page ∷ pages) values = fault_behind pages values
-
-abbrev run_end : Option PlacedFault → List Bitmap → Option FailingPage
-run_end fault pages = option_map (failing_page (suc (length pages))) fault
-
-pub runs_end : RunsEndAtTheFirstFault
-runs_end pages f rest =
-    let whole : whole_pages (map good pages ++ Err f ∷ rest) ≡ pages = whole_first pages (Err f ∷ rest) ∙ append-nil pages in
-    (ap (flat_map page_text) whole, ap₂ run_end (fault_behind pages (Err f ∷ rest)) whole)
-
-pub runs_of_good_pages : RunsOfGoodPages
-runs_of_good_pages pages =
-    let same : map good pages ++ [] ≡ map good pages = append-nil (map good pages) in
-    let whole : whole_pages (map good pages) ≡ pages = ap whole_pages (sym same) ∙ (whole_first pages [] ∙ append-nil pages) in
-    let none : first_fault (map good pages) ≡ None = ap first_fault (sym same) ∙ fault_behind pages [] in
-    (ap (flat_map page_text) whole, ap₂ run_end none whole)
-
--- ---- the values of the pages before one, its own, and the rest
-
-split_at : {A : Type 0} (n i : ℕ) (f : ℕ → A) → i < n → (rest : List A) × (from_fn n f ≡ from_fn i f ++ f i ∷ rest)
-split_at zero i f low = absurd (omega (arith, low))
-split_at {A} (suc n) i f low = elim (cases_lt i n) [
-  | inl below ↦
-      let older = split_at n i f below in
-      (older.0 ++ f n ∷ [], ap (λ (xs : List A). xs ++ f n ∷ []) older.1 ∙ append_assoc (from_fn i f) (f i ∷ older.0) (f n ∷ []))
-  | inr last ↦
-      let same : n ≡ i = omega (arith, low, last) in
-      ([], ap (λ (k : ℕ). from_fn k f ++ f k ∷ []) same)
-]
-
--- the pages before the one with a number have bitmaps, and they were written
-pub record IsWrittenTo (value : ℕ → PageValue) (old now : Option (List ℕ)) (i : ℕ) : Type 0 where
+-- the pages before the one with a number, from 0, have bitmaps, and they were written
+pub record IsWrittenTo (g : Given) (r : Reading) (old now : Option (List ℕ)) (i : ℕ) : Type 0 where
   pub pages : List Bitmap
-  pub values : from_fn i value ≡ map good pages
+  pub count : length pages ≡ i
+  pub values : HaveValues g r 0 (map good pages)
   pub grew : Appends old now (flat_map page_text pages)
 
-pub written_none : (value : ℕ → PageValue) (old : Option (List ℕ)) → IsWrittenTo value old old 0
-written_none value old = record { pages = []; values = refl; grew = grown_none old }
+pub written_none : (g : Given) (r : Reading) (old : Option (List ℕ)) → IsWrittenTo g r old old 0
+written_none g r old = record { pages = []; count = refl; values = tt; grew = grown_none old }
 
-pub written_more : (value : ℕ → PageValue) (old now new : Option (List ℕ)) (i : ℕ) (page : Bitmap) → IsWrittenTo value old now i → value i ≡ Ok page
-    → Appends now new (page_text page) → IsWrittenTo value old new (suc i)
-written_more value old now new i page w is more = record {
-  pages = w.pages ++ page ∷ [];
-  values = ap₂ (λ (vs : List PageValue) (v : PageValue). vs ++ v ∷ []) w.values is ∙ sym (map-append good w.pages (page ∷ []));
-  grew = subst (Appends old new) (texts w.pages page) (grown_twice old now new (flat_map page_text w.pages) (page_text page) w.grew more);
-}
-  where
-    texts : (pages : List Bitmap) (page : Bitmap) → flat_map page_text pages ++ page_text page ≡ flat_map page_text (pages ++ page ∷ [])
-    texts pages page = ap (λ (t : List ℕ). flat_map page_text pages ++ t) (sym (append-nil (page_text page))) ∙ sym (flat_map-append page_text pages (page ∷ []))
+module _ (g : Given) (r : Reading) (old now : Option (List ℕ)) (i : ℕ) (w : IsWrittenTo g r old now i) where
+  size : length (map good w.pages) ≡ i
+  size = length-map w.pages good ∙ w.count
 
-module _ (value : ℕ → PageValue) (old : Option (List ℕ)) (n : ℕ) where
-  -- all pages
-  pub ends_written : (now : Option (List ℕ)) → IsWrittenTo value old now n → Wrote old now (from_fn n value)
-  ends_written now w =
-      let runs = runs_of_good_pages w.pages in
+  one_more : (v : PageValue) → IsValueOf g r i v → HaveValues g r 0 (map good w.pages ++ v ∷ [])
+  one_more v value = let size = size in values_more g r 0 i (map good w.pages) v w.values (omega (arith, size)) value
+
+  texts : (page : Bitmap) → flat_map page_text w.pages ++ page_text page ≡ flat_map page_text (w.pages ++ page ∷ [])
+  texts page = ap (λ (t : List ℕ). flat_map page_text w.pages ++ t) (sym (append-nil (page_text page))) ∙ sym (flat_map-append page_text w.pages (page ∷ []))
+
+  pub written_more : (new : Option (List ℕ)) (page : Bitmap) → IsValueOf g r i (Ok page) → Appends now new (page_text page) → IsWrittenTo g r old new (suc i)
+  written_more new page value more = record {
+    pages = w.pages ++ page ∷ [];
+    count = let count = w.count in let size = length-append w.pages (page ∷ []) in omega (arith, count, size);
+    values = subst (HaveValues g r 0) (sym (map-append good w.pages (page ∷ []))) (one_more (Ok page) value);
+    grew = subst (Appends old new) (texts page) (grown_twice old now new (flat_map page_text w.pages) (page_text page) w.grew more);
+  }
+
+  -- the values of the pages that were written, and of one more
+  before : i ≤ pages_begun r → AreValues g r (map good w.pages)
+  before few = record { few = let size = size in omega (arith, size, few); are = w.values }
+
+  and_one : (v : PageValue) → i < pages_begun r → IsValueOf g r i v → AreValues g r (map good w.pages ++ v ∷ [])
+  and_one v below value = record {
+    few = let size = size in let more = length-append (map good w.pages) (v ∷ []) in omega (arith, size, more, below);
+    are = one_more v value;
+  }
+
+  text_is : run_text (map good w.pages) ≡ flat_map page_text w.pages
+  text_is = (runs_of_good_pages w.pages).0
+
+  grew_so : Appends old now (run_text (map good w.pages))
+  grew_so = subst (Appends old now) (sym text_is) w.grew
+
+  -- how it ends, with the values that say so
+  abbrev Ends : (OutputFailed SourceFailed : Type 0) → Option (List ℕ) → EndingSeen → Type 0
+  Ends OutputFailed SourceFailed new e = (values : List PageValue) × AreValues g r values × EndsPages old new OutputFailed SourceFailed e r values
+
+  -- with all pages
+  pub ends_written : i ≡ pages_begun r → (values : List PageValue) × AreValues g r values × Wrote old now r values
+  ends_written all = (
+    map good w.pages,
+    before (omega (arith, all)),
+    record { all = size ∙ all; good = (runs_of_good_pages w.pages).1; grew = grew_so },
+  )
+
+  module _ (new : Option (List ℕ)) (page : ℕ) (number : page ≡ suc i) (below : i < pages_begun r) where
+    stops : (f : PlacedFault) → IsValueOf g r i (Err f) → new ≡ now → (values : List PageValue) × AreValues g r values × Stopped old new (failing_page page f) values
+    stops f value same =
+        let runs = runs_end w.pages f [] in
+        let numbered : suc (length w.pages) ≡ page = ap suc w.count ∙ sym number in (
+          map good w.pages ++ Err f ∷ [],
+          and_one (Err f) below value,
+          record {
+            fails = runs.1 ∙ ap (λ (k : ℕ). Some (failing_page k f)) numbered;
+            grew = subst (λ (o : Option (List ℕ)). Appends old o (run_text (map good w.pages ++ Err f ∷ []))) (sym same) (subst (Appends old now) (sym runs.0) w.grew);
+          },
+        )
+
+    breaks : new ≡ now → (values : List PageValue) × AreValues g r values × WroteBefore old new page r values
+    breaks same = (
+      map good w.pages,
+      before (omega (arith, below)),
       record {
-        good = ap run_fault w.values ∙ runs.1;
-        grew = subst (Appends old now) (sym (ap run_text w.values ∙ runs.0)) w.grew;
-      }
+        there = omega (arith, number, below);
+        number = number ∙ ap suc (sym size);
+        good = (runs_of_good_pages w.pages).1;
+        grew = subst (λ (o : Option (List ℕ)). Appends old o (run_text (map good w.pages))) (sym same) grew_so;
+      },
+    )
 
-  module _ (now new : Option (List ℕ)) (i : ℕ) (below : i < n) (w : IsWrittenTo value old now i) where
-    abbrev rest : List PageValue
-    rest = (split_at n i value below).0
+    fails : (own : Bitmap) → IsValueOf g r i (Ok own) → AppendsPrefix now new (page_text own) → (values : List PageValue) × AreValues g r values × WroteFront old new page values
+    fails own value front = (
+      map good w.pages ++ Ok own ∷ [],
+      and_one (Ok own) below value,
+      record {
+        before = w.pages;
+        own = own;
+        rest = [];
+        pages = ap whole_pages (sym (map-append good w.pages (own ∷ []))) ∙ whole_all (w.pages ++ own ∷ []);
+        number = number ∙ ap suc (sym w.count);
+        size = front.0;
+        within = front.1;
+        grew = grown_twice old now new (flat_map page_text w.pages) (take front.0 (page_text own)) w.grew front.2;
+      },
+    )
 
-    parts : (v : PageValue) → value i ≡ v → from_fn n value ≡ map good w.pages ++ v ∷ rest
-    parts v is = (split_at n i value below).1 ∙ ap₂ (λ (vs : List PageValue) (v : PageValue). vs ++ v ∷ rest) w.values is
+    wants : new ≡ now → (values : List PageValue) × AreValues g r values × WroteSome old new values
+    wants same =
+        let whole : take (length w.pages) (whole_pages (map good w.pages)) ≡ w.pages = ap (take (length w.pages)) (whole_all w.pages) ∙ take_all (length w.pages) w.pages (omega arith) in (
+          map good w.pages,
+          before (omega (arith, below)),
+          record {
+            count = length w.pages;
+            grew = subst (λ (o : Option (List ℕ)). Appends old o (flat_map page_text (take (length w.pages) (whole_pages (map good w.pages))))) (sym same)
+                (subst (λ (ps : List Bitmap). Appends old now (flat_map page_text ps)) (sym whole) w.grew);
+          },
+        )
 
-    count : length w.pages ≡ i
-    count = sym (length-map w.pages good) ∙ ap length (sym w.values) ∙ length-from_fn i value
-
-    stops : (f : PlacedFault) (page : ℕ) → page ≡ suc i → value i ≡ Err f → new ≡ now → Stopped old new (failing_page page f) (from_fn n value)
-    stops f page number is same =
-        let values = parts (Err f) is in
-        let runs = runs_end w.pages f rest in
-        let numbered : suc (length w.pages) ≡ page = ap suc count ∙ sym number in
-        record {
-          fails = ap run_fault values ∙ runs.1 ∙ ap (λ (k : ℕ). Some (failing_page k f)) numbered;
-          grew = subst (λ (o : Option (List ℕ)). Appends old o (run_text (from_fn n value))) (sym same)
-              (subst (Appends old now) (sym (ap run_text values ∙ runs.0)) w.grew);
-        }
-
-    fronts : (own : Bitmap) (page : ℕ) → page ≡ suc i → value i ≡ Ok own → AppendsPrefix now new (page_text own) → WroteFront old new page (from_fn n value)
-    fronts own page number is front = record {
-      before = w.pages;
-      own = own;
-      rest = whole_pages rest;
-      pages = ap whole_pages (parts (Ok own) is) ∙ whole_first w.pages (Ok own ∷ rest);
-      number = number ∙ ap suc (sym count);
-      size = front.0;
-      within = front.1;
-      grew = grown_twice old now new (flat_map page_text w.pages) (take front.0 (page_text own)) w.grew front.2;
-    }
-
-    some : new ≡ now → WroteSome old new (from_fn n value)
-    some same =
-        let whole : whole_pages (from_fn n value) ≡ w.pages ++ whole_pages (value i ∷ rest) = ap whole_pages (parts (value i) refl) ∙ whole_first w.pages (value i ∷ rest) in
-        let first : take (length w.pages) (whole_pages (from_fn n value)) ≡ w.pages =
-        ap (take (length w.pages)) whole ∙ take-append_seam w.pages (whole_pages (value i ∷ rest)) in
-        record {
-          count = length w.pages;
-          grew = subst (λ (o : Option (List ℕ)). Appends old o (flat_map page_text (take (length w.pages) (whole_pages (from_fn n value))))) (sym same)
-              (subst (λ (ps : List Bitmap). Appends old now (flat_map page_text ps)) (sym first) w.grew);
-        }
-
-    -- up to one that can't be written
-    pub ends_at : (s : PageStop) (page before mid after : ℕ) → page ≡ suc i → before ≤ mid → mid ≤ after → IsPageStop s (value i) now new mid after
-        → EndsPages (ending_at page s) old new before after (from_fn n value)
-    ends_at (stop.Fault fault at) page before mid after number low high h = stops (record { fault = fault; at = at }) page number h.0 h.1
-    ends_at stop.Output page before mid after number low high h = (fronts h.0 page number h.1 h.2, rose_later before mid after low h.3 high)
-    ends_at stop.NoMemory page before mid after number low high h = some h
-
--- ---- what the code has of a page
-
-pub value_is : (c : Fraction) (sheet : Sheet) (reading : Reading) (i at : ℕ) (bytes : List ℕ) → sheet ≡ default_sheet → placed_from at bytes ≡ page_commands i reading
-    → eop_at i reading ≡ Some (at + length bytes) → page_value c sheet (flats_of (placed_from at bytes)) (at + length bytes) ≡ value_of c reading i
-value_is c sheet reading i at bytes same commands ends =
-    ap (λ (s : Sheet). page_value c s (flats_of (placed_from at bytes)) (at + length bytes)) same
-    ∙ ap (λ (cs : List Placed). page_value c default_sheet (flats_of cs) (at + length bytes)) commands
-    ∙ ap (λ (o : Option ℕ). page_value c default_sheet (flats_of (page_commands i reading)) (unwrap_or o 0)) (sym ends)
-
--- and of all
-units_of : (o : Option Units) (c : Fraction) → option_map conversion o ≡ Some c → (units : Units) × (o ≡ Some units) × (conversion units ≡ c)
-units_of None c e = cc
-units_of (Some units) c e = (units, refl, cc)
-
-pub values_are : (c : Fraction) (reading : Reading) (res : ℕ) → res ≡ RESOLUTION → option_map conversion (document_units res reading) ≡ Some c
-    → AreValues reading (from_fn (pages_begun reading) (value_of c reading))
-values_are c reading res same is =
-    let found = units_of (document_units res reading) c is in
-    record {
-      units = found.0;
-      of_preamble = ap (λ (r : ℕ). document_units r reading) (sym same) ∙ found.1;
-      are = ap (λ (k : Fraction). from_fn (pages_begun reading) (value_of k reading)) (sym found.2);
-    }
+    -- at a page that can't be written
+    pub ends_at : (OutputFails SourceFails OutputFailed SourceFailed : Type 0) → (OutputFails → OutputFailed) → (SourceFails → SourceFailed) → (s : WriteStop)
+        → IsWriteStop now new OutputFails SourceFails g r i s → Ends OutputFailed SourceFailed new (ending_at page s)
+    ends_at P Q P' Q' o s (stop.Draw (draw.Fault fault at)) h = stops (record { fault = seen_fault fault; at = at }) h.0 h.1
+    ends_at P Q P' Q' o s (stop.Draw draw.SourceFault) h = let b = breaks h.1 in (b.0, b.1, (b.2, s h.0))
+    ends_at P Q P' Q' o s (stop.Draw draw.NoMemory) h = wants h
+    ends_at P Q P' Q' o s stop.Output h = let f = fails h.0 h.1 h.2 in (f.0, f.1, (f.2, o h.3))

@@ -1,48 +1,89 @@
 -- How a run ends: what it wrote, and why.
-use Rattle.std.specs.Prelude.{◌≡◌, ◌⊎◌, ◌<◌, ◌≤◌, ◌++◌, ℕ, suc, List, [], ◌∷◌, length, take, Option, Some, None, Ok, Err}
+use Rattle.std.specs.Prelude.{◌≡◌, ◌⊎◌, ◌≤◌, ◌++◌, ℕ, suc, List, [], ◌∷◌, length, take, Option, Some, None, Ok}
 use Rattle.std.specs.List.{flat_map}
 use Rattle.std.specs.Io.KnownBytes.{Appends}
 use Rattle.outside.specs.Counts.{Rose}
 use Rattle.outside.specs.Streams.{AppendsPrefix}
 use Rattle.packed_rows.specs.Bitmap.{Bitmap}
-use Rattle.page_index.specs.Document.{Reading}
+use Rattle.page_index.specs.Document.{Reading, pages_begun}
 use Rattle.page_index.specs.Faults.{IsFirstFault}
+use Rattle.page_index.specs.declared.faults.DocFault.{DocFault}
+use Rattle.vf_expand.specs.Faults.{PageFaultSeen, Font, seen_fault}
+use Rattle.page_draw.specs.Values.{PageValue, fault_at}
+use Rattle.page_draw.specs.declared.stop.PageStop.TheVariants as draw
 use Rattle.pbm_output.specs.Pbm.{page_text}
 use Rattle.dvi_run.specs.Reading.{IsAllRead, OfRead}
-use Rattle.dvi_run.specs.Pages.{FailingPage, IsRun, PageValue, RESOLUTION, run_fault, run_text, whole_pages}
+use Rattle.dvi_run.specs.Pages.{FailingPage, Given, IsRun, IsValueOf, run_fault, run_text, whole_pages}
 use Rattle.dvi_run.specs.declared.ending.Ending.{Ending}
-use Rattle.dvi_run.specs.declared.ending.Ending.TheVariants as ending
-use Rattle.dvi_run.specs.declared.pages.PageStop.{PageStop}
-use Rattle.dvi_run.specs.declared.pages.PageStop.TheVariants as stop
+use Rattle.dvi_run.specs.declared.ending.Ending.TheVariants as code
+use Rattle.dvi_run.specs.declared.pages.WriteStop.{WriteStop}
+use Rattle.dvi_run.specs.declared.pages.WriteStop.TheVariants as stop
+
+-- how a run ends: all pages were written; there is a word; the bytes are no document; a page has no bitmap; the source of the fonts
+-- failed at a page, or the input, or the output at a page; or memory was wanting. Pages are counted from 1
+pub data EndingSeen : Type 0 where
+  Written : EndingSeen
+  Usage : EndingSeen
+  Document : DocFault → EndingSeen
+  Page : FailingPage → EndingSeen
+  Source : ℕ → EndingSeen
+  Input : EndingSeen
+  Output : ℕ → EndingSeen
+  Memory : EndingSeen
+
+abbrev pub seen_ending : Ending → EndingSeen
+seen_ending code.Written = Written
+seen_ending code.Usage = Usage
+seen_ending (code.Document fault) = Document fault
+seen_ending (code.Page page fault at) = Page (record { page = page; fault = seen_fault fault; at = at })
+seen_ending (code.Source page) = Source page
+seen_ending code.Input = Input
+seen_ending (code.Output page) = Output page
+seen_ending code.Memory = Memory
 
 -- ---- statuses
 
-abbrev pub status_of : Ending → ℕ
-status_of ending.Written = 0
-status_of ending.Usage = 1
-status_of (ending.Document fault) = 2
-status_of (ending.Page page fault at) = 3
-status_of ending.Input = 6
-status_of (ending.Output page) = 7
-status_of ending.Memory = 9
+-- of a page without a bitmap: 4 where its fault is that of a font's files
+abbrev pub page_status : PageFaultSeen → ℕ
+page_status (Font k f) = 4
+page_status _ = 3
+
+abbrev pub status_of : EndingSeen → ℕ
+status_of Written = 0
+status_of Usage = 1
+status_of (Document fault) = 2
+status_of (Page page) = page_status page.fault
+status_of (Source page) = 5
+status_of Input = 6
+status_of (Output page) = 7
+status_of Memory = 9
 
 abbrev pub IsAmong : ℕ → List ℕ → Type 0
 IsAmong n [] = ⊥
 IsAmong n (x ∷ xs) = (n ≡ x) ⊎ IsAmong n xs
 
+-- of a run whose words are a line
 abbrev pub statuses : List ℕ
-statuses = 0 ∷ 1 ∷ 2 ∷ 3 ∷ 6 ∷ 7 ∷ 9 ∷ []
+statuses = 0 ∷ 2 ∷ 3 ∷ 4 ∷ 5 ∷ 6 ∷ 7 ∷ 9 ∷ []
 
 -- ---- what was written, by the values of a document's pages
 
 -- all pages, and each has a bitmap
-pub record Wrote (old new : Option (List ℕ)) (values : List PageValue) : Type 0 where
+pub record Wrote (old new : Option (List ℕ)) (reading : Reading) (values : List PageValue) : Type 0 where
+  pub all : length values ≡ pages_begun reading
   pub good : run_fault values ≡ None
   pub grew : Appends old new (run_text values)
 
 -- all pages before the first that has no bitmap
 pub record Stopped (old new : Option (List ℕ)) (page : FailingPage) (values : List PageValue) : Type 0 where
   pub fails : run_fault values ≡ Some page
+  pub grew : Appends old new (run_text values)
+
+-- all pages before the one with this number, from 1, and nothing of its own; they have bitmaps
+pub record WroteBefore (old new : Option (List ℕ)) (page : ℕ) (reading : Reading) (values : List PageValue) : Type 0 where
+  pub there : page ≤ pages_begun reading
+  pub number : page ≡ suc (length values)
+  pub good : run_fault values ≡ None
   pub grew : Appends old new (run_text values)
 
 -- all pages before the one with this number, from 1, and a front of its own text; it and they have bitmaps
@@ -61,19 +102,27 @@ pub record WroteSome (old new : Option (List ℕ)) (values : List PageValue) : T
   pub count : ℕ
   pub grew : Appends old new (flat_map page_text (take count (whole_pages values)))
 
--- the bytes are a document, and the values of its pages have P
-abbrev pub OfRun : List ℕ → (List PageValue → Type 0) → Type 0
-OfRun bytes P = (reading : Reading) × (values : List PageValue) × IsRun bytes reading values × P values
+-- the bytes are a document, and its reading and the values of its first pages have P
+abbrev pub OfRun : Given → List ℕ → (Reading → List PageValue → Type 0) → Type 0
+OfRun g bytes P = (reading : Reading) × (values : List PageValue) × IsRun g bytes reading values × P reading values
+
+-- ---- the fonts' source
+
+module _ {F : Type 0} (faults : F → ℕ) where
+  -- it was given back, and it had failed
+  abbrev pub HasFailed : F → Option F → Type 0
+  HasFailed source None = ⊥
+  HasFailed source (Some back) = Rose (faults source) (faults back)
 
 -- ---- the line and its cause
 
 -- what the line says is so, where the input tells its bytes
-abbrev pub IsPlaced : Ending → Option (List ℕ) → Option (List ℕ) → Option (List ℕ) → Type 0
-IsPlaced (ending.Document fault) left old new = OfRead left (λ bytes. IsFirstFault RESOLUTION bytes fault)
-IsPlaced (ending.Page page fault at) left old new =
-    OfRead left (λ bytes. OfRun bytes (Stopped old new (record { page = page; fault = fault; at = at })))
-IsPlaced (ending.Output page) left old new = OfRead left (λ bytes. OfRun bytes (WroteFront old new page))
-IsPlaced _ left old new = Unit {0}
+abbrev pub IsPlaced : Given → EndingSeen → Option (List ℕ) → Option (List ℕ) → Option (List ℕ) → Type 0
+IsPlaced g (Document fault) left old new = OfRead left (λ bytes. IsFirstFault g.res bytes fault)
+IsPlaced g (Page page) left old new = OfRead left (λ bytes. OfRun g bytes (λ _. Stopped old new page))
+IsPlaced g (Source page) left old new = OfRead left (λ bytes. OfRun g bytes (WroteBefore old new page))
+IsPlaced g (Output page) left old new = OfRead left (λ bytes. OfRun g bytes (λ _. WroteFront old new page))
+IsPlaced g _ left old new = Unit {0}
 
 -- the text was written, or a front of it where the count rose
 abbrev pub Tells : Option (List ℕ) → Option (List ℕ) → ℕ → ℕ → List ℕ → Type 0
@@ -87,56 +136,53 @@ pub record IsTold (old new : Option (List ℕ)) (before now : ℕ) (text : List 
 
 -- ---- the parts of a run
 
--- why a page was not written, by its value; only a failed write leaves something of it
-abbrev pub IsPageStop : PageStop → PageValue → Option (List ℕ) → Option (List ℕ) → ℕ → ℕ → Type 0
-IsPageStop (stop.Fault fault at) value old new before now = (value ≡ Err (record { fault = fault; at = at })) × (new ≡ old)
-IsPageStop stop.Output value old new before now =
-    (page : Bitmap) × (value ≡ Ok page) × AppendsPrefix old new (page_text page) × Rose before now
-IsPageStop stop.NoMemory value old new before now = new ≡ old
-
 -- how a run ends that doesn't write the page with this number, from 1
-abbrev pub ending_at : ℕ → PageStop → Ending
-ending_at page (stop.Fault fault at) = ending.Page page fault at
-ending_at page stop.Output = ending.Output page
-ending_at page stop.NoMemory = ending.Memory
+abbrev pub ending_at : ℕ → WriteStop → EndingSeen
+ending_at page (stop.Draw (draw.Fault fault at)) = Page (record { page = page; fault = seen_fault fault; at = at })
+ending_at page (stop.Draw draw.SourceFault) = Source page
+ending_at page (stop.Draw draw.NoMemory) = Memory
+ending_at page stop.Output = Output page
 
--- how the writing of a document's pages ended
-abbrev pub EndsPages : Ending → Option (List ℕ) → Option (List ℕ) → ℕ → ℕ → List PageValue → Type 0
-EndsPages ending.Written old new before now values = Wrote old new values
-EndsPages (ending.Page page fault at) old new before now values = Stopped old new (record { page = page; fault = fault; at = at }) values
-EndsPages (ending.Output page) old new before now values = WroteFront old new page values × Rose before now
-EndsPages ending.Memory old new before now values = WroteSome old new values
-EndsPages _ old new before now values = ⊥
+-- what is told before and after, and whether the output and the source failed
+module _ (old new : Option (List ℕ)) (OutputFailed SourceFailed : Type 0) where
+  -- why the page with this number, from 0, was not written; only a failed write leaves something of it
+  abbrev pub IsWriteStop : Given → Reading → ℕ → WriteStop → Type 0
+  IsWriteStop g reading i (stop.Draw (draw.Fault fault at)) = IsValueOf g reading i (fault_at (seen_fault fault) at) × (new ≡ old)
+  IsWriteStop g reading i (stop.Draw draw.SourceFault) = SourceFailed × (new ≡ old)
+  IsWriteStop g reading i (stop.Draw draw.NoMemory) = new ≡ old
+  IsWriteStop g reading i stop.Output =
+      (page : Bitmap) × IsValueOf g reading i (Ok page) × AppendsPrefix old new (page_text page) × OutputFailed
 
-module _ {O : Type 0} (written : O → Option (List ℕ)) (output_faults : O → ℕ) where
-  -- what holds of bytes that were read and led to this end
-  abbrev pub EndsBytes : Ending → O → O → List ℕ → Type 0
-  EndsBytes (ending.Document fault) out out2 bytes = IsFirstFault RESOLUTION bytes fault × (out2 ≡ out)
-  EndsBytes ending.Memory out out2 bytes = (out2 ≡ out) ⊎ OfRun bytes (WroteSome (written out) (written out2))
-  EndsBytes ending.Written out out2 bytes = OfRun bytes (Wrote (written out) (written out2))
-  EndsBytes (ending.Page page fault at) out out2 bytes =
-      OfRun bytes (Stopped (written out) (written out2) (record { page = page; fault = fault; at = at }))
-  EndsBytes (ending.Output page) out out2 bytes =
-      OfRun bytes (WroteFront (written out) (written out2) page) × Rose (output_faults out) (output_faults out2)
-  EndsBytes _ out out2 bytes = ⊥
+  -- how the writing of a document's pages ended
+  abbrev pub EndsPages : EndingSeen → Reading → List PageValue → Type 0
+  EndsPages Written reading values = Wrote old new reading values
+  EndsPages (Page page) reading values = Stopped old new page values
+  EndsPages (Source page) reading values = WroteBefore old new page reading values × SourceFailed
+  EndsPages (Output page) reading values = WroteFront old new page values × OutputFailed
+  EndsPages Memory reading values = WroteSome old new values
+  EndsPages _ reading values = ⊥
 
--- what holds of a run that ends so
-module _ {I O : Type 0} (left : I → Option (List ℕ)) (input_faults : I → ℕ)
-    (written : O → Option (List ℕ)) (output_faults : O → ℕ) where
-  abbrev pub IsEnding : Ending → ℕ → I → I → O → O → Type 0
-  IsEnding ending.Usage words input input2 out out2 =
-      (0 < words) × (input2 ≡ input) × (out2 ≡ out)
-  IsEnding ending.Input words input input2 out out2 =
-      (words ≡ 0) × Rose (input_faults input) (input_faults input2) × (out2 ≡ out)
-  IsEnding (ending.Document fault) words input input2 out out2 =
-      (words ≡ 0) × IsAllRead (left input) (left input2) × OfRead (left input) (λ bytes. IsFirstFault RESOLUTION bytes fault) × (out2 ≡ out)
-  IsEnding (ending.Page page fault at) words input input2 out out2 =
-      (words ≡ 0) × IsAllRead (left input) (left input2)
-      × OfRead (left input) (λ bytes. OfRun bytes (Stopped (written out) (written out2) (record { page = page; fault = fault; at = at })))
-  IsEnding (ending.Output page) words input input2 out out2 =
-      (words ≡ 0) × IsAllRead (left input) (left input2) × Rose (output_faults out) (output_faults out2)
-      × OfRead (left input) (λ bytes. OfRun bytes (WroteFront (written out) (written out2) page))
-  IsEnding ending.Written words input input2 out out2 =
-      (words ≡ 0) × IsAllRead (left input) (left input2) × OfRead (left input) (λ bytes. OfRun bytes (Wrote (written out) (written out2)))
-  IsEnding ending.Memory words input input2 out out2 =
-      (words ≡ 0) × ((out2 ≡ out) ⊎ OfRead (left input) (λ bytes. OfRun bytes (WroteSome (written out) (written out2))))
+  -- what holds of bytes that were read and led to this end; nothing was written where the output is kept
+  abbrev pub EndsBytes : (OutputKept : Type 0) → Given → List ℕ → EndingSeen → Type 0
+  EndsBytes OutputKept g bytes Written = OfRun g bytes (Wrote old new)
+  EndsBytes OutputKept g bytes (Document fault) = IsFirstFault g.res bytes fault × OutputKept
+  EndsBytes OutputKept g bytes (Page page) = OfRun g bytes (λ _. Stopped old new page)
+  EndsBytes OutputKept g bytes (Source page) = OfRun g bytes (WroteBefore old new page) × SourceFailed
+  EndsBytes OutputKept g bytes (Output page) = OfRun g bytes (λ _. WroteFront old new page) × OutputFailed
+  EndsBytes OutputKept g bytes Memory = OutputKept ⊎ OfRun g bytes (λ _. WroteSome old new)
+  EndsBytes OutputKept g bytes _ = ⊥
+
+  -- what holds of a run that ends so; `left` and `rest` are what the input has left before and after
+  abbrev pub IsEnding : (OutputKept InputFailed : Type 0) → Given → Option (List ℕ) → Option (List ℕ) → EndingSeen → Type 0
+  IsEnding OutputKept InputFailed g left rest Written = IsAllRead left rest × OfRead left (λ bytes. OfRun g bytes (Wrote old new))
+  IsEnding OutputKept InputFailed g left rest Usage = ⊥
+  IsEnding OutputKept InputFailed g left rest (Document fault) =
+      IsAllRead left rest × OfRead left (λ bytes. IsFirstFault g.res bytes fault) × OutputKept
+  IsEnding OutputKept InputFailed g left rest (Page page) =
+      IsAllRead left rest × OfRead left (λ bytes. OfRun g bytes (λ _. Stopped old new page))
+  IsEnding OutputKept InputFailed g left rest (Source page) =
+      IsAllRead left rest × OfRead left (λ bytes. OfRun g bytes (WroteBefore old new page)) × SourceFailed
+  IsEnding OutputKept InputFailed g left rest Input = InputFailed × OutputKept
+  IsEnding OutputKept InputFailed g left rest (Output page) =
+      IsAllRead left rest × OfRead left (λ bytes. OfRun g bytes (λ _. WroteFront old new page)) × OutputFailed
+  IsEnding OutputKept InputFailed g left rest Memory = OutputKept ⊎ OfRead left (λ bytes. OfRun g bytes (λ _. WroteSome old new))

@@ -1,6 +1,10 @@
 pub mod Reading
-pub mod Drawing
+pub mod Settings
 pub mod Pages
-pub mod Lines
 pub mod Endings
+pub mod DocTexts
+pub mod FontTexts
+pub mod PageTexts
+pub mod Lines
+pub mod Puts
 pub mod Laws

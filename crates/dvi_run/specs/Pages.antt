@@ -1,43 +1,60 @@
 -- The pages of a document drawn: the text that a run writes, and the page that ends it.
-use Rattle.std.specs.Prelude.{◌≡◌, ℕ, suc, List, [], ◌∷◌, length, Option, Some, None, Result, Ok, Err, unwrap_or}
+use Rattle.std.specs.Prelude.{◌≡◌, ◌≤◌, ℕ, suc, List, [], ◌∷◌, length, Option, Some, None, Ok, Err}
 use Rattle.std.specs.Option.{option_map}
 use Rattle.std.specs.List.{flat_map}
-use Rattle.pixel_round.specs.Pixels.{Fraction, conversion}
-use Rattle.pixel_round.specs.declared.units.Units.{Units}
-use Rattle.drift_rules.specs.declared.faults.PenFault.{PenFault}
-use Rattle.packed_rows.specs.Bitmap.{Bitmap, from_fn}
+use Rattle.outside.specs.Library.{Files}
+use Rattle.outside.specs.declared.keys.FontKey.{FontKey}
+use Rattle.packed_rows.specs.Bitmap.{Bitmap}
 use Rattle.page_index.specs.Document.{IsDocument, Reading, pages_begun}
-use Rattle.page_index.specs.Pages.{document_units, eop_at, page_commands}
+use Rattle.page_index.specs.Pages.{document_units}
+use Rattle.font_decode.specs.Decoding.{IsFontOf}
+use Rattle.vf_expand.specs.Faults.{PageFaultSeen}
+use Rattle.page_draw.specs.Members.{Finding}
+use Rattle.page_draw.specs.Values.{PageValue, PlacedFault}
+use Rattle.page_draw.specs.Drawn.{IsPageValue}
+use Rattle.page_draw.specs.declared.sheet.Sheet.{Sheet}
 use Rattle.pbm_output.specs.Pbm.{page_text}
-use Rattle.dvi_run.specs.Drawing.{PlacedFault, default_sheet, flats_of, page_value}
+use Rattle.dvi_run.specs.declared.settings.Settings.{Settings}
 
--- dots for an inch
-abbrev pub RESOLUTION : ℕ
-RESOLUTION = 300
+-- what a run is given besides its document: all the font files, where they are told, the dots for an inch, and the sheet
+pub record Given : Type 0 where
+  pub library : Option Files
+  pub res : ℕ
+  pub sheet : Sheet
+
+abbrev pub given_by : Option Files → Settings → Given
+given_by library settings = record { library = library; res = settings.res; sheet = settings.sheet }
 
 -- ---- the values of the pages
 
-abbrev pub PageValue : Type 0
-PageValue = Result Bitmap PlacedFault
+-- what is found for a key, with the units of the document
+abbrev pub finding : Given → Reading → Finding
+finding g reading = IsFontOf g.library (document_units g.res reading)
 
--- where the page's Eop stands; each page of a document has one
-abbrev pub eop_of : ℕ → Reading → ℕ
-eop_of i reading = unwrap_or (eop_at i reading) 0
+-- the page with a number, from 0, has this value, by some look-ups. Where the font files are told it has no other
+abbrev pub IsValueOf : Given → Reading → ℕ → PageValue → Type 0
+IsValueOf g reading i value =
+    (looks : List FontKey) × IsPageValue (finding g reading) (record { res = g.res; reading = reading }) g.sheet i value looks
 
--- the bitmap or the fault of the page with a number, from 0
-abbrev pub value_of : Fraction → Reading → ℕ → PageValue
-value_of c reading i = page_value c default_sheet (flats_of (page_commands i reading)) (eop_of i reading)
+-- the pages from a number on have these values, as far as the list goes
+abbrev pub HaveValues : Given → Reading → ℕ → List PageValue → Type 0
+HaveValues g reading i [] = Unit {0}
+HaveValues g reading i (value ∷ values) = IsValueOf g reading i value × HaveValues g reading (suc i) values
 
--- these are the values of all pages of the document, in the order of the file
-pub record AreValues (reading : Reading) (values : List PageValue) : Type 0 where
-  pub units : Units
-  pub of_preamble : document_units RESOLUTION reading ≡ Some units
-  pub are : values ≡ from_fn (pages_begun reading) (value_of (conversion units) reading)
+-- these are the values of the document's first pages, in the order of the file
+pub record AreValues (g : Given) (reading : Reading) (values : List PageValue) : Type 0 where
+  pub few : length values ≤ pages_begun reading
+  pub are : HaveValues g reading 0 values
 
--- the bytes are a document, and its pages have these values
-pub record IsRun (bytes : List ℕ) (reading : Reading) (values : List PageValue) : Type 0 where
-  pub document : IsDocument RESOLUTION bytes reading
-  pub pages : AreValues reading values
+-- the bytes are a document, and its first pages have these values
+pub record IsRun (g : Given) (bytes : List ℕ) (reading : Reading) (values : List PageValue) : Type 0 where
+  pub document : IsDocument g.res bytes reading
+  pub pages : AreValues g reading values
+
+-- and there are no further pages
+pub record IsWholeRun (g : Given) (bytes : List ℕ) (reading : Reading) (values : List PageValue) : Type 0 where
+  pub run : IsRun g bytes reading values
+  pub all : length values ≡ pages_begun reading
 
 -- ---- the run's value
 
@@ -55,7 +72,7 @@ first_fault (Err f ∷ values) = Some f
 -- a page without a bitmap, counted from 1, with its fault and the place
 pub record FailingPage : Type 0 where
   pub page : ℕ
-  pub fault : PenFault
+  pub fault : PageFaultSeen
   pub at : ℕ
 
 abbrev pub failing_page : ℕ → PlacedFault → FailingPage

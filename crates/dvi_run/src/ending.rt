@@ -2,11 +2,11 @@
 
 mod status;
 
-use drift_rules::PenFault;
 use page_index::DocFault;
+use vf_expand::PageFault;
 
 /// How a run ends. Pages are counted from 1.
-#[derive(Clone, Copy, Debug, PartialEq, Eq)]
+#[derive(Drop)]
 pub enum Ending {
     /// All pages were written.
     Written,
@@ -14,12 +14,14 @@ pub enum Ending {
     Usage,
     /// The bytes that were read aren't a document.
     Document(DocFault),
-    /// The page fails at the command with this position.
+    /// The page has no bitmap, for this fault, at the command with this position.
     Page {
         page: usize,
-        fault: PenFault,
+        fault: PageFault,
         at: usize,
     },
+    /// The source of the fonts failed at this page.
+    Source(usize),
     /// The input failed.
     Input,
     /// The output failed at this page.

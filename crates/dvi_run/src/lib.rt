@@ -1,20 +1,20 @@
 //! One run: reads a document, draws its pages, writes their images, and says how it ended.
 //!
-//! The public call is `dvipbm_run`. Below it stand the reading of the input, the drawing of a page, the
-//! writing of all pages, and the notes, each a part of its own that the call's contract doesn't name.
+//! The public calls are `run_with`, for a test or another program, and `dvipbm_run`, for the words of a
+//! command line. Below them stand the reading of the input, the writing of all pages over a desk of fonts,
+//! and the notes, each a part of its own that the calls' contracts don't name.
 #![tactic(auto)]
 
-mod draw;
 mod ending;
-mod flat;
 pub mod laws;
-mod line;
 mod note;
 mod pages;
 mod reading;
 mod run;
-mod sheet;
+mod settings;
 #[cfg(test)]
 mod tests;
+mod texts;
 
-pub use run::dvipbm_run;
+pub use run::{dvipbm_run, run_with};
+pub use settings::{Settings, default_settings, default_sheet};

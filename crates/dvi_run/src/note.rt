@@ -1,15 +1,15 @@
 //! Prints the line of a run's end.
-ghost use Rattle.std.specs.Prelude.{◌++◌, ℕ, List, Option, decimal};
-ghost use Rattle.outside.specs.Gather.{Gathers};
-ghost use Rattle.dvi_run.specs.Endings.{IsTold};
-ghost use Rattle.dvi_run.specs.Lines.{document_line, line_of, number_text, output_line, page_line};
+ghost use Rattle.vf_expand.specs.Faults.{seen_fault};
+ghost use Rattle.dvi_run.specs.Endings.{IsTold, seen_ending};
+ghost use Rattle.dvi_run.specs.Lines.{document_line, line_of, output_line, page_line, source_line};
 
 use crate::ending::Ending;
-use crate::line::{doc_name, pen_name, place};
-use drift_rules::PenFault;
-use itoa::Buffer;
+use crate::texts::document::{doc_name, place};
+use crate::texts::page::put_fault;
+use crate::texts::puts::{put, put_name, put_number};
 use outside::{Gather, Output, write_all};
 use page_index::DocFault;
+use vf_expand::PageFault;
 
 // Prints a line.
 fn tell<N: Output>(notes: &mut N, line: &[u8])
@@ -19,28 +19,6 @@ fn tell<N: Output>(notes: &mut N, line: &[u8])
     let _ = write_all(notes, line);
 }
 
-// Puts a number behind a text, if there is one.
-fn put_number<N: Output>(gather: &mut Gather, notes: &mut N, number: Option<i32>)
-    ensures { (start : Option (List ℕ)) (before : ℕ) (text : List ℕ)
-        → Gathers start before gather.old (N.written notes.old) (N.faults notes.old) text
-        → Gathers start before gather.new (N.written notes.new) (N.faults notes.new)
-        (text ++ number_text number) }
-{
-    if let Some(number) = number {
-        gather.put(notes, Buffer::new().format(number).as_bytes());
-    }
-}
-
-// Puts a count or a position.
-fn put_count<N: Output>(gather: &mut Gather, notes: &mut N, count: usize)
-    ensures { (start : Option (List ℕ)) (before : ℕ) (text : List ℕ)
-        → Gathers start before gather.old (N.written notes.old) (N.faults notes.old) text
-        → Gathers start before gather.new (N.written notes.new) (N.faults notes.new)
-        (text ++ decimal count) }
-{
-    gather.put(notes, Buffer::new().format(count).as_bytes());
-}
-
 // Prints the line of a document's fault.
 fn tell_document<N: Output>(notes: &mut N, fault: &DocFault)
     ensures { IsTold (N.written notes.old) (N.written notes.new) (N.faults notes.old)
@@ -48,28 +26,39 @@ fn tell_document<N: Output>(notes: &mut N, fault: &DocFault)
 {
     let name = doc_name(fault);
     let mut gather = Gather::new();
-    gather.put(notes, b"dvipbm: document: ");
-    gather.put(notes, name.text);
-    put_number(&mut gather, notes, name.number);
-    gather.put(notes, b" at ");
-    put_count(&mut gather, notes, place(fault));
-    gather.put(notes, b"\n");
+    put(&mut gather, notes, b"dvipbm: document: ");
+    put_name(&mut gather, notes, &name);
+    put(&mut gather, notes, b" at ");
+    put_number(&mut gather, notes, place(fault));
+    put(&mut gather, notes, b"\n");
     let _ = gather.finish(notes);
 }
 
 // Prints the line of a page that fails at the command with this position.
-fn tell_page<N: Output>(notes: &mut N, page: usize, fault: PenFault, at: usize)
-    ensures { IsTold (N.written notes.old) (N.written notes.new) (N.faults notes.old)
-        (N.faults notes.new) (page_line page fault at) }
+fn tell_page<N: Output>(notes: &mut N, page: usize, fault: &PageFault, at: usize)
+    ensures { IsTold (N.written notes.old) (N.written notes.new) (N.faults notes.old) (N.faults notes.new)
+        (page_line (record { page = page; fault = seen_fault fault.now; at = at })) }
 {
     let mut gather = Gather::new();
-    gather.put(notes, b"dvipbm: page ");
-    put_count(&mut gather, notes, page);
-    gather.put(notes, b" at ");
-    put_count(&mut gather, notes, at);
-    gather.put(notes, b": ");
-    gather.put(notes, pen_name(fault));
-    gather.put(notes, b"\n");
+    put(&mut gather, notes, b"dvipbm: page ");
+    put_number(&mut gather, notes, page);
+    put(&mut gather, notes, b" at ");
+    put_number(&mut gather, notes, at);
+    put(&mut gather, notes, b": ");
+    put_fault(&mut gather, notes, fault);
+    put(&mut gather, notes, b"\n");
+    let _ = gather.finish(notes);
+}
+
+// Prints the line of a page that the source of the fonts failed at.
+fn tell_source<N: Output>(notes: &mut N, page: usize)
+    ensures { IsTold (N.written notes.old) (N.written notes.new) (N.faults notes.old)
+        (N.faults notes.new) (source_line page) }
+{
+    let mut gather = Gather::new();
+    put(&mut gather, notes, b"dvipbm: page ");
+    put_number(&mut gather, notes, page);
+    put(&mut gather, notes, b": font source failed\n");
     let _ = gather.finish(notes);
 }
 
@@ -79,22 +68,23 @@ fn tell_output<N: Output>(notes: &mut N, page: usize)
         (N.faults notes.new) (output_line page) }
 {
     let mut gather = Gather::new();
-    gather.put(notes, b"dvipbm: page ");
-    put_count(&mut gather, notes, page);
-    gather.put(notes, b": output failed\n");
+    put(&mut gather, notes, b"dvipbm: page ");
+    put_number(&mut gather, notes, page);
+    put(&mut gather, notes, b": output failed\n");
     let _ = gather.finish(notes);
 }
 
 /// Prints the line of a run's end, or a front of it where the notes fail.
 pub fn print<N: Output>(notes: &mut N, ending: &Ending)
     ensures { IsTold (N.written notes.old) (N.written notes.new) (N.faults notes.old)
-        (N.faults notes.new) (line_of ending.now) }
+        (N.faults notes.new) (line_of (seen_ending ending.now)) }
 {
     match ending {
         Ending::Written => tell(notes, b""),
         Ending::Usage => tell(notes, b"dvipbm: usage\n"),
         Ending::Document(fault) => tell_document(notes, fault),
-        Ending::Page { page, fault, at } => tell_page(notes, *page, *fault, *at),
+        Ending::Page { page, fault, at } => tell_page(notes, *page, fault, *at),
+        Ending::Source(page) => tell_source(notes, *page),
         Ending::Input => tell(notes, b"dvipbm: input failed\n"),
         Ending::Output(page) => tell_output(notes, *page),
         Ending::Memory => tell(notes, b"dvipbm: out of memory\n"),

@@ -1,91 +1,111 @@
 //! Draws and writes the pages of a document, one after another.
-ghost use Rattle.std.specs.Prelude.{◌≡◌, ◌<◌, ◌≤◌, ◌+◌, ◌^◌, List, Ok, IfErr, OnOk, length};
+ghost use Rattle.std.specs.Prelude.{◌≡◌, ◌<◌, ◌≤◌, ◌+◌, ◌*◌, ◌^◌, List, Ok, IfErr, OnOk};
 ghost use Rattle.std.specs.Io.KnownBytes.{Appends};
+ghost use Rattle.outside.specs.Counts.{Rose};
 ghost use Rattle.packed_rows.specs.Bitmap.{Bitmap};
-ghost use Rattle.dvi_commands.specs.Reading.{Reads, placed_from};
-ghost use Rattle.dvi_commands.specs.declared.command.Context.TheVariants as context;
+ghost use Rattle.page_index.specs.Document.{pages_begun};
+ghost use Rattle.page_index.specs.Pages.{document_units};
+ghost use Rattle.page_draw.specs.Sheets.{IsDrawable};
+ghost use Rattle.page_draw.specs.Values.{PageValue};
 ghost use Rattle.pbm_output.specs.Pbm.{page_text};
-ghost use Rattle.dvi_run.specs.Drawing.{IsDrawable, default_sheet as the_default_sheet, flats_of, page_value};
-ghost use Rattle.dvi_run.specs.Pages.{AreValues, PageValue, RESOLUTION};
-ghost use Rattle.dvi_run.specs.Endings.{EndsPages, IsPageStop, ending_at};
+ghost use Rattle.dvi_run.specs.Pages.{AreValues, IsValueOf};
+ghost use Rattle.dvi_run.specs.Endings.{EndsPages, IsWriteStop, ending_at, seen_ending};
 
-use crate::draw::{DrawStop, draw};
 use crate::ending::Ending;
-use crate::sheet::{Sheet, default_sheet};
-use drift_rules::PenFault;
+use font_decode::Desk;
 use outside::Output;
+use page_draw::{PageStop, Sheet, draw};
 use page_index::Index;
 use pbm_output::{WriteFault, write_page};
-use pixel_round::Conv;
 use std::alloc::Global;
+use std::sync::Wait;
 
 /// Why a page was not written.
-#[derive(Clone, Copy, Debug, PartialEq, Eq)]
-pub enum PageStop {
-    /// The page fails at the command with this position in the document.
-    Fault { fault: PenFault, at: usize },
+#[derive(Drop)]
+pub enum WriteStop {
+    /// It was not drawn.
+    Draw(PageStop),
     /// The output failed.
     Output,
-    /// Memory was wanting.
-    NoMemory,
 }
 
-// Draws a page, and writes it once it is whole.
-fn write_one<O: Output>(
+// Draws the page with a number, from 0, and writes it once it is whole.
+fn write_one<R: Wait, D: Desk, O: Output>(
+    rt: &R,
     alloc: Global,
-    conv: Conv,
+    desk: &mut D,
+    shared: &D::Shared,
+    index: &Index,
+    i: usize,
     sheet: &Sheet,
-    start: usize,
-    bytes: &[u8],
     out: &mut O,
-) -> Result<(), PageStop>
+) -> Result<(), WriteStop>
+    requires page { i < pages_begun index.now.reading }
     requires sheet { IsDrawable sheet.now }
-    requires readable { Reads context.Page bytes.now }
-    requires room { start + length bytes.now < 2 ^ 63 }
+    requires fits { D.fits desk.old shared.now }
+    requires units { D.units desk.old ≡ document_units index.now.res index.now.reading }
+    requires room { 2 ^ 24 ≤ D.room desk.old }
+    ensures fits { D.fits desk.new shared.now }
+    ensures room { D.room desk.old ≤ D.room desk.new + 2 ^ 24 }
+    ensures library { D.library desk.new ≡ D.library desk.old }
+    ensures units { D.units desk.new ≡ D.units desk.old }
     ensures written { OnOk result ((page : Bitmap)
-        × (page_value conv sheet.now (flats_of (placed_from start bytes.now)) (start + length bytes.now) ≡ Ok page)
+        × IsValueOf (record { library = D.library desk.old; res = index.now.res; sheet = sheet.now }) index.now.reading i (Ok page)
         × Appends (O.written out.old) (O.written out.new) (page_text page)) }
-    ensures stop { IfErr result (λ stop. IsPageStop stop
-        (page_value conv sheet.now (flats_of (placed_from start bytes.now)) (start + length bytes.now))
-        (O.written out.old) (O.written out.new) (O.faults out.old) (O.faults out.new)) }
-    ensures count { O.faults out.old ≤ O.faults out.new }
+    ensures stop { IfErr result (IsWriteStop (O.written out.old) (O.written out.new)
+        (Rose (O.faults out.old) (O.faults out.new)) (Rose (D.faults desk.old) (D.faults desk.new))
+        (record { library = D.library desk.old; res = index.now.res; sheet = sheet.now }) index.now.reading i) }
+    ensures output { O.faults out.old ≤ O.faults out.new }
+    ensures source { D.faults desk.old ≤ D.faults desk.new }
 {
-    let page = match draw(alloc, conv, sheet, start, bytes) {
+    let page = match draw(rt, alloc, desk, shared, index, i, sheet) {
         Ok(page) => page,
-        Err(DrawStop::Fault { fault, at }) => return Err(PageStop::Fault { fault, at }),
-        Err(DrawStop::NoMemory) => return Err(PageStop::NoMemory),
+        Err(stop) => return Err(WriteStop::Draw(stop)),
     };
     match write_page(out, &page) {
         Ok(()) => Ok(()),
-        Err(WriteFault) => Err(PageStop::Output),
+        Err(WriteFault) => Err(WriteStop::Output),
     }
 }
 
 // How a run ends that doesn't write the page with this number, from 0.
-fn stopped(i: usize, stop: PageStop) -> Ending
+fn stopped(i: usize, stop: WriteStop) -> Ending
     requires { i < 1000000 }
-    ensures { result ≡ ending_at (i + 1) stop }
+    ensures { seen_ending result ≡ ending_at (i + 1) stop }
 {
     let page = i + 1;
     match stop {
-        PageStop::Fault { fault, at } => Ending::Page { page, fault, at },
-        PageStop::Output => Ending::Output(page),
-        PageStop::NoMemory => Ending::Memory,
+        WriteStop::Draw(PageStop::Fault { fault, at }) => Ending::Page { page, fault, at },
+        WriteStop::Draw(PageStop::SourceFault) => Ending::Source(page),
+        WriteStop::Draw(PageStop::NoMemory) => Ending::Memory,
+        WriteStop::Output => Ending::Output(page),
     }
 }
 
 /// Writes the pages of a document in their order, up to the first that can't be.
-pub fn write_pages<O: Output>(alloc: Global, index: &Index, out: &mut O) -> Ending
-    requires { index.now.res ≡ RESOLUTION }
-    ensures ends { (values : List PageValue) × AreValues index.now.reading values
-        × EndsPages result (O.written out.old) (O.written out.new) (O.faults out.old) (O.faults out.new) values }
-    ensures count { O.faults out.old ≤ O.faults out.new }
+pub fn write_pages<R: Wait, D: Desk, O: Output>(
+    rt: &R,
+    alloc: Global,
+    desk: &mut D,
+    shared: &D::Shared,
+    index: &Index,
+    sheet: &Sheet,
+    out: &mut O,
+) -> Ending
+    requires sheet { IsDrawable sheet.now }
+    requires fits { D.fits desk.old shared.now }
+    requires units { D.units desk.old ≡ document_units index.now.res index.now.reading }
+    requires room { 1000000 * 2 ^ 24 ≤ D.room desk.old }
+    ensures ends { (values : List PageValue)
+        × AreValues (record { library = D.library desk.old; res = index.now.res; sheet = sheet.now }) index.now.reading values
+        × EndsPages (O.written out.old) (O.written out.new) (Rose (O.faults out.old) (O.faults out.new))
+        (Rose (D.faults desk.old) (D.faults desk.new)) (seen_ending result) index.now.reading values }
+    ensures library { D.library desk.new ≡ D.library desk.old }
+    ensures output { O.faults out.old ≤ O.faults out.new }
+    ensures source { D.faults desk.old ≤ D.faults desk.new }
 {
-    let conv = index.conv();
-    let sheet = default_sheet();
     for i in 0..index.pages() {
-        let page = index.page(i);
-        match write_one(alloc, conv, &sheet, page.at, page.bytes, out) {
+        match write_one(rt, alloc, desk, shared, index, i, sheet, out) {
             Ok(()) => {}
             Err(stop) => return stopped(i, stop),
         }

@@ -1,14 +1,22 @@
 //! Runs in memory, with documents at half a dot for a unit (num 1270, den 3, mag 1000).
 ghost use Rattle.std.specs.Prelude.{◌≤◌};
+ghost use Rattle.page_draw.specs.Sheets.{IsDrawable};
+ghost use Rattle.dvi_run.specs.Settings.{AreSettings};
 
+mod characters;
 mod drawing;
 mod faults;
+mod files;
+mod font_faults;
+mod limits;
 mod pages;
 mod streams;
 
-use crate::dvipbm_run;
-use outside::{MemInput, MemOutput};
+use crate::{Settings, dvipbm_run, run_with};
+use outside::{FontSource, Library, MemInput, MemOutput, SureFonts, SureInput};
+use page_draw::Sheet;
 use std::alloc::Global;
+use std::sync::{Arc, Wait};
 use std::test::Fail;
 
 /// A page with a put rule of height 4 and width 6, which is 2 rows of 3 dots.
@@ -78,9 +86,15 @@ fn page_text(alloc: Global, dots: &[(usize, usize)]) -> Result<Vec<u8>, Fail> {
     Ok(text)
 }
 
+// A source without files.
+fn no_fonts(alloc: Global) -> Result<SureFonts, Fail> {
+    Ok(SureFonts::new(Arc::new(alloc, Library::new(alloc))?))
+}
+
 // Whether a run of these bytes with so many bytes for a read and for a write, where the listed reads and
 // writes fail, ends with this status, output and line.
-fn ends(
+fn ends<R: Wait>(
+    rt: &R,
     alloc: Global,
     bytes: &[u8],
     pieces: (usize, usize),
@@ -95,18 +109,62 @@ fn ends(
     let mut input = MemInput::new(text, pieces.0, numbers(alloc, fails.0)?);
     let mut out = MemOutput::new(alloc, pieces.1, numbers(alloc, fails.1)?);
     let mut notes = MemOutput::new(alloc, 5, Vec::new(alloc));
-    let answer = dvipbm_run(alloc, &[], &mut input, &mut out, &mut notes);
-    Ok(answer == status && out.bytes() == written && notes.bytes() == line)
+    let source = no_fonts(alloc)?;
+    let (answer, source) = dvipbm_run(rt, alloc, &[], &mut input, source, &mut out, &mut notes);
+    Ok(answer == status && source.is_some() && out.bytes() == written && notes.bytes() == line)
 }
 
 // A document with this page is drawn with these dots black, and no others.
-fn draws(alloc: Global, page: &[u8], dots: &[(usize, usize)]) -> Result<bool, Fail> {
+fn draws<R: Wait>(
+    rt: &R,
+    alloc: Global,
+    page: &[u8],
+    dots: &[(usize, usize)],
+) -> Result<bool, Fail> {
     let bytes = document(alloc, &[], &[page])?;
     let text = page_text(alloc, dots)?;
-    ends(alloc, &bytes, (4096, 65536), (&[], &[]), 0, &text, b"")
+    ends(rt, alloc, &bytes, (4096, 65536), (&[], &[]), 0, &text, b"")
 }
 
 // Whether a run of these bytes is refused with status 2 and this line.
-fn is_refused(alloc: Global, bytes: &[u8], line: &[u8]) -> Result<bool, Fail> {
-    ends(alloc, bytes, (4096, 4096), (&[], &[]), 2, b"", line)
+fn is_refused<R: Wait>(rt: &R, alloc: Global, bytes: &[u8], line: &[u8]) -> Result<bool, Fail> {
+    ends(rt, alloc, bytes, (4096, 4096), (&[], &[]), 2, b"", line)
+}
+
+// The settings of a run without words, but for the sheet.
+fn on(sheet: Sheet) -> Settings
+    requires { IsDrawable sheet }
+    ensures { AreSettings result }
+{
+    Settings {
+        res: 300,
+        sheet,
+        workers: 1,
+        cache: 16,
+        sample: None,
+        trace: false,
+        summary: false,
+    }
+}
+
+// Whether a run of these bytes with these settings and fonts ends with this status, output and line.
+fn ends_on<R: Wait, F: FontSource>(
+    rt: &R,
+    alloc: Global,
+    settings: &Settings,
+    bytes: &[u8],
+    source: F,
+    status: u8,
+    written: &[u8],
+    line: &[u8],
+) -> Result<bool, Fail>
+    requires { AreSettings settings.now }
+{
+    let mut input = SureInput::new(Vec::from_slice(alloc, bytes)?);
+    let mut out = MemOutput::new(alloc, 64, Vec::new(alloc));
+    let mut notes = MemOutput::new(alloc, 64, Vec::new(alloc));
+    let (answer, source) = run_with(
+        rt, alloc, settings, &mut input, source, &mut out, &mut notes,
+    );
+    Ok(answer == status && source.is_some() && out.bytes() == written && notes.bytes() == line)
 }

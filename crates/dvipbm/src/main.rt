@@ -1,36 +1,63 @@
-//! The program: draws the DVI document on standard input, and writes its pages as PBM bitmaps on
-//! standard output.
+//! The program: draws the DVI document on standard input with the fonts of a folder, and writes its
+//! pages as PBM bitmaps on standard output. The folder is named by the environment word `DVIPBM_FONTS`;
+//! where that isn't set it is the current folder.
 #![tactic(auto)]
 
 mod adapters;
+mod folder;
 
 use adapters::{FromReader, ToWriter};
-use std::env;
+use dvi_run::dvipbm_run;
+use folder::FolderFonts;
+use std::env::{self, VarError};
 use std::io::ErrorKind;
+use std::path::PathBuf;
 use std::process::ExitCode;
 
-/// Memory is wanting for the words.
+/// Memory is wanting for the words or for the folder's name.
 const NO_MEMORY: u8 = 9;
 
-/// The words can't be had. No run ends so.
+/// The words or the folder's name can't be had. No run ends so.
 const NO_WORDS: u8 = 10;
+
+// The words behind the program's name.
+fn words(rt: &HostRuntime) -> Result<Vec<String>, u8> {
+    let args = match env::args(rt) {
+        Ok(args) => args,
+        Err(error) if error.kind() == ErrorKind::OutOfMemory => return Err(NO_MEMORY),
+        Err(_) => return Err(NO_WORDS),
+    };
+    let mut words: Vec<String> = Vec::new(rt.alloc());
+    for word in args.skip(1) {
+        words.push(word).map_err(|_| NO_MEMORY)?;
+    }
+    Ok(words)
+}
+
+// The folder of the font files.
+fn fonts_folder(rt: &HostRuntime) -> Result<PathBuf, u8> {
+    match env::var(rt, "DVIPBM_FONTS") {
+        Ok(name) => Ok(PathBuf::from(name)),
+        Err(VarError::NotPresent) => Ok(PathBuf::new(rt.alloc())),
+        Err(VarError::NotUnicode) => Err(NO_WORDS),
+        Err(VarError::OutOfMemory) => Err(NO_MEMORY),
+    }
+}
 
 fn main(rt: HostRuntime) -> ExitCode {
     let alloc = rt.alloc();
-    let args = match env::args(&rt) {
-        Ok(args) => args,
-        Err(error) if error.kind() == ErrorKind::OutOfMemory => return ExitCode::from(NO_MEMORY),
-        Err(_) => return ExitCode::from(NO_WORDS),
+    let words = match words(&rt) {
+        Ok(words) => words,
+        Err(status) => return ExitCode::from(status),
     };
-    let mut words: Vec<String> = Vec::new(alloc);
-    for word in args.skip(1) {
-        if words.push(word).is_err() {
-            return ExitCode::from(NO_MEMORY);
-        }
-    }
+    let folder = match fonts_folder(&rt) {
+        Ok(folder) => folder,
+        Err(status) => return ExitCode::from(status),
+    };
+    let fonts = FolderFonts::new(&rt, alloc, folder);
     let mut input = FromReader::new(rt.stdin());
     let mut out = ToWriter::new(rt.stdout());
     let mut notes = ToWriter::new(rt.stderr());
-    let status = dvi_run::dvipbm_run(alloc, words.as_slice(), &mut input, &mut out, &mut notes);
+    let (status, _fonts) = dvipbm_run(&rt, alloc, &words, &mut input, fonts, &mut out, &mut notes);
     ExitCode::from(status)
 }

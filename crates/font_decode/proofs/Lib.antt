@@ -1,2 +1,4 @@
 pub mod Plain
 pub mod Distinct
+pub mod Alike
+pub mod Scaled

@@ -6,6 +6,8 @@ use Rattle.outside.specs.declared.keys.FontKey.{FontKey}
 use Rattle.pixel_round.specs.declared.units.Units.{Units}
 use Rattle.font_decode.specs.Names.{is_name_byte, is_valid_name, is_resolution, dpi, file_names}
 use Rattle.font_decode.specs.Files.{FontFiles, IsFound, looked_for}
+use Rattle.font_decode.specs.Decoding.{IsDecodingOf, IsFontIn, AreAlike}
+use Rattle.font_decode.specs.declared.decoded.Decoded.{Decoded}
 
 -- a name that leads out of no folder: neither empty nor `.` nor `..`, and with no `/`
 pub record StaysInFolder (name : List ℕ) : Type 0 where
@@ -27,3 +29,11 @@ OneIsFound = (l : library.Files) (u : Units) (k : FontKey) (f g : FontFiles) →
 
 abbrev pub FiveAtMost : Type 0
 FiveAtMost = (l : library.Files) (u : Units) (k : FontKey) → length (looked_for l u k) ≤ 5
+
+-- files come to one font, or have one first fault
+abbrev pub OneOfItsFiles : Type 0
+OneOfItsFiles = (u : Units) (k : FontKey) (files : FontFiles) (d e : Decoded) → IsDecodingOf u k files d → IsDecodingOf u k files e → AreAlike d e
+
+-- and so does a key in a library
+abbrev pub OneInALibrary : Type 0
+OneInALibrary = (l : library.Files) (u : Units) (k : FontKey) (d e : Decoded) → IsFontIn l u k d → IsFontIn l u k e → AreAlike d e

@@ -1,5 +1,5 @@
 //! What is true of the names of a font's files, and of what is found.
-ghost use Rattle.font_decode.specs.Laws.{NamesStayInFolder, NamesAreDistinct, OneIsFound, FiveAtMost};
+ghost use Rattle.font_decode.specs.Laws.{NamesStayInFolder, NamesAreDistinct, OneIsFound, FiveAtMost, OneOfItsFiles, OneInALibrary};
 
 /// The names of a font's files lead out of no folder, and no two of them are the same.
 pub fn names()
@@ -11,4 +11,11 @@ pub fn names()
 pub fn answers()
     ensures one { OneIsFound }
     ensures five { FiveAtMost }
+{}
+
+/// Files come to one font or have one first fault, and so does a key in a library: two decodings are
+/// the same fault, or fonts of which each code has the same width and the same glyph.
+pub fn decodings()
+    ensures files { OneOfItsFiles }
+    ensures library { OneInALibrary }
 {}

@@ -2,6 +2,8 @@
 ghost use Rattle.std.specs.Prelude.{◌≡◌, ◌<◌, ◌≤◌, ◌^◌, IfOk};
 ghost use Rattle.font_decode.specs.Names.{IsKey};
 
+mod decodings;
+
 use crate::names::is_resolution;
 use crate::{Files, dpi, fetch, file_name, is_valid_name, laws};
 use outside::{FileName, FontKey, FontName, FontSource, Library, LoadStop, MemFonts, SureFonts};

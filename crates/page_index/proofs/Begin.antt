@@ -110,13 +110,13 @@ module _ (bytes : List ℕ) (s : Scaled) (b : IsBegun bytes s) (c : DviCommand) 
   begun fonts none = record {
     reading = q ∷ [];
     fits = b.fits;
-    sound = (tt, record { unfinished = refl; place = refl; spelled = spelled; allowed = rw op refl; today = refl; right = ap (whole_fault s.units.res [] 0 q.bytes) pre.1 ∙ right });
+    sound = (tt, record { unfinished = refl; place = refl; spelled = spelled; allowed = rw op refl; right = ap (whole_fault s.units.res [] 0 q.bytes) pre.1 ∙ right });
     text = sym whole;
     within = within;
     preamble = record {
       preamble = p;
       is = ap (preamble_or None) pre.1;
-      scaled = record { num_is = sym num ∙ b.scaled.num_is; den_is = sym den ∙ b.scaled.den_is; mag_is = sym mag ∙ b.scaled.mag_is; converts = b.scaled.converts };
+      scaled = record { num_is = sym num ∙ b.scaled.num_is; den_is = sym den ∙ b.scaled.den_is; mag_is = sym mag ∙ b.scaled.mag_is; units = b.scaled.units; converts = b.scaled.converts };
     };
     follows = record {
       at = omega (arith, size);

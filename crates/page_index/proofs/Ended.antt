@@ -25,6 +25,7 @@ use Rattle.page_index.specs.declared.progress.Progress.{Progress}
 use Rattle.page_index.specs.declared.progress.PageSpan.{PageSpan}
 use Rattle.page_index.proofs.Contexts.{SaysOf, behind_post, says_of}
 use Rattle.page_index.proofs.Filler.{filler_is}
+use Rattle.page_index.proofs.FontKeys.{fonts_fit}
 use Rattle.page_index.proofs.Runs.{runs_more, runs_placed, runs_read}
 
 -- ---- a reading is the commands of its text
@@ -119,7 +120,9 @@ module _ (bytes : List ℕ) (s : Scaled) (p : Progress) (pages : List PageSpan) 
         few = omega (arith, w.follows.count, w.follows.few);
         spans = w.follows.spans;
         keys = w.follows.keys;
+        fonts_fit = fonts_fit s.units.res w.reading w.sound;
         of_preamble = ap (option_map (units_of s.units.res)) w.preamble.is ∙ ap Some (sym same_units);
+        units_fit = w.preamble.scaled.units;
         converts = w.preamble.scaled.converts;
       })
 

@@ -1,15 +1,14 @@
 -- A document has no fault, and a file has at most one first fault.
 use Rattle.std.proofs.Common.{◌≡◌, ℕ, zero, suc, ◌<◌, ◌≤◌, ◌⊎◌, ℤ, true, false, List, [], ◌∷◌, ◌++◌, length, replicate, Option, Some, None, refl, sym, ap, subst, ◌∙◌, arith, inl, inr, append_assoc}
 use Rattle.std.specs.Prelude.{◌==◌, nat_lt, slice_index}
-use Rattle.std.specs.Bool.{MatchBool}
 use Rattle.std.specs.List.{list_all}
 use Rattle.std.proofs.lemmas.Bool.{true≢false, le-ltb, eqb-true, and_parts, cases_Bool, MatchBool-at_true, MatchBool-at_false}
 use Rattle.dvi_commands.specs.Spelling.{DviCommand, Preamble, Pre, PostPost, Spells, spelling}
 use Rattle.dvi_commands.specs.Refusal.{may_stand, refusal}
 use Rattle.dvi_commands.specs.Reading.{Placed, command_of}
-use Rattle.page_index.specs.Judged.{is_filler, is_not_yet, preamble_fault, postpost_fault, tail_fault}
+use Rattle.page_index.specs.Judged.{is_filler, preamble_fault, postpost_fault, tail_fault}
 use Rattle.page_index.specs.Document.{Reading, text_of, end_of, context_after, post_at, Sound, IsSound, is_postpost, is_ended, whole_fault}
-use Rattle.page_index.specs.Faults.{FaultBehind, FaultAfter, FaultWithin, FaultAtCommand, as_doc_fault, is_not_yet_at, is_postpost_at}
+use Rattle.page_index.specs.Faults.{FaultBehind, FaultAfter, FaultWithin, FaultAtCommand, as_doc_fault, is_postpost_at}
 use Rattle.page_index.specs.Laws.{DocumentsHaveNoFault, FirstFaultsAreOne, DocumentsHaveOneReading}
 use Rattle.dvi_commands.specs.declared.command.CommandFault.{CommandFault}
 use Rattle.page_index.specs.declared.faults.DocFault.{DocFault}
@@ -84,29 +83,14 @@ no_command_fault res r q more f h (inr e) =
     (subst (λ (at : ℕ). whole_fault res r at q.bytes q.command ≡ None) h.place h.right)) in
     none_is_some _ f right e.6
 
--- a command of a sound reading is drawn
-no_undrawn : (res : ℕ) (r : Reading) (q : Placed) (more : List ℕ) → IsSound res r q → is_not_yet_at (context_after r) (q.bytes ++ more) ≡ true → ⊥
-no_undrawn res r q more h here =
-    let both = and_parts (nat_lt 0 (length (q.bytes ++ more))) (is_not_yet (context_after r) (slice_index (q.bytes ++ more) 0)) here in
-    let first = first_of q.bytes more (spelled_some q.command q.bytes h.spelled) in
-    true≢false (sym both.1 ∙ ap (is_not_yet (context_after r)) first ∙ h.today)
-
-not_within : (res : ℕ) (r : Reading) (q : Placed) (more : List ℕ) (f : DocFault) → IsSound res r q
-    → MatchBool (is_postpost_at (context_after r) (q.bytes ++ more)) (postpost_fault (post_at r) (end_of r) (q.bytes ++ more) ≡ Some f) (FaultAtCommand res r (q.bytes ++ more) f) → ⊥
-not_within res r q more f h e =
+no_fault_within : (res : ℕ) (r : Reading) (q : Placed) (more : List ℕ) (f : DocFault) → IsSound res r q → FaultWithin res r (q.bytes ++ more) f → ⊥
+no_fault_within res r q more f h e =
     elim (cases_Bool (is_postpost_at (context_after r) (q.bytes ++ more))) [
       | inl here ↦
           let both = and_parts (may_stand (context_after r) 249) (slice_index (q.bytes ++ more) 0 == 249) here in
           let head : slice_index (q.bytes ++ more) 0 ≡ 249 = eqb-true _ _ both.1 in
           no_pointer_fault res r q more f h head (MatchBool-at_true _ _ here e)
       | inr not_here ↦ no_command_fault res r q more f h (MatchBool-at_false _ _ not_here e)
-    ]
-
-no_fault_within : (res : ℕ) (r : Reading) (q : Placed) (more : List ℕ) (f : DocFault) → IsSound res r q → FaultWithin res r (q.bytes ++ more) f → ⊥
-no_fault_within res r q more f h e =
-    elim (cases_Bool (is_not_yet_at (context_after r) (q.bytes ++ more))) [
-      | inl here ↦ no_undrawn res r q more h here
-      | inr not_here ↦ not_within res r q more f h (MatchBool-at_false _ _ not_here e)
     ]
 
 -- behind a command that is not PostPost
@@ -230,20 +214,11 @@ one_at_command res r rest f g (inr e) (inr h) =
     (subst (λ (b : List ℕ). whole_fault res r (end_of r) b e.0 ≡ Some f) parts.0 e.6) in
     some_is_one (whole_fault res r (end_of r) h.1 h.0) f g moved h.6
 
-one_drawn : (res : ℕ) (r : Reading) (rest : List ℕ) (f g : DocFault)
-    → MatchBool (is_postpost_at (context_after r) rest) (postpost_fault (post_at r) (end_of r) rest ≡ Some f) (FaultAtCommand res r rest f)
-    → MatchBool (is_postpost_at (context_after r) rest) (postpost_fault (post_at r) (end_of r) rest ≡ Some g) (FaultAtCommand res r rest g) → f ≡ g
-one_drawn res r rest f g e h =
+one_within : (res : ℕ) (r : Reading) (rest : List ℕ) (f g : DocFault) → FaultWithin res r rest f → FaultWithin res r rest g → f ≡ g
+one_within res r rest f g e h =
     elim (cases_Bool (is_postpost_at (context_after r) rest)) [
       | inl here ↦ some_is_one _ f g (MatchBool-at_true _ _ here e) (MatchBool-at_true _ _ here h)
       | inr not_here ↦ one_at_command res r rest f g (MatchBool-at_false _ _ not_here e) (MatchBool-at_false _ _ not_here h)
-    ]
-
-one_within : (res : ℕ) (r : Reading) (rest : List ℕ) (f g : DocFault) → FaultWithin res r rest f → FaultWithin res r rest g → f ≡ g
-one_within res r rest f g e h =
-    elim (cases_Bool (is_not_yet_at (context_after r) rest)) [
-      | inl here ↦ MatchBool-at_true _ _ here e ∙ sym (MatchBool-at_true _ _ here h)
-      | inr not_here ↦ one_drawn res r rest f g (MatchBool-at_false _ _ not_here e) (MatchBool-at_false _ _ not_here h)
     ]
 
 one_behind : (res : ℕ) (r : Reading) (rest : List ℕ) (f g : DocFault) → FaultBehind res r rest f → FaultBehind res r rest g → f ≡ g

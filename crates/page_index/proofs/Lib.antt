@@ -3,6 +3,7 @@ mod Fields
 mod Filler
 mod FirstFault
 mod Follow
+mod FontKeys
 mod FontTables
 mod Keys
 mod Readings

@@ -1,8 +1,8 @@
 -- One command more of a document, and why there is none.
 use Rattle.std.proofs.Common.{◌≡◌, ℕ, suc, ◌-◌, ◌<◌, ◌≤◌, inl, inr, ℤ, pos, Bool, true, false, List, [], ◌∷◌, ◌++◌, length, take, drop, refl, sym, ap, subst, ◌∙◌, arith, append_assoc, eqb-true, Option, Some, None, drop-cons, length-take, length-drop}
-use Rattle.std.specs.Prelude.{slice_index, slice_range, IsTrue, ◌&&◌, ◌==◌, not, nat_le, nat_lt, if◌then◌else◌}
+use Rattle.std.specs.Prelude.{slice_index, slice_range, IsTrue, ◌==◌, not, nat_le, nat_lt, if◌then◌else◌}
 use Rattle.std.specs.Bool.{MatchBool}
-use Rattle.std.proofs.lemmas.Bool.{and_parts, le-ltb, leb-false, lt-ltb}
+use Rattle.std.proofs.lemmas.Bool.{and_parts, le-ltb, leb-false}
 use Rattle.big_endian.specs.Numbers.{int_eq}
 use Rattle.dvi_commands.specs.Spelling.{DviCommand, Preamble, Pre, Bop, Eop, Post, PostPost, Define, Spells, spelling}
 use Rattle.dvi_commands.specs.Refusal.{may_stand, refusal}
@@ -12,9 +12,9 @@ use Rattle.dvi_commands.specs.declared.command.Context.{Context}
 use Rattle.dvi_commands.specs.declared.command.Context.TheVariants as context
 use Rattle.dvi_commands.proofs.Commands.{parted}
 use Rattle.dvi_commands.proofs.Told.{told_by_bytes}
-use Rattle.page_index.specs.Judged.{bop_fault, define_fault, is_not_yet, post_fault, post_fault_against, postpost_fault}
+use Rattle.page_index.specs.Judged.{bop_fault, define_fault, post_fault, post_fault_against, postpost_fault}
 use Rattle.page_index.specs.Document.{Reading, context_after, end_of, is_ended, is_postpost, last_bop, post_at, preamble_of, preamble_or, text_of, whole_fault}
-use Rattle.page_index.specs.Faults.{FaultAfter, FaultAtCommand, FaultBehind, FaultWithin, IsFirstFault, as_doc_fault, is_not_yet_at, is_postpost_at}
+use Rattle.page_index.specs.Faults.{FaultAfter, FaultAtCommand, FaultBehind, FaultWithin, IsFirstFault, as_doc_fault, is_postpost_at}
 use Rattle.page_index.specs.Fonts.{Fonts}
 use Rattle.page_index.specs.Walked.{EarlyFault, Follows, IsReadTo, KeepsPreamble, fault_by, fonts_after, pages_after, position_or_none, progress_after}
 use Rattle.page_index.specs.declared.faults.DocFault.{DocFault}
@@ -99,34 +99,20 @@ module _ (bytes : List ℕ) (s : Scaled) (p : Progress) (pages : List PageSpan) 
       behind [] e some h = absurd (some refl)
       behind (q ∷ before) e some h = after (q ∷ before) q.command e h
 
-  drawn_within : (g : DocFault) → is_not_yet_at (context_after w.reading) rest ≡ false
-      → MatchBool (is_postpost_at (context_after w.reading) rest) (postpost_fault (post_at w.reading) (end_of w.reading) rest ≡ Some g) (FaultAtCommand s.units.res w.reading rest g)
-      → FaultWithin s.units.res w.reading rest g
-  drawn_within g e h = at_false (is_not_yet_at (context_after w.reading) rest) _ _ e h
-    where
-      at_false : (b : Bool) (P Q : Type 0) → b ≡ false → Q → MatchBool b P Q
-      at_false true P Q e q = cc
-      at_false false P Q e q = q
-
   pub early_fault : (g : DocFault) → EarlyFault p.context p.post p.at rest g → IsFirstFault s.units.res bytes g
-  early_fault g h = first_fault g (by _ _ _ (is_not_yet_at (context_after w.reading) rest) (is_postpost_at (context_after w.reading) rest) here)
+  early_fault g h = first_fault g (at_true (is_postpost_at (context_after w.reading) rest) _ _ here.0 here.1)
     where
-      here : MatchBool (is_not_yet_at (context_after w.reading) rest) (g ≡ fault.NotYet (slice_index rest 0) (end_of w.reading))
-          ((is_postpost_at (context_after w.reading) rest ≡ true) × (postpost_fault (post_at w.reading) (end_of w.reading) rest ≡ Some g))
+      here : (is_postpost_at (context_after w.reading) rest ≡ true) × (postpost_fault (post_at w.reading) (end_of w.reading) rest ≡ Some g)
       here =
-          subst (λ (at : ℕ). MatchBool (is_not_yet_at (context_after w.reading) rest) (g ≡ fault.NotYet (slice_index rest 0) at) ((is_postpost_at (context_after w.reading) rest ≡ true) × (postpost_fault (post_at w.reading) at rest ≡ Some g))) f.at
-          (subst (λ (o : Option ℕ). MatchBool (is_not_yet_at (context_after w.reading) rest) (g ≡ fault.NotYet (slice_index rest 0) p.at) ((is_postpost_at (context_after w.reading) rest ≡ true) × (postpost_fault o p.at rest ≡ Some g))) f.post
-          (subst (λ (c : Context). MatchBool (is_not_yet_at c rest) (g ≡ fault.NotYet (slice_index rest 0) p.at) ((is_postpost_at c rest ≡ true) × (postpost_fault p.post p.at rest ≡ Some g))) f.stands h))
+          subst (λ (at : ℕ). (is_postpost_at (context_after w.reading) rest ≡ true) × (postpost_fault (post_at w.reading) at rest ≡ Some g)) f.at
+          (subst (λ (o : Option ℕ). (is_postpost_at (context_after w.reading) rest ≡ true) × (postpost_fault o p.at rest ≡ Some g)) f.post
+          (subst (λ (c : Context). (is_postpost_at c rest ≡ true) × (postpost_fault p.post p.at rest ≡ Some g)) f.stands h))
 
-      by : (P Q R : Type 0) (undrawn postpost : Bool) → MatchBool undrawn P ((postpost ≡ true) × Q) → MatchBool undrawn P (MatchBool postpost Q R)
-      by P Q R true postpost h = h
-      by P Q R false true h = h.1
-      by P Q R false false h = let bad : false ≡ true = h.0 in cc
+      at_true : (b : Bool) (P Q : Type 0) → b ≡ true → P → MatchBool b P Q
+      at_true true P Q e p = p
+      at_true false P Q e p = cc
 
-  module _ (drawn : is_not_yet_at p.context rest ≡ false) (early : is_postpost_at p.context rest ≡ true → postpost_fault p.post p.at rest ≡ None) where
-    drawn_here : is_not_yet_at (context_after w.reading) rest ≡ false
-    drawn_here = ap (λ (c : Context). is_not_yet_at c rest) (sym f.stands) ∙ drawn
-
+  module _ (early : is_postpost_at p.context rest ≡ true → postpost_fault p.post p.at rest ≡ None) where
     -- ---- no command can be read
 
     whole_there : (place : Context) → is_postpost_at place rest ≡ true → postpost_fault p.post p.at rest ≡ None → refusal place rest ≡ None
@@ -151,7 +137,7 @@ module _ (bytes : List ℕ) (s : Scaled) (p : Progress) (pages : List PageSpan) 
     none_some (Some y) x e g = absurd cc
 
     pub refused_fault : (c : CommandFault) → refusal p.context rest ≡ Some c → IsFirstFault s.units.res bytes (as_doc_fault p.at rest c)
-    refused_fault c h = first_fault (as_doc_fault p.at rest c) (drawn_within (as_doc_fault p.at rest c) drawn_here (by (is_postpost_at (context_after w.reading) rest) refl))
+    refused_fault c h = first_fault (as_doc_fault p.at rest c) (by (is_postpost_at (context_after w.reading) rest) refl)
       where
         by : (postpost : Bool) → is_postpost_at (context_after w.reading) rest ≡ postpost
             → MatchBool postpost (postpost_fault (post_at w.reading) (end_of w.reading) rest ≡ Some (as_doc_fault p.at rest c)) (FaultAtCommand s.units.res w.reading rest (as_doc_fault p.at rest c))
@@ -184,7 +170,7 @@ module _ (bytes : List ℕ) (s : Scaled) (p : Progress) (pages : List PageSpan) 
 
       -- something is wrong with it
       pub judged_fault : (g : DocFault) → fault_by p s fonts c ≡ Some g → IsFirstFault s.units.res bytes g
-      judged_fault g h = first_fault g (drawn_within g drawn_here (by (is_postpost_at (context_after w.reading) rest) refl))
+      judged_fault g h = first_fault g (by (is_postpost_at (context_after w.reading) rest) refl)
         where
           judged : (d : DviCommand) → fault_by p s fonts d ≡ Some g → is_whole_judged d ≡ true
           judged (Pre x) h = cc
@@ -205,12 +191,6 @@ module _ (bytes : List ℕ) (s : Scaled) (p : Progress) (pages : List PageSpan) 
 
       -- nothing is wrong with it
       module _ (good : fault_by p s fonts c ≡ None) where
-        today : is_not_yet (context_after w.reading) (slice_index q.bytes 0) ≡ false
-        today =
-            let size : length rest ≡ length bytes - p.at = length-drop p.at bytes in
-            let nonempty : nat_lt 0 (length rest) ≡ true = lt-ltb 0 (length rest) (omega (arith, size, some, within)) in
-            ap (is_not_yet (context_after w.reading)) (sym front) ∙ sym (ap (λ (b : Bool). b && is_not_yet (context_after w.reading) (slice_index rest 0)) nonempty) ∙ drawn_here
-
         not_pre : (d : DviCommand) → c ≡ d → (x : Preamble) → d ≡ Pre x → ⊥
         not_pre d e x is =
             let text : Spells (Pre x) q.bytes = subst (λ (y : DviCommand). Spells y q.bytes) (e ∙ is) spelled in
@@ -261,7 +241,7 @@ module _ (bytes : List ℕ) (s : Scaled) (p : Progress) (pages : List PageSpan) 
             record {
               reading = q ∷ w.reading;
               fits = w.fits;
-              sound = (w.sound, record { unfinished = going; place = f.at; spelled = spelled; allowed = stands; today = today; right = right c refl good });
+              sound = (w.sound, record { unfinished = going; place = f.at; spelled = spelled; allowed = stands; right = right c refl good });
               text = ap (λ (k : ℕ). (text_of w.reading ++ q.bytes) ++ drop k bytes) at
                   ∙ append_assoc (text_of w.reading) q.bytes (drop next bytes)
                   ∙ ap (λ (t : List ℕ). text_of w.reading ++ t) (sym whole) ∙ w.text;

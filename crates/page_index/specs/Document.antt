@@ -11,7 +11,7 @@ use Rattle.dvi_commands.specs.Refusal.{may_stand}
 use Rattle.dvi_commands.specs.Reading.{Placed}
 use Rattle.dvi_commands.specs.declared.command.Context.{Context}
 use Rattle.dvi_commands.specs.declared.command.Context.TheVariants as context
-use Rattle.page_index.specs.Judged.{is_not_yet, bop_fault, define_fault, post_fault, postpost_fault, preamble_fault}
+use Rattle.page_index.specs.Judged.{bop_fault, define_fault, post_fault, postpost_fault, preamble_fault}
 use Rattle.page_index.specs.declared.faults.DocFault.{DocFault}
 
 -- the last command first
@@ -119,13 +119,12 @@ whole_fault res before at bytes _ = None
 
 -- ---- sound readings
 
--- the command is spelled where it stands, may stand there, is drawn today, and nothing is wrong with it
+-- the command is spelled where it stands, may stand there, and nothing is wrong with it
 pub record IsSound (res : ℕ) (before : Reading) (p : Placed) : Type 0 where
   pub unfinished : IsFalse (is_ended before)
   pub place : p.at ≡ end_of before
   pub spelled : Spells p.command p.bytes
   pub allowed : IsTrue (may_stand (context_after before) (slice_index p.bytes 0))
-  pub today : IsFalse (is_not_yet (context_after before) (slice_index p.bytes 0))
   pub right : whole_fault res before p.at p.bytes p.command ≡ None
 
 abbrev pub Sound : ℕ → Reading → Type 0

@@ -1,12 +1,12 @@
 -- The first fault of a DVI file: what speaks against the bytes at the end of their longest sound reading.
-use Rattle.std.specs.Prelude.{◌≡◌, ◌⊎◌, ℕ, ◌+◌, ◌<◌, ◌≤◌, Bool, ◌&&◌, ◌==◌, List, [], ◌∷◌, ◌++◌, length, nat_lt, slice_index, Some, IsTrue}
+use Rattle.std.specs.Prelude.{◌≡◌, ◌⊎◌, ℕ, ◌+◌, ◌<◌, ◌≤◌, Bool, ◌&&◌, ◌==◌, List, [], ◌∷◌, ◌++◌, length, slice_index, Some, IsTrue}
 use Rattle.std.specs.Bool.{MatchBool}
 use Rattle.dvi_commands.specs.Spelling.{DviCommand, PostPost, Spells}
 use Rattle.dvi_commands.specs.Refusal.{may_stand, refusal}
 use Rattle.dvi_commands.specs.declared.command.Context.{Context}
 use Rattle.dvi_commands.specs.declared.command.CommandFault.{CommandFault}
 use Rattle.dvi_commands.specs.declared.command.CommandFault.TheVariants as command_fault
-use Rattle.page_index.specs.Judged.{is_not_yet, preamble_fault, postpost_fault, tail_fault}
+use Rattle.page_index.specs.Judged.{preamble_fault, postpost_fault, tail_fault}
 use Rattle.page_index.specs.Document.{Reading, Sound, LONGEST, context_after, end_of, post_at, text_of, whole_fault}
 use Rattle.page_index.specs.declared.faults.DocFault.{DocFault}
 use Rattle.page_index.specs.declared.faults.DocFault.TheVariants as fault
@@ -19,10 +19,6 @@ as_doc_fault at rest command_fault.Short = fault.Truncated (at + length rest)
 as_doc_fault at rest (command_fault.Undefined op) = fault.Command (command_fault.Undefined op) at
 as_doc_fault at rest (command_fault.Misplaced op) = fault.Command (command_fault.Misplaced op) at
 as_doc_fault at rest command_fault.NegativeLength = fault.Command command_fault.NegativeLength at
-
--- a character or a font change stands there on a page, whatever else is wrong with it
-abbrev pub is_not_yet_at : Context → List ℕ → Bool
-is_not_yet_at place rest = nat_lt 0 (length rest) && is_not_yet place (slice_index rest 0)
 
 -- a command of a reading may not be judged before it is whole, but for a PostPost
 abbrev pub is_postpost_at : Context → List ℕ → Bool
@@ -38,11 +34,9 @@ FaultAtCommand res before rest f =
 -- a sound reading of a file whose last command is not PostPost can't go on, for this reason
 abbrev pub FaultWithin : ℕ → Reading → List ℕ → DocFault → Type 0
 FaultWithin res before rest f =
-    MatchBool (is_not_yet_at (context_after before) rest)
-    (f ≡ fault.NotYet (slice_index rest 0) (end_of before))
-    (MatchBool (is_postpost_at (context_after before) rest)
+    MatchBool (is_postpost_at (context_after before) rest)
     (postpost_fault (post_at before) (end_of before) rest ≡ Some f)
-    (FaultAtCommand res before rest f))
+    (FaultAtCommand res before rest f)
 
 -- by the last command
 abbrev pub FaultAfter : ℕ → Reading → DviCommand → List ℕ → DocFault → Type 0

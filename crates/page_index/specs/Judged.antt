@@ -1,24 +1,16 @@
 -- What is wrong with a command or a field, by what stands before it: Knuth, DVItype, "Device-independent file format" (preamble,
 -- postamble, postpostamble), "Defining fonts" and "Reading the postamble". Which of two faults comes first, and at which byte, is this
 -- project's own choice: a field is judged as soon as it is whole.
-use Rattle.std.specs.Prelude.{ℕ, ◌+◌, ◌*◌, ◌%◌, ℤ, pos, Bool, true, false, not, ◌&&◌, ◌||◌, List, [], ◌∷◌, length, nat_eq, nat_lt, nat_le, ◌==◌, if◌then◌else◌, slice_index, int_lt, Option, Some, None}
+use Rattle.std.specs.Prelude.{ℕ, ◌+◌, ◌*◌, ◌%◌, ℤ, pos, Bool, true, false, not, ◌&&◌, List, [], ◌∷◌, length, nat_eq, nat_lt, nat_le, ◌==◌, if◌then◌else◌, slice_index, int_lt, Option, Some, None}
 use Rattle.std.specs.List.{list_all, take_while}
-use Rattle.std.specs.Int.{is_in_range}
 use Rattle.std.specs.Cmp.Lexicographic.{pointwise}
 use Rattle.big_endian.specs.Numbers.{int_eq}
 use Rattle.big_endian.specs.Fields.{judge, whole_until, signed_at, Field}
 use Rattle.outside.specs.declared.keys.FontKey.{FontKey}
 use Rattle.dvi_commands.specs.Spelling.{Definition, Preamble, Postamble}
-use Rattle.dvi_commands.specs.declared.command.Context.{Context}
-use Rattle.dvi_commands.specs.declared.command.Context.TheVariants as context
 use Rattle.page_index.specs.declared.faults.DocFault.{DocFault}
 use Rattle.page_index.specs.declared.faults.DocFault.TheVariants as fault
 use Rattle.page_index.specs.declared.faults.PostField.TheVariants as field
-
--- characters and font changes on a page are not drawn yet
-abbrev pub is_not_yet : Context → ℕ → Bool
-is_not_yet context.Page op = nat_le op 131 || is_in_range 133 136 op || is_in_range 171 238 op
-is_not_yet _ op = false
 
 -- ---- the preamble
 

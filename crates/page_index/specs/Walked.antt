@@ -1,8 +1,7 @@
 -- What is kept of a reading while the commands behind it are read.
-use Rattle.std.specs.Prelude.{◌≡◌, ℕ, suc, ◌+◌, ◌≤◌, ℤ, pos, negsuc, Bool, true, false, List, [], ◌∷◌, ◌++◌, length, drop, nat_lt, if◌then◌else◌, int_lt, slice_get, slice_index, slice_range, Option, Some, None, is_some, IsTrue}
-use Rattle.std.specs.Bool.{MatchBool}
+use Rattle.std.specs.Prelude.{◌≡◌, ℕ, suc, ◌+◌, ◌≤◌, ℤ, pos, negsuc, Bool, true, false, List, [], ◌∷◌, ◌++◌, length, drop, nat_lt, if◌then◌else◌, int_lt, slice_get, slice_index, slice_range, Option, Some, None, IfSome, is_some, IsTrue}
 use Rattle.std.specs.FinMap.{get, insert}
-use Rattle.page_index.specs.Fonts.{Fonts}
+use Rattle.page_index.specs.Fonts.{Fonts, IsFontKey}
 use Rattle.big_endian.specs.Fields.{signed_at}
 use Rattle.pixel_round.specs.Pixels.{Fraction, conversion}
 use Rattle.pixel_round.specs.declared.units.Units.{Units}
@@ -13,9 +12,9 @@ use Rattle.dvi_commands.specs.declared.command.Context.{Context}
 use Rattle.dvi_commands.specs.declared.command.Context.TheVariants as context
 use Rattle.dvi_commands.specs.declared.command.FontDef.{FontDef}
 use Rattle.page_index.specs.Judged.{bop_fault, define_fault, post_fault_against, postpost_fault, preamble_fault}
-use Rattle.page_index.specs.Faults.{is_not_yet_at, is_postpost_at}
+use Rattle.page_index.specs.Faults.{is_postpost_at}
 use Rattle.page_index.specs.Document.{LONGEST, Reading, Sound, context_after, end_of, font_table, is_ended, key_of, last_bop, pages_begun, post_at, preamble_of, text_of}
-use Rattle.page_index.specs.Pages.{document_units, eop_at, is_page, page_commands}
+use Rattle.page_index.specs.Pages.{AreUnits, document_units, eop_at, is_page, page_commands}
 use Rattle.page_index.specs.declared.faults.DocFault.{DocFault}
 use Rattle.page_index.specs.declared.faults.DocFault.TheVariants as fault
 use Rattle.page_index.specs.declared.preamble.Scaled.{Scaled}
@@ -36,6 +35,7 @@ pub record IsScaled (s : Scaled) (num den mag : ℤ) : Type 0 where
   pub num_is : num ≡ pos s.units.num
   pub den_is : den ≡ pos s.units.den
   pub mag_is : mag ≡ pos s.units.mag
+  pub units : AreUnits s.units
   pub converts : s.conv ≡ conversion s.units
 
 pub record KeepsPreamble (s : Scaled) (reading : Reading) : Type 0 where
@@ -144,10 +144,7 @@ pub record IsBegun (bytes : List ℕ) (s : Scaled) : Type 0 where
 
 -- what is wrong before a command is whole, at the front of the bytes that stand there
 abbrev pub EarlyFault : Context → Option ℕ → ℕ → List ℕ → DocFault → Type 0
-EarlyFault place post at rest f =
-    MatchBool (is_not_yet_at place rest)
-    (f ≡ fault.NotYet (slice_index rest 0) at)
-    ((is_postpost_at place rest ≡ true) × (postpost_fault post at rest ≡ Some f))
+EarlyFault place post at rest f = (is_postpost_at place rest ≡ true) × (postpost_fault post at rest ≡ Some f)
 
 -- ---- what an index keeps
 
@@ -157,5 +154,7 @@ pub record IsIndex (bytes : List ℕ) (units : Units) (conv : Fraction) (reading
   pub few : length pages ≤ 1000000
   pub spans : AreSpans bytes reading pages
   pub keys : (k : ℤ) → get fonts k ≡ font_table reading k
+  pub fonts_fit : (k : ℤ) → IfSome (font_table reading k) IsFontKey
   pub of_preamble : document_units units.res reading ≡ Some units
+  pub units_fit : AreUnits units
   pub converts : conv ≡ conversion units

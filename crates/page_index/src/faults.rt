@@ -41,8 +41,6 @@ pub enum DocFault {
     TooManyPages { at: usize },
     /// The file has more than 67,108,864 bytes; `at` is that number.
     TooLong { at: usize },
-    /// The command with this opcode stands on a page and isn't drawn yet.
-    NotYet { opcode: u8, at: usize },
 }
 
 /// Why a document was not read.

@@ -1,12 +1,13 @@
 //! The index of a document.
-ghost use Rattle.std.specs.Prelude.{◌≡◌, ◌+◌, ◌<◌, ◌≤◌, Some, length, slice_range};
+ghost use Rattle.std.specs.Prelude.{◌≡◌, ◌+◌, ◌<◌, ◌≤◌, IfSome, Some, length, slice_range};
 ghost use Rattle.std.specs.Option.{option_map};
 ghost use Rattle.std.specs.Arc.{arc_value};
 ghost use Rattle.pixel_round.specs.Pixels.{conversion};
 ghost use Rattle.dvi_commands.specs.Reading.{Reads, placed_from};
 ghost use Rattle.dvi_commands.specs.declared.command.Context.TheVariants as context;
 ghost use Rattle.page_index.specs.Document.{LONGEST, font_table, pages_begun};
-ghost use Rattle.page_index.specs.Pages.{document_units, eop_at, page_commands};
+ghost use Rattle.page_index.specs.Fonts.{IsFontKey};
+ghost use Rattle.page_index.specs.Pages.{AreUnits, document_units, eop_at, page_commands};
 
 use crate::fonts::FontTable;
 use crate::progress::PageSpan;
@@ -85,16 +86,18 @@ impl<'a> Index<'a> {
     }
 
     /// The key of the font with a number: what a definition anywhere in the document says, the
-    /// postamble included.
+    /// postamble included. Both of its sizes are from 1 to 2^27 - 1, and its area lies in its name.
     pub fn font(&self, k: i32) -> Option<&Arc<FontKey>>
-        ensures { option_map (λ key. arc_value key.now) result ≡ font_table self.now.reading k }
+        ensures key { option_map (λ key. arc_value key.now) result ≡ font_table self.now.reading k }
+        ensures fits { IfSome result (λ key. IsFontKey (arc_value key.now)) }
     {
         self.fonts.get(k)
     }
 
-    /// The numbers of the preamble, and the resolution.
+    /// The numbers of the preamble, which are above 0, and the resolution.
     pub fn units(&self) -> Units
-        ensures { document_units self.now.res self.now.reading ≡ Some result }
+        ensures value { document_units self.now.res self.now.reading ≡ Some result }
+        ensures fits { AreUnits result }
     {
         self.units
     }

@@ -2,7 +2,7 @@
 ghost use Rattle.std.specs.Prelude.{◌≡◌, ◌<◌, ◌≤◌, ◌^◌};
 ghost use Rattle.big_endian.specs.Numbers.{int_eq};
 ghost use Rattle.dvi_commands.specs.Spelling.{seen};
-ghost use Rattle.page_index.specs.Judged.{bop_fault, is_not_yet as not_yet};
+ghost use Rattle.page_index.specs.Judged.{bop_fault};
 ghost use Rattle.page_index.specs.Walked.{behind_preamble as behind, fault_by, position_or_none, progress_after};
 
 use crate::faults::{DocFault, PostField};
@@ -37,16 +37,6 @@ pub struct Progress {
     pub post: Option<usize>,
     /// Whether the last command is PostPost.
     pub is_ended: bool,
-}
-
-/// Whether a command with the opcode isn't drawn yet: characters and font changes on a page.
-pub fn is_not_yet(context: Context, opcode: u8) -> bool
-    ensures { result ≡ not_yet context opcode }
-{
-    match context {
-        Context::Page => matches!(opcode, 0..=131 | 133..=136 | 171..=238),
-        _ => false,
-    }
 }
 
 // Whether a pointer leads to this position, or is -1 where there is none.

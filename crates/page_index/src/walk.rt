@@ -2,13 +2,13 @@
 ghost use Rattle.std.specs.Prelude.{◌≡◌, ◌<◌, ◌≤◌, IfErr, OnOk, None, drop, false, length, true};
 ghost use Rattle.dvi_commands.specs.Spelling.{Define, seen};
 ghost use Rattle.page_index.specs.Judged.{postpost_fault};
-ghost use Rattle.page_index.specs.Faults.{IsStopFor, as_doc_fault, is_not_yet_at, is_postpost_at};
+ghost use Rattle.page_index.specs.Faults.{IsStopFor, as_doc_fault, is_postpost_at};
 ghost use Rattle.page_index.specs.Walked.{EarlyFault, IsBegun, IsReadTo, definition, fonts_after, pages_after, progress_after};
 
 use crate::faults::{DocFault, IndexStop};
 use crate::fonts::{FontTable, key};
 use crate::preamble::Scaled;
-use crate::progress::{PageSpan, Progress, is_not_yet};
+use crate::progress::{PageSpan, Progress};
 use crate::trailer;
 use dvi_commands::{Command, CommandFault, Context, FontDef, read_command};
 use std::alloc::{AllocError as NoMemory, Global};
@@ -35,15 +35,14 @@ fn doc_fault(fault: CommandFault, bytes: &[u8], at: usize) -> DocFault
     }
 }
 
-// Judges what is judged before a command is whole: one that isn't drawn yet, and the fields of PostPost.
-fn judge_opcode(
+// Judges what is judged before a command is whole: the fields of PostPost.
+fn judge_early(
     bytes: &[u8],
     at: usize,
     context: Context,
     post: Option<usize>,
 ) -> Result<(), DocFault>
     requires { at ≤ length bytes.now }
-    ensures drawn { OnOk result (is_not_yet_at context (drop at bytes.now) ≡ false) }
     ensures postpost { OnOk result (is_postpost_at context (drop at bytes.now) ≡ true
         → postpost_fault post at (drop at bytes.now) ≡ None) }
     ensures fault { IfErr result (λ fault. EarlyFault context post at (drop at bytes.now) fault) }
@@ -51,9 +50,6 @@ fn judge_opcode(
     let Some(&opcode) = bytes.get(at) else {
         return Ok(());
     };
-    if is_not_yet(context, opcode) {
-        return Err(DocFault::NotYet { opcode, at });
-    }
     match context {
         Context::Post if opcode == POSTPOST => trailer::judge(bytes, at, post),
         _ => Ok(()),
@@ -117,7 +113,7 @@ impl Walk {
         ensures stop { IfErr result (λ stop. IsStopFor stop first.now.units.res bytes.now) }
     {
         let Progress { at, context, .. } = self.progress;
-        if let Err(fault) = judge_opcode(bytes, at, context, self.progress.post) {
+        if let Err(fault) = judge_early(bytes, at, context, self.progress.post) {
             return Err(IndexStop::Fault(fault));
         }
         let (command, next) = match read_command(bytes, at, context) {

@@ -1,6 +1,9 @@
 use super::*;
 use crate::faults::PenFault;
+use outside::{FontKey, FontName};
 use pixel_round::{Scale, Units};
+use std::sync::Arc;
+use std::test::Fail;
 
 // One half of a dot for a unit: 1270 * 300 * 1000 over 254000000 * 3.
 pub(super) fn half_a_dot() -> Result<Conv, Scale> {
@@ -143,6 +146,44 @@ fn sets_rules(rt: HostRuntime) -> Result<(), Scale> {
             vv: 10
         }
     );
+    Ok(())
+}
+
+// Two characters of width 6, that is 3 dots. One that is put is marked and moves nothing; one that is set is marked where it stands,
+// and h grows by 6 and hh by 3.
+#[test]
+fn puts_and_sets_a_character(rt: HostRuntime) -> Result<(), Fail> {
+    let alloc = rt.alloc();
+    let key = Arc::new(
+        alloc,
+        FontKey {
+            area: 0,
+            name: FontName::new(alloc, b"duo")?,
+            size: 128,
+            design: 128,
+        },
+    )?;
+    let mut pen = Pen::new(alloc, half_a_dot()?);
+    assert_eq!(rt; pen.step(&Flat::Right { by: 20, space: 0 }), Ok(None));
+    assert_eq!(rt; pen.step(&Flat::Down { by: 30, space: 0 }), Ok(None));
+    let stands = Ok(Some(Mark::Char { hh: 10, vv: 15 }));
+    let put = Flat::Char {
+        key: Arc::try_clone(&key)?,
+        code: 65,
+        width: 6,
+        put: true,
+    };
+    assert_eq!(rt; pen.step(&put), stands);
+    assert_eq!(rt; (pen.registers().h, pen.registers().hh), (20, 10));
+    let set = Flat::Char {
+        key,
+        code: 65,
+        width: 6,
+        put: false,
+    };
+    assert_eq!(rt; pen.step(&set), stands);
+    assert_eq!(rt; (pen.registers().h, pen.registers().hh), (26, 13));
+    assert_eq!(rt; (pen.registers().v, pen.registers().vv), (30, 15));
     Ok(())
 }
 

@@ -66,13 +66,12 @@ fn moves_by_every_command(rt: HostRuntime) -> Result<(), Fail> {
         (427, 383),
         (428, 383),
     ];
-    assert!(rt; draws(alloc, &page, &dots)?);
+    assert!(rt; draws(&rt, rt.alloc(), &page, &dots)?);
     Ok(())
 }
 
 #[test]
 fn cuts_rules_off_at_the_edges(rt: HostRuntime) -> Result<(), Fail> {
-    let alloc = rt.alloc();
     let page = [
         0x89, 0, 0, 0, 0, 0, 0, 0, 6, // put_rule of height 0: nothing
         0x89, 0, 0, 0, 6, 0xff, 0xff, 0xff, 0xff, // of width -1: nothing
@@ -106,7 +105,7 @@ fn cuts_rules_off_at_the_edges(rt: HostRuntime) -> Result<(), Fail> {
         (300, 3299),
         (304, 3299),
     ];
-    assert!(rt; draws(alloc, &page, &dots)?);
+    assert!(rt; draws(&rt, rt.alloc(), &page, &dots)?);
     Ok(())
 }
 
@@ -130,7 +129,7 @@ fn holds_the_drift_at_two_dots(rt: HostRuntime) -> Result<(), Fail> {
         (305, 300),
         (305, 299),
     ];
-    assert!(rt; draws(alloc, &page, &dots)?);
+    assert!(rt; draws(&rt, rt.alloc(), &page, &dots)?);
     Ok(())
 }
 
@@ -142,6 +141,6 @@ fn restores_what_was_saved(rt: HostRuntime) -> Result<(), Fail> {
     page.extend_from_slice(&dot!())?;
     page.push(0x8e)?;
     page.extend_from_slice(&dot!())?;
-    assert!(rt; draws(rt.alloc(), &page, &[(310, 300), (305, 300)])?);
+    assert!(rt; draws(&rt, rt.alloc(), &page, &[(310, 300), (305, 300)])?);
     Ok(())
 }

@@ -9,7 +9,9 @@ use outside::MemOutput;
 use page_index::{DocFault, PostField};
 use std::alloc::Global;
 use std::process::Abort;
+use std::sync::Wait;
 use std::test::Fail;
+use vf_expand::PageFault;
 
 /// Definitions of font -1: of size 128 and design size 128 with the name `a`, and others in its place.
 macro_rules! font {
@@ -26,13 +28,14 @@ fn tells_where_a_document_is_cut_off(rt: HostRuntime) -> Result<(), Fail> {
     let alloc = rt.alloc();
     for n in 0..109 {
         let line = format!(in alloc; "dvipbm: document: truncated at {n}\n")?;
-        assert!(rt; is_refused(alloc, &PUT_RULE[..n], line.as_bytes())?);
+        assert!(rt; is_refused(&rt, rt.alloc(), &PUT_RULE[..n], line.as_bytes())?);
     }
     let text = page_text(alloc, &PUT_RULE_DOTS)?;
     for n in 109..112 {
         assert!(rt;
             ends(
-                alloc,
+                &rt,
+                rt.alloc(),
                 &PUT_RULE[..n],
                 (64, 65536),
                 (&[], &[]),
@@ -46,18 +49,23 @@ fn tells_where_a_document_is_cut_off(rt: HostRuntime) -> Result<(), Fail> {
 }
 
 // Whether the put rule's document with some bytes changed from a place on is refused with this line.
-fn is_refused_with(alloc: Global, at: usize, new: &[u8], line: &[u8]) -> Result<bool, Fail> {
+fn is_refused_with<R: Wait>(
+    rt: &R,
+    alloc: Global,
+    at: usize,
+    new: &[u8],
+    line: &[u8],
+) -> Result<bool, Fail> {
     let mut bytes = Vec::from_slice(alloc, &PUT_RULE)?;
     for (byte, new) in bytes.iter_mut().skip(at).zip(new) {
         *byte = *new;
     }
-    is_refused(alloc, &bytes, line)
+    is_refused(rt, alloc, &bytes, line)
 }
 
 #[test]
 fn tells_which_byte_is_wrong(rt: HostRuntime) -> Result<(), Fail> {
-    let alloc = rt.alloc();
-    let wrong: [(usize, &[u8], &[u8]); 22] = [
+    let wrong: [(usize, &[u8], &[u8]); 21] = [
         (0, &[0xf6], b"dvipbm: document: preamble at 0\n"),
         (1, &[3], b"dvipbm: document: preamble at 1\n"),
         (4, &[0, 0], b"dvipbm: document: preamble at 2\n"),
@@ -70,7 +78,6 @@ fn tells_which_byte_is_wrong(rt: HostRuntime) -> Result<(), Fail> {
             b"dvipbm: document: scale at 2\n",
         ),
         (59, &[0xfe], b"dvipbm: document: back pointer at 15\n"),
-        (60, &[0x41], b"dvipbm: document: not yet 65 at 60\n"),
         (
             60,
             &[0xfa],
@@ -107,9 +114,9 @@ fn tells_which_byte_is_wrong(rt: HostRuntime) -> Result<(), Fail> {
         ),
     ];
     for (at, new, line) in wrong {
-        assert!(rt; is_refused_with(alloc, at, new, line)?, "at {at}");
+        assert!(rt; is_refused_with(&rt, rt.alloc(), at, new, line)?, "at {at}");
     }
-    assert!(rt; is_refused(alloc, b"", b"dvipbm: document: truncated at 0\n")?);
+    assert!(rt; is_refused(&rt, rt.alloc(), b"", b"dvipbm: document: truncated at 0\n")?);
     Ok(())
 }
 
@@ -119,11 +126,19 @@ fn tells_which_font_is_wrong(rt: HostRuntime) -> Result<(), Fail> {
     let mut fonts = Vec::from_slice(alloc, &font!(128, 128, 0x61))?;
     fonts.extend_from_slice(&font!(128, 128, 0x62))?;
     let bytes = document(alloc, &fonts, &[])?;
-    assert!(rt; is_refused(alloc, &bytes, b"dvipbm: document: font clash -1 at 35\n")?);
+    assert!(rt;
+        is_refused(
+            &rt,
+            rt.alloc(),
+            &bytes,
+            b"dvipbm: document: font clash -1 at 35\n"
+        )?
+    );
     let bytes = document(alloc, &font!(128, 0, 0x61), &[])?;
     assert!(rt;
         is_refused(
-            alloc,
+            &rt,
+            rt.alloc(),
             &bytes,
             b"dvipbm: document: font definition -1 at 15\n"
         )?
@@ -136,7 +151,18 @@ fn refuses_too_many_bytes(rt: HostRuntime) -> Result<(), Fail> {
     let alloc = rt.alloc();
     let bytes = vec![in alloc; 0u8; 67_108_865]?;
     let line = b"dvipbm: document: too long at 67108864\n";
-    assert!(rt; ends(alloc, &bytes, (8_000_000, 64), (&[], &[]), 2, b"", line)?);
+    assert!(rt;
+        ends(
+            &rt,
+            rt.alloc(),
+            &bytes,
+            (8_000_000, 64),
+            (&[], &[]),
+            2,
+            b"",
+            line
+        )?
+    );
     Ok(())
 }
 
@@ -161,16 +187,23 @@ fn has_a_line_for_each_ending(rt: HostRuntime) -> Result<(), Fail> {
     };
     let deep = Ending::Page {
         page: 1_000_000,
-        fault: PenFault::StackDeep,
+        fault: PageFault::Pen(PenFault::StackDeep),
         at: 12_345,
     };
-    let lines: [(Ending, &[u8]); 11] = [
+    let long = Ending::Page {
+        page: 2,
+        fault: PageFault::TooLong,
+        at: 16_777_295,
+    };
+    let lines: [(Ending, &[u8]); 13] = [
         (Ending::Written, b""),
         (Ending::Usage, b"dvipbm: usage\n"),
         (Ending::Input, b"dvipbm: input failed\n"),
         (Ending::Memory, b"dvipbm: out of memory\n"),
         (Ending::Output(12), b"dvipbm: page 12: output failed\n"),
+        (Ending::Source(7), b"dvipbm: page 7: font source failed\n"),
         (deep, b"dvipbm: page 1000000 at 12345: stack deep\n"),
+        (long, b"dvipbm: page 2 at 16777295: too long\n"),
         (
             Ending::Document(short),
             b"dvipbm: document: command short at 7\n",

@@ -13,7 +13,7 @@ static NO_PAGES: [u8; 56] = [
 ];
 
 /// Font 0 is `dot`, 128 DVI units large.
-static DOT: [u8; 19] = [
+pub static DOT: [u8; 19] = [
     0xf3, 0, 0, 0, 0, 0, 0, 0, 0, 128, 0, 0, 0, 128, 0, 3, 0x64, 0x6f, 0x74,
 ];
 
@@ -21,14 +21,47 @@ static DOT: [u8; 19] = [
 fn draws_a_put_rule(rt: HostRuntime) -> Result<(), Fail> {
     let alloc = rt.alloc();
     let text = page_text(alloc, &PUT_RULE_DOTS)?;
-    assert!(rt; ends(alloc, &PUT_RULE, (4096, 65536), (&[], &[]), 0, &text, b"")?);
-    assert!(rt; ends(alloc, &PUT_RULE, (1, 1), (&[], &[]), 0, &text, b"")?);
+    assert!(rt;
+        ends(
+            &rt,
+            rt.alloc(),
+            &PUT_RULE,
+            (4096, 65536),
+            (&[], &[]),
+            0,
+            &text,
+            b""
+        )?
+    );
+    assert!(rt;
+        ends(
+            &rt,
+            rt.alloc(),
+            &PUT_RULE,
+            (1, 1),
+            (&[], &[]),
+            0,
+            &text,
+            b""
+        )?
+    );
     Ok(())
 }
 
 #[test]
 fn writes_nothing_of_no_pages(rt: HostRuntime) -> Result<(), Fail> {
-    assert!(rt; ends(rt.alloc(), &NO_PAGES, (64, 64), (&[], &[]), 0, b"", b"")?);
+    assert!(rt;
+        ends(
+            &rt,
+            rt.alloc(),
+            &NO_PAGES,
+            (64, 64),
+            (&[], &[]),
+            0,
+            b"",
+            b""
+        )?
+    );
     Ok(())
 }
 
@@ -41,7 +74,18 @@ fn writes_pages_in_their_order(rt: HostRuntime) -> Result<(), Fail> {
     let mut text = page_text(alloc, &PUT_RULE_DOTS)?;
     text.extend_from_slice(&page_text(alloc, &[])?)?;
     text.extend_from_slice(&page_text(alloc, &[(304, 300)])?)?;
-    assert!(rt; ends(alloc, &bytes, (4096, 65536), (&[], &[]), 0, &text, b"")?);
+    assert!(rt;
+        ends(
+            &rt,
+            rt.alloc(),
+            &bytes,
+            (4096, 65536),
+            (&[], &[]),
+            0,
+            &text,
+            b""
+        )?
+    );
     Ok(())
 }
 
@@ -53,7 +97,18 @@ fn ends_at_the_first_page_that_fails(rt: HostRuntime) -> Result<(), Fail> {
     let bytes = document(alloc, &[], &[&PUT_RULE[60..69], &far, &[0x8e]])?;
     let text = page_text(alloc, &PUT_RULE_DOTS)?;
     let line = b"dvipbm: page 2 at 120: overflow\n";
-    assert!(rt; ends(alloc, &bytes, (64, 65536), (&[], &[]), 3, &text, line)?);
+    assert!(rt;
+        ends(
+            &rt,
+            rt.alloc(),
+            &bytes,
+            (64, 65536),
+            (&[], &[]),
+            3,
+            &text,
+            line
+        )?
+    );
     Ok(())
 }
 
@@ -63,14 +118,14 @@ fn names_the_command_that_fails(rt: HostRuntime) -> Result<(), Fail> {
     // right by 2147483647 at 60, and by 1 at 65.
     let bytes = document(alloc, &[], &[&[0x92, 0x7f, 0xff, 0xff, 0xff, 0x8f, 1]])?;
     let line = b"dvipbm: page 1 at 65: overflow\n";
-    assert!(rt; ends(alloc, &bytes, (64, 64), (&[], &[]), 3, b"", line)?);
+    assert!(rt; ends(&rt, rt.alloc(), &bytes, (64, 64), (&[], &[]), 3, b"", line)?);
     // The definition has 19 bytes, so that the first command stands at 79.
     let bytes = document(alloc, &DOT, &[&[0x8e]])?;
     let line = b"dvipbm: page 1 at 79: stack empty\n";
-    assert!(rt; ends(alloc, &bytes, (64, 64), (&[], &[]), 3, b"", line)?);
+    assert!(rt; ends(&rt, rt.alloc(), &bytes, (64, 64), (&[], &[]), 3, b"", line)?);
     let bytes = document(alloc, &DOT, &[&[0x8d]])?;
     let line = b"dvipbm: page 1 at 80: stack left\n";
-    assert!(rt; ends(alloc, &bytes, (64, 64), (&[], &[]), 3, b"", line)?);
+    assert!(rt; ends(&rt, rt.alloc(), &bytes, (64, 64), (&[], &[]), 3, b"", line)?);
     Ok(())
 }
 
@@ -81,9 +136,31 @@ fn saves_a_thousand_times(rt: HostRuntime) -> Result<(), Fail> {
     page.extend_from_slice(&vec![in alloc; 0x8eu8; 1000]?)?;
     let bytes = document(alloc, &[], &[&page])?;
     let text = page_text(alloc, &[])?;
-    assert!(rt; ends(alloc, &bytes, (4096, 65536), (&[], &[]), 0, &text, b"")?);
+    assert!(rt;
+        ends(
+            &rt,
+            rt.alloc(),
+            &bytes,
+            (4096, 65536),
+            (&[], &[]),
+            0,
+            &text,
+            b""
+        )?
+    );
     let bytes = document(alloc, &[], &[&vec![in alloc; 0x8du8; 1001]?])?;
     let line = b"dvipbm: page 1 at 1060: stack deep\n";
-    assert!(rt; ends(alloc, &bytes, (4096, 65536), (&[], &[]), 3, b"", line)?);
+    assert!(rt;
+        ends(
+            &rt,
+            rt.alloc(),
+            &bytes,
+            (4096, 65536),
+            (&[], &[]),
+            3,
+            b"",
+            line
+        )?
+    );
     Ok(())
 }

@@ -1,6 +1,6 @@
 //! Words, and inputs, outputs and notes that fail.
 
-use super::{PUT_RULE, PUT_RULE_DOTS, document, ends, numbers, page_text};
+use super::{PUT_RULE, PUT_RULE_DOTS, document, ends, no_fonts, numbers, page_text};
 use crate::dvipbm_run;
 use outside::{MemInput, MemOutput};
 use std::process::Abort;
@@ -13,8 +13,10 @@ fn takes_no_words(rt: HostRuntime) -> Result<(), Fail> {
     let mut out = MemOutput::new(alloc, 64, Vec::new(alloc));
     let mut notes = MemOutput::new(alloc, 64, Vec::new(alloc));
     let words = vec![in alloc; String::from_str(alloc, "--trace")?]?;
-    let answer = dvipbm_run(alloc, &words, &mut input, &mut out, &mut notes);
+    let source = no_fonts(alloc)?;
+    let (answer, source) = dvipbm_run(&rt, alloc, &words, &mut input, source, &mut out, &mut notes);
     assert_eq!(rt; answer, 1);
+    assert!(rt; source.is_some());
     assert!(rt; out.bytes().is_empty());
     assert_eq!(rt; notes.bytes(), b"dvipbm: usage\n".as_slice());
     Ok(())
@@ -22,13 +24,56 @@ fn takes_no_words(rt: HostRuntime) -> Result<(), Fail> {
 
 #[test]
 fn tells_what_failed(rt: HostRuntime) -> Result<(), Fail> {
-    let alloc = rt.alloc();
     let line = b"dvipbm: input failed\n";
-    assert!(rt; ends(alloc, &PUT_RULE, (64, 64), (&[1], &[]), 6, b"", line)?);
-    assert!(rt; ends(alloc, &PUT_RULE, (64, 64), (&[2], &[]), 6, b"", line)?);
+    assert!(rt;
+        ends(
+            &rt,
+            rt.alloc(),
+            &PUT_RULE,
+            (64, 64),
+            (&[1], &[]),
+            6,
+            b"",
+            line
+        )?
+    );
+    assert!(rt;
+        ends(
+            &rt,
+            rt.alloc(),
+            &PUT_RULE,
+            (64, 64),
+            (&[2], &[]),
+            6,
+            b"",
+            line
+        )?
+    );
     let line = b"dvipbm: page 1: output failed\n";
-    assert!(rt; ends(alloc, &PUT_RULE, (64, 64), (&[], &[1]), 7, b"", line)?);
-    assert!(rt; ends(alloc, &PUT_RULE, (64, 5), (&[], &[2]), 7, b"P4\n25", line)?);
+    assert!(rt;
+        ends(
+            &rt,
+            rt.alloc(),
+            &PUT_RULE,
+            (64, 64),
+            (&[], &[1]),
+            7,
+            b"",
+            line
+        )?
+    );
+    assert!(rt;
+        ends(
+            &rt,
+            rt.alloc(),
+            &PUT_RULE,
+            (64, 5),
+            (&[], &[2]),
+            7,
+            b"P4\n25",
+            line
+        )?
+    );
     Ok(())
 }
 
@@ -42,7 +87,8 @@ fn leaves_a_front_of_the_page_that_failed(rt: HostRuntime) -> Result<(), Fail> {
     let line = b"dvipbm: page 2: output failed\n";
     assert!(rt;
         ends(
-            alloc,
+            &rt,
+            rt.alloc(),
             &bytes,
             (4096, 2_000_000),
             (&[], &[4]),
@@ -60,7 +106,9 @@ fn keeps_its_status_where_the_notes_fail(rt: HostRuntime) -> Result<(), Fail> {
     let mut input = MemInput::new(Vec::new(alloc), 64, Vec::new(alloc));
     let mut out = MemOutput::new(alloc, 64, Vec::new(alloc));
     let mut notes = MemOutput::new(alloc, 5, numbers(alloc, &[3])?);
-    assert_eq!(rt; dvipbm_run(alloc, &[], &mut input, &mut out, &mut notes), 2);
+    let source = no_fonts(alloc)?;
+    let (answer, _source) = dvipbm_run(&rt, alloc, &[], &mut input, source, &mut out, &mut notes);
+    assert_eq!(rt; answer, 2);
     assert_eq!(rt; notes.bytes(), b"dvipbm: do".as_slice());
     Ok(())
 }

@@ -30,6 +30,23 @@ fn one_page(rt: HostRuntime) -> Result<(), Fail> {
     Ok(())
 }
 
+// Font 0, character 65 set and 66 put, font 7 by one byte, character 128 set by one byte, and 65 again.
+const CHARACTERS: [u8; 9] = [0xab, 0x41, 0x85, 0x42, 0xeb, 7, 0x80, 0x80, 0x41];
+
+#[test]
+fn a_page_of_characters(rt: HostRuntime) -> Result<(), Fail> {
+    let mut file = ONE_PAGE;
+    file[60..69].copy_from_slice(&CHARACTERS);
+    let index = Index::read(rt.alloc(), &file, 300)?;
+    assert_eq!(rt; index.pages(), 1);
+    if index.pages() == 1 {
+        let page = index.page(0);
+        assert_eq!(rt; page.at, 60);
+        assert_eq!(rt; page.bytes, CHARACTERS.as_slice());
+    }
+    Ok(())
+}
+
 #[test]
 fn a_font_may_be_defined_in_the_postamble(rt: HostRuntime) -> Result<(), Fail> {
     let alloc = rt.alloc();

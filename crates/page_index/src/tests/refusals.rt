@@ -90,24 +90,6 @@ fn a_unit_has_at_most_512_dots(rt: HostRuntime) {
 #[test]
 fn commands_that_are_not_read(rt: HostRuntime) {
     let alloc = rt.alloc();
-    assert_eq!(rt;
-        with_byte(alloc, 60, 0x41),
-        Some(DocFault::NotYet { opcode: 65, at: 60 })
-    );
-    assert_eq!(rt;
-        with_byte(alloc, 60, 0x85),
-        Some(DocFault::NotYet {
-            opcode: 133,
-            at: 60
-        })
-    );
-    assert_eq!(rt;
-        with_byte(alloc, 60, 0xee),
-        Some(DocFault::NotYet {
-            opcode: 238,
-            at: 60
-        })
-    );
     let undefined = CommandFault::Undefined(250);
     assert_eq!(rt;
         with_byte(alloc, 60, 0xfa),
@@ -150,14 +132,16 @@ fn commands_that_are_not_read(rt: HostRuntime) {
             at: 60
         })
     );
-    // What isn't drawn yet is named though its field is cut off.
+    // The number of a character in one byte, and of a font in four, is cut off.
     bytes[60] = 0x80;
     assert_eq!(rt;
         fault_of(alloc, &bytes[..61]),
-        Some(DocFault::NotYet {
-            opcode: 128,
-            at: 60
-        })
+        Some(DocFault::Truncated { at: 61 })
+    );
+    bytes[60] = 0xee;
+    assert_eq!(rt;
+        fault_of(alloc, &bytes[..64]),
+        Some(DocFault::Truncated { at: 64 })
     );
 }
 

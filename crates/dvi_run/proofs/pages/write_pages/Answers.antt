@@ -1,57 +1,61 @@
-use Rattle.std.proofs.Common.{◌≡◌, ◌<◌, ◌+◌, ◌∙◌, suc, sym, subst, add-one, arith}
-use Rattle.packed_rows.specs.Bitmap.{from_fn}
+use Rattle.std.proofs.Common.{◌≡◌, ◌∙◌, ◌<◌, ◌+◌, ℕ, Option, Ok, subst, sym, add-one, arith}
+use Rattle.outside.specs.Counts.{Rose}
+use Rattle.outside.specs.Library.{Files}
+use Rattle.outside.proofs.Growth.{rose_later}
 use Rattle.page_index.specs.Document.{pages_begun}
-use Rattle.dvi_run.specs.Endings.{EndsPages, IsPageStop}
-use Rattle.dvi_run.specs.Pages.{PageValue, value_of}
-use Rattle.dvi_run.specs.declared.ending.Ending.{Ending}
-use Rattle.dvi_run.proofs.Written.{IsWrittenTo, ends_at, ends_written, value_is, values_are, written_more}
+use Rattle.dvi_run.specs.Endings.{IsWriteStop}
+use Rattle.dvi_run.specs.Pages.{Given, IsValueOf}
+use Rattle.dvi_run.proofs.Written.{IsWrittenTo, ends_at, ends_written, written_more}
 use Rattle.dvi_run.proofs.pages.write_pages.Goals as goal
-
-pub loop-i-preserved : goal.loop-i-preserved
-loop-i-preserved g c =
-    let reading = c.args.index.now.reading in
-    let value = value_of c.conv-conv.result reading in
-    let page = c.page-page.result in
-    let is = value_is c.conv-conv.result c.default_sheet-sheet.result reading c.loop-i.i page.at page.bytes.now c.default_sheet-sheet.ensures.value c.page-page.ensures.commands c.page-page.ensures.ends in
-    let written = c.in-Ok.ensures.written in
-    let next : suc c.loop-i.i ≡ c.loop-i.i + 1 = sym (add-one c.loop-i.i) in
-    record {
-      written = subst (IsWrittenTo value (g.O.Output.written c.args.out.now) (g.O.Output.written c.write_one.new.out)) next
-          (written_more value (g.O.Output.written c.args.out.now) (g.O.Output.written c.loop-i.out) (g.O.Output.written c.write_one.new.out) c.loop-i.i written.0
-          c.loop-i.invariant.written (sym is ∙ written.1) written.2);
-      later = omega (arith, c.loop-i.invariant.later, c.write_one.ensures.count);
-    }
 
 pub returns-in-Err-clause-ends : goal.returns-in-Err-clause-ends
 returns-in-Err-clause-ends g c =
+    let library = g.D.Desk.library in
+    let given : Given = record { library = library c.args.desk.now; res = c.args.index.now.res; sheet = c.args.sheet.now } in
     let reading = c.args.index.now.reading in
-    let value = value_of c.conv-conv.result reading in
-    let n = pages_begun reading in
-    let page = c.page-page.result in
     let old = g.O.Output.written c.args.out.now in
     let now = g.O.Output.written c.loop-i.out in
     let new = g.O.Output.written c.write_one.new.out in
-    let before = g.O.Output.faults c.args.out.now in
-    let mid = g.O.Output.faults c.loop-i.out in
-    let after = g.O.Output.faults c.write_one.new.out in
-    let is = value_is c.conv-conv.result c.default_sheet-sheet.result reading c.loop-i.i page.at page.bytes.now c.default_sheet-sheet.ensures.value c.page-page.ensures.commands c.page-page.ensures.ends in
-    let below : c.loop-i.i < n = omega (arith, c.loop-i-test.true, c.pages-i-end.ensures.count) in
-    let stop : IsPageStop c.in-Err.stop (value c.loop-i.i) now new mid after = subst (λ (v : PageValue). IsPageStop c.in-Err.stop v now new mid after) is c.in-Err.ensures.stop in
-    let ends = ends_at value old n now new c.loop-i.i below c.loop-i.invariant.written c.in-Err.stop (c.loop-i.i + 1) before mid after (add-one c.loop-i.i)
-    c.loop-i.invariant.later c.write_one.ensures.count stop in (
-      from_fn n value,
-      values_are c.conv-conv.result reading c.args.index.now.res c.requires c.conv-conv.ensures,
-      subst (λ (e : Ending). EndsPages e old new before after (from_fn n value)) (sym c.stopped.ensures) ends,
-    )
+    let below : c.loop-i.i < pages_begun reading = omega (arith, c.loop-i-test.true, c.pages-i-end.ensures.count) in
+    let out0 = g.O.Output.faults c.args.out.now in
+    let out1 = g.O.Output.faults c.loop-i.out in
+    let out2 = g.O.Output.faults c.write_one.new.out in
+    let source0 = g.D.Desk.faults c.args.desk.now in
+    let source1 = g.D.Desk.faults c.loop-i.desk in
+    let source2 = g.D.Desk.faults c.write_one.new.desk in
+    let stop : IsWriteStop now new (Rose out1 out2) (Rose source1 source2) given reading c.loop-i.i c.in-Err.stop =
+    subst (λ (l : Option Files). IsWriteStop now new (Rose out1 out2) (Rose source1 source2) (record { library = l; res = c.args.index.now.res; sheet = c.args.sheet.now }) reading c.loop-i.i c.in-Err.stop)
+    c.loop-i.invariant.library c.in-Err.ensures.stop in
+    rw c.stopped.ensures
+    (ends_at given reading old now c.loop-i.i c.loop-i.invariant.written new (c.loop-i.i + 1) (add-one c.loop-i.i) below (Rose out1 out2) (Rose source1 source2) (Rose out0 out2) (Rose source0 source2)
+    (λ h. rose_later out0 out1 out2 c.loop-i.invariant.output h c.write_one.ensures.output)
+    (λ h. rose_later source0 source1 source2 c.loop-i.invariant.source h c.write_one.ensures.source) c.in-Err.stop stop)
 
 pub returns-clause-ends : goal.returns-clause-ends
 returns-clause-ends g c =
+    let given : Given = record { library = g.D.Desk.library c.args.desk.now; res = c.args.index.now.res; sheet = c.args.sheet.now } in
     let reading = c.args.index.now.reading in
-    let value = value_of c.conv-conv.result reading in
-    let n = pages_begun reading in
+    let last : c.loop-i.i ≡ pages_begun reading = omega (arith, c.loop-i-test.false, c.loop-i.auto.i-end, c.pages-i-end.ensures.count) in
+    ends_written given reading (g.O.Output.written c.args.out.now) (g.O.Output.written c.loop-i.out) c.loop-i.i c.loop-i.invariant.written last
+
+pub loop-i-preserved : goal.loop-i-preserved
+loop-i-preserved g c =
+    let library = g.D.Desk.library in
+    let inv = c.loop-i.invariant in
+    let one = c.in-Ok.ensures in
+    let given : Given = record { library = library c.args.desk.now; res = c.args.index.now.res; sheet = c.args.sheet.now } in
+    let reading = c.args.index.now.reading in
     let old = g.O.Output.written c.args.out.now in
-    let last : c.loop-i.i ≡ n = omega (arith, c.loop-i-test.false, c.loop-i.auto.i-end, c.pages-i-end.ensures.count) in (
-      from_fn n value,
-      values_are c.conv-conv.result reading c.args.index.now.res c.requires c.conv-conv.ensures,
-      ends_written value old n (g.O.Output.written c.loop-i.out) (subst (IsWrittenTo value old (g.O.Output.written c.loop-i.out)) last c.loop-i.invariant.written),
-    )
+    let new = g.O.Output.written c.write_one.new.out in
+    let value : IsValueOf given reading c.loop-i.i (Ok one.written.0) =
+    subst (λ (l : Option Files). IsValueOf (record { library = l; res = c.args.index.now.res; sheet = c.args.sheet.now }) reading c.loop-i.i (Ok one.written.0)) inv.library one.written.1 in
+    let more = written_more given reading old (g.O.Output.written c.loop-i.out) c.loop-i.i inv.written new one.written.0 value one.written.2 in
+    record {
+      fits = one.fits;
+      library = one.library ∙ inv.library;
+      units = one.units ∙ inv.units;
+      room = omega (arith, inv.room, one.room);
+      written = subst (λ (n : ℕ). IsWrittenTo given reading old new n) (sym (add-one c.loop-i.i)) more;
+      output = omega (arith, inv.output, one.output);
+      source = omega (arith, inv.source, one.source);
+    }

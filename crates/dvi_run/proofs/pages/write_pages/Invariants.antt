@@ -1,10 +1,14 @@
-use Rattle.std.proofs.Common.{◌≤◌}
-use Rattle.dvi_run.specs.Pages.{value_of}
+use Rattle.std.proofs.Common.{◌≡◌, ◌≤◌, ◌+◌, ◌*◌, ◌^◌}
 use Rattle.dvi_run.proofs.Written.{IsWrittenTo}
 use Rattle.dvi_run.proofs.pages.write_pages.Given as goal
 
 abbrev pub invariant-loop-i : goal.invariant-loop-i
 invariant-loop-i g l = record {
-  written : IsWrittenTo (value_of l.conv l.index.reading) (g.O.Output.written l.initial.out) (g.O.Output.written l.out) l.i;
-  later : g.O.Output.faults l.initial.out ≤ g.O.Output.faults l.out;
+  fits : g.D.Desk.fits l.desk l.shared;
+  library : g.D.Desk.library l.desk ≡ g.D.Desk.library l.initial.desk;
+  units : g.D.Desk.units l.desk ≡ g.D.Desk.units l.initial.desk;
+  room : g.D.Desk.room l.initial.desk ≤ g.D.Desk.room l.desk + l.i * 2 ^ 24;
+  written : IsWrittenTo (record { library = g.D.Desk.library l.initial.desk; res = l.index.res; sheet = l.sheet }) l.index.reading (g.O.Output.written l.initial.out) (g.O.Output.written l.out) l.i;
+  output : g.O.Output.faults l.initial.out ≤ g.O.Output.faults l.out;
+  source : g.D.Desk.faults l.initial.desk ≤ g.D.Desk.faults l.desk;
 }

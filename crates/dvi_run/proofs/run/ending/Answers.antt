@@ -1,12 +1,19 @@
-use Rattle.std.proofs.Common.{List, ℕ, sym, subst, eqb-true}
-use Rattle.dvi_run.specs.Endings.{EndsBytes}
+use Rattle.std.proofs.Common.{◌≡◌, List, ℕ, subst}
+use Rattle.outside.specs.Counts.{Rose}
+use Rattle.dvi_run.specs.Endings.{EndsBytes, seen_ending}
+use Rattle.dvi_run.specs.Pages.{Given, given_by}
 use Rattle.dvi_run.proofs.Outcomes.{bytes_end}
 use Rattle.dvi_run.proofs.run.ending.Goals as goal
 
 pub returns-in-Ok-clause-ends : goal.returns-in-Ok-clause-ends
 returns-in-Ok-clause-ends g c =
-    let written = g.O.Output.written in
-    let faults = g.O.Output.faults in
-    let ends = subst (λ (bytes : List ℕ). EndsBytes written faults c.draw_document.result c.args.out.now c.draw_document.new.out bytes) c.as_slice.ensures.value c.draw_document.ensures.ends in
-    bytes_end written faults c.args.out.now c.draw_document.new.out g.I.Input.left g.I.Input.faults _ c.args.input.now c.read_all.new.input
-    (eqb-true _ _ (sym c.if-not-is_empty.ensures)) _ c.in-Ok.ensures.bytes c.draw_document.result ends
+    let given : Given = given_by (g.F.FontSource.library c.args.source) c.args.settings.now in
+    let old = g.O.Output.written c.args.out.now in
+    let new = g.O.Output.written c.draw_document.new.out in
+    let OutputFailed = Rose (g.O.Output.faults c.args.out.now) (g.O.Output.faults c.draw_document.new.out) in
+    let SourceFailed = Rose (g.F.FontSource.faults c.args.source) (g.F.FontSource.faults c.draw_document.result.1) in
+    let Kept = c.draw_document.new.out ≡ c.args.out.now in
+    let e = seen_ending c.draw_document.result.0 in
+    let ends = subst (λ (bytes : List ℕ). EndsBytes old new OutputFailed SourceFailed Kept given bytes e) c.as_slice.ensures.value c.draw_document.ensures.ends in
+    bytes_end old new OutputFailed SourceFailed Kept given (Rose (g.I.Input.faults c.args.input.now) (g.I.Input.faults c.read_all.new.input)) (g.I.Input.left c.args.input.now)
+    (g.I.Input.left c.read_all.new.input) _ c.in-Ok.ensures.bytes e ends

@@ -16,12 +16,12 @@ pub returns-in-Err-read_command-clause-stop : goal.returns-in-Err-read_command-c
 returns-in-Err-read_command-clause-stop c =
     let old = c.args.self.now in
     subst (λ (f : DocFault). IsFirstFault c.args.first.now.units.res c.args.bytes.now f) (sym c.doc_fault.ensures)
-    (refused_fault c.args.bytes.now c.args.first.now old.progress old.pages.items old.fonts c.requires.read c.requires.going c.in_default.ensures.drawn c.in_default.ensures.postpost c.in-Err-read_command.fault c.in-Err-read_command.ensures.refused)
+    (refused_fault c.args.bytes.now c.args.first.now old.progress old.pages.items old.fonts c.requires.read c.requires.going c.in_default.ensures.postpost c.in-Err-read_command.fault c.in-Err-read_command.ensures.refused)
 
 pub returns-in-Some-clause-stop : goal.returns-in-Some-clause-stop
 returns-in-Some-clause-stop c =
     let old = c.args.self.now in
-    judged_fault c.args.bytes.now c.args.first.now old.progress old.pages.items old.fonts c.requires.read c.requires.going c.in_default.ensures.drawn c.in_default.ensures.postpost (seen c.in-Ok.read.0) c.in-Ok.read.1
+    judged_fault c.args.bytes.now c.args.first.now old.progress old.pages.items old.fonts c.requires.read c.requires.going c.in_default.ensures.postpost (seen c.in-Ok.read.0) c.in-Ok.read.1
     c.in-Ok.ensures.read c.in-Ok.ensures.place.0 c.in-Ok.ensures.place.1 c.in-Ok.ensures.allowed c.in-Some.fault (sym c.in-Some.ensures)
 
 pub returns-clause-read : goal.returns-clause-read
@@ -32,5 +32,5 @@ returns-clause-read c =
     read_as c.args.bytes.now c.args.first.now (progress_after old.progress command next) c.after-self.result
     (pages_after old.progress old.pages.items command) c.keep.new.self.pages.items (fonts_after old.fonts command) c.keep.new.self.fonts
     (c.after-self.ensures ∙ ap (λ (p : Progress). progress_after p command next) c.in_ok-keep.ensures.progress) c.in_ok-keep.ensures.pages c.in_ok-keep.ensures.fonts
-    (reads_more c.args.bytes.now c.args.first.now old.progress old.pages.items old.fonts c.requires.read c.requires.going c.in_default.ensures.drawn c.in_default.ensures.postpost command next
+    (reads_more c.args.bytes.now c.args.first.now old.progress old.pages.items old.fonts c.requires.read c.requires.going c.in_default.ensures.postpost command next
     c.in-Ok.ensures.read c.in-Ok.ensures.place.0 c.in-Ok.ensures.place.1 c.in-Ok.ensures.allowed (sym c.in_default-fault_of.ensures))

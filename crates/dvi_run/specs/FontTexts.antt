@@ -1,0 +1,62 @@
+-- The keys of fonts, and what is wrong with a font's files, in words.
+use Rattle.std.specs.Prelude.{ℕ, List, ◌++◌, map, codes, decimal, if◌then◌else◌}
+use Rattle.std.specs.Int.{is_in_range}
+use Rattle.outside.specs.declared.keys.FontKey.{FontKey}
+use Rattle.tfm_reader.specs.declared.faults.TfmFault.{TfmFault}
+use Rattle.tfm_reader.specs.declared.faults.TfmFault.TheVariants as tfm
+use Rattle.pk_runs.specs.declared.faults.RunFault.{RunFault}
+use Rattle.pk_runs.specs.declared.faults.RunFault.TheVariants as runs
+use Rattle.pk_packets.specs.declared.faults.PkFault.{PkFault}
+use Rattle.pk_packets.specs.declared.faults.PkFault.TheVariants as pk
+use Rattle.font_decode.specs.declared.faults.FileKind.{FileKind}
+use Rattle.font_decode.specs.declared.faults.FileKind.TheVariants as kind
+use Rattle.font_decode.specs.declared.faults.FontFault.{FontFault}
+use Rattle.font_decode.specs.declared.faults.FontFault.TheVariants as font
+
+-- ---- keys
+
+-- a visible ASCII character stands for itself, and each other byte is a question mark
+abbrev pub shown_byte : ℕ → ℕ
+shown_byte b = if is_in_range 33 126 b then b else 63
+
+-- the name, the size and the design size
+abbrev pub key_text : FontKey → List ℕ
+key_text k = map shown_byte k.name ++ codes " " ++ decimal k.size ++ codes " " ++ decimal k.design
+
+-- ---- faults
+
+abbrev pub tfm_text : TfmFault → List ℕ
+tfm_text tfm.Short = codes "short"
+tfm_text tfm.Counts = codes "counts"
+tfm_text (tfm.WidthIndex c) = codes "width index " ++ decimal c
+tfm_text (tfm.WidthByte i) = codes "width byte " ++ decimal i
+tfm_text tfm.WidthZero = codes "width zero"
+
+abbrev pub raster_text : RunFault → List ℕ
+raster_text runs.Short = codes "short"
+raster_text runs.Overrun = codes "overrun"
+raster_text (runs.SecondRepeat row) = codes "second repeat " ++ decimal row
+raster_text runs.TooManyRows = codes "too many rows"
+
+abbrev pub pk_text : PkFault → List ℕ
+pk_text pk.Short = codes "short"
+pk_text pk.Preamble = codes "preamble"
+pk_text (pk.Undefined op) = codes "undefined " ++ decimal op
+pk_text (pk.TooBig c) = codes "too big " ++ decimal c
+pk_text (pk.Runs c fault) = codes "runs " ++ decimal c ++ codes " " ++ raster_text fault
+pk_text pk.FontTooBig = codes "font too big"
+pk_text (pk.Length c) = codes "length " ++ decimal c
+
+abbrev pub kind_text : FileKind → List ℕ
+kind_text kind.Tfm = codes "tfm"
+kind_text kind.Vf = codes "vf"
+kind_text kind.Pk = codes "pk"
+
+abbrev pub font_text : FontFault → List ℕ
+font_text (font.Missing kind) = codes "missing " ++ kind_text kind
+font_text (font.Tfm fault) = codes "tfm " ++ tfm_text fault
+font_text (font.Pk fault) = codes "pk " ++ pk_text fault
+font_text font.Name = codes "name"
+font_text font.Size = codes "size"
+font_text (font.TooLong kind) = codes "too long " ++ kind_text kind
+font_text font.NotYet = codes "not yet"

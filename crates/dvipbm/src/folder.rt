@@ -1,0 +1,68 @@
+//! A folder of font files as a source of fonts. It tells no files, and counts each error.
+ghost use Rattle.std.specs.Prelude.{◌≡◌};
+
+use outside::{FileName, FontSource, LoadStop};
+use std::alloc::Global;
+use std::io::{self, ErrorKind, Read};
+use std::path::PathBuf;
+use std::rt::Files;
+use std::{fs, str};
+
+/// One byte more than a font file may have.
+const MOST: u64 = 8_388_609;
+
+/// A folder of font files. A file that isn't there is none; every other error of a file is a failure.
+#[derive(Drop)]
+pub struct FolderFonts<'a, R> {
+    rt: &'a R,
+    alloc: Global,
+    folder: PathBuf,
+    faults: u64,
+    loads: u64,
+}
+
+impl<'a, R: Files> FolderFonts<'a, R> {
+    /// No load has failed yet.
+    pub fn new(rt: &'a R, alloc: Global, folder: PathBuf) -> FolderFonts<'a, R>
+        ensures faults { result.faults ≡ 0 }
+        ensures loads { result.loads ≡ 0 }
+    {
+        FolderFonts {
+            rt,
+            alloc,
+            folder,
+            faults: 0,
+            loads: 0,
+        }
+    }
+
+    // The bytes of a file, of a long one more than a font file may have.
+    fn read(&self, name: &FileName) -> io::Result<Vec<u8>> {
+        let name = str::from_utf8(name.bytes()).map_err(|_| ErrorKind::InvalidInput)?;
+        let path = self.folder.join(self.alloc, name)?;
+        let mut bytes = Vec::new(self.alloc);
+        fs::open(self.rt, path)?.take(MOST).read_to_end(&mut bytes)?;
+        Ok(bytes)
+    }
+}
+
+impl<'a, R: Files> FontSource for FolderFonts<'a, R> {
+    ghost faults = { λ s. s.faults };
+
+    ghost loads = { λ s. s.loads };
+
+    fn load(&mut self, name: &FileName) -> Result<Option<Vec<u8>>, LoadStop> {
+        self.loads = self.loads.saturating_add(1);
+        match self.read(name) {
+            Ok(bytes) => Ok(Some(bytes)),
+            Err(error) => match error.kind() {
+                ErrorKind::NotFound => Ok(None),
+                ErrorKind::OutOfMemory => Err(LoadStop::NoMemory),
+                _ => {
+                    self.faults = self.faults.saturating_add(1);
+                    Err(LoadStop::Failed)
+                }
+            },
+        }
+    }
+}

@@ -1,0 +1,8 @@
+use Rattle.font_decode.proofs.Alike.{one_of_its_files, one_in_a_library}
+use Rattle.font_decode.proofs.laws.decodings.Goals as goal
+
+pub returns-clause-files : goal.returns-clause-files
+returns-clause-files c = one_of_its_files
+
+pub returns-clause-library : goal.returns-clause-library
+returns-clause-library c = one_in_a_library

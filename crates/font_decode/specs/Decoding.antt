@@ -1,0 +1,94 @@
+-- What the font of a key is, by its files, or what is wrong with it first. The order in which name and files are judged is this driver's
+-- own; what the files hold is told by Knuth's TFtoPL and Rokicki's PKtype, and the widths by DVItype, "Reading the font information".
+use Rattle.std.specs.Prelude.{◌≡◌, ℕ, ℤ, Bool, List, length, nat_lt, Option, IfSome, MatchBool, MatchOption}
+use Rattle.std.specs.Option.{option_map}
+use Rattle.fix_word.specs.Scale.{scale}
+use Rattle.tfm_reader.specs.Tfm.{tfm_fault, tfm_width}
+use Rattle.pk_packets.specs.Fonts.{IsPkFile, HasGlyphsOf}
+use Rattle.pk_packets.specs.Faults.{IsFirstFault}
+use Rattle.pk_packets.specs.declared.faults.PkFault.{PkFault}
+use Rattle.outside.specs.Library as library
+use Rattle.outside.specs.declared.keys.FontKey.{FontKey}
+use Rattle.pixel_round.specs.declared.units.Units.{Units}
+use Rattle.font_decode.specs.Names.{is_valid_name, dpi, is_resolution}
+use Rattle.font_decode.specs.Files.{FontFiles, IsFound}
+use Rattle.font_decode.specs.Fonts.{FontSeen, width_of, glyph_at}
+use Rattle.font_decode.specs.declared.decoded.Decoded.{Decoded}
+use Rattle.font_decode.specs.declared.decoded.Decoded.TheVariants.{Font, Fault}
+use Rattle.font_decode.specs.declared.faults.FileKind.TheVariants as kind
+use Rattle.font_decode.specs.declared.faults.FontFault.TheVariants as fault
+
+-- ---- a font
+
+-- the width of a code by a TFM file, at a size
+abbrev pub scaled_width : ℕ → List ℕ → ℤ → Option ℤ
+scaled_width size tfm c = option_map (λ w. scale w size) (tfm_width tfm c)
+
+-- the font of a key with these two files, each of which is sound
+pub record IsPackedFont (k : FontKey) (tfm pk : List ℕ) (f : FontSeen) : Type 0 where
+  pub size : f.size ≡ k.size
+  pub widths : (c : ℤ) → width_of f c ≡ scaled_width k.size tfm c
+  pub items : List (List ℕ)
+  pub file : IsPkFile pk items
+  pub glyphs : HasGlyphsOf items f.glyphs
+
+-- ---- what a key's files come to: each definition goes on where the one behind it has found no fault
+
+-- more than 8,388,608 bytes, whatever they are
+abbrev pub is_too_long : List ℕ → Bool
+is_too_long bytes = nat_lt 8388608 (length bytes)
+
+-- a PK file: the font, or the file's first fault
+abbrev pub DecodesPk : FontKey → List ℕ → List ℕ → Decoded → Type 0
+DecodesPk k tfm pk (Font f) = IsPackedFont k tfm pk f
+DecodesPk k tfm pk (Fault f) = (found : PkFault) × IsFirstFault pk found × (f ≡ fault.Pk found)
+
+abbrev pub DecodesShortPk : FontKey → List ℕ → List ℕ → Decoded → Type 0
+DecodesShortPk k tfm pk d = MatchBool (is_too_long pk) (d ≡ Fault (fault.TooLong kind.Pk)) (DecodesPk k tfm pk d)
+
+-- without a VF file: the resolution before the PK file
+abbrev pub DecodesPacked : Units → FontKey → List ℕ → Option (List ℕ) → Decoded → Type 0
+DecodesPacked u k tfm pk d = MatchBool (is_resolution (dpi u k))
+    (MatchOption pk (d ≡ Fault (fault.Missing kind.Pk)) (λ pk. DecodesShortPk k tfm pk d))
+    (d ≡ Fault fault.Size)
+
+-- behind a sound TFM file: virtual fonts aren't read yet
+abbrev pub DecodesSound : Units → FontKey → List ℕ → FontFiles → Decoded → Type 0
+DecodesSound u k tfm files d = MatchOption files.vf (DecodesPacked u k tfm files.pk d) (λ _. d ≡ Fault fault.NotYet)
+
+-- a TFM file: too long before what it holds
+abbrev pub DecodesTfm : Units → FontKey → List ℕ → FontFiles → Decoded → Type 0
+DecodesTfm u k tfm files d = MatchBool (is_too_long tfm) (d ≡ Fault (fault.TooLong kind.Tfm))
+    (MatchOption (tfm_fault tfm) (DecodesSound u k tfm files d) (λ found. d ≡ Fault (fault.Tfm found)))
+
+-- the font of a key by its files, or its first fault: the name before the files
+abbrev pub IsDecodingOf : Units → FontKey → FontFiles → Decoded → Type 0
+IsDecodingOf u k files d = MatchBool (is_valid_name k)
+    (MatchOption files.tfm (d ≡ Fault (fault.Missing kind.Tfm)) (λ tfm. DecodesTfm u k tfm files d))
+    (d ≡ Fault fault.Name)
+
+-- ---- in a library
+
+-- the font of a key, by the files that a library has of it
+pub record IsFontIn (l : library.Files) (u : Units) (k : FontKey) (d : Decoded) : Type 0 where
+  pub files : FontFiles
+  pub found : IsFound l u k files
+  pub decoding : IsDecodingOf u k files d
+
+-- the same where the library is told, with the units of the document
+abbrev pub IsFontOf : Option library.Files → Option Units → FontKey → Decoded → Type 0
+IsFontOf told units k d = IfSome told (λ l. IfSome units (λ u. IsFontIn l u k d))
+
+-- ---- which decodings can't be told apart
+
+pub record AreAlikeFonts (f g : FontSeen) : Type 0 where
+  pub size : f.size ≡ g.size
+  pub widths : (c : ℤ) → width_of f c ≡ width_of g c
+  pub glyphs : (c : ℕ) → glyph_at f c ≡ glyph_at g c
+
+-- one fault, or fonts with one size, and one width and one glyph for each code
+abbrev pub AreAlike : Decoded → Decoded → Type 0
+AreAlike (Font f) (Font g) = AreAlikeFonts f g
+AreAlike (Font f) (Fault g) = ⊥
+AreAlike (Fault f) (Font g) = ⊥
+AreAlike (Fault f) (Fault g) = f ≡ g

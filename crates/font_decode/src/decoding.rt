@@ -1,0 +1,132 @@
+//! From files to fonts.
+ghost use Rattle.std.specs.Prelude.{◌≡◌, List, ℕ, IfOk};
+ghost use Rattle.font_decode.specs.Names.{IsKey, IsUnits};
+ghost use Rattle.font_decode.specs.Files.{bytes_of};
+ghost use Rattle.font_decode.specs.Decoding.{is_too_long, DecodesShortPk, DecodesPacked, DecodesSound, DecodesTfm, IsDecodingOf};
+ghost use Rattle.font_decode.specs.Reading.{IsTfmOf};
+
+use crate::names::{dpi, is_resolution, is_valid_name};
+use crate::widths::scaled_widths;
+use crate::{Decoded, FileKind, Files, Font, FontFault};
+use outside::FontKey;
+use pixel_round::Units;
+use pk_packets::{PkFont, PkStop};
+use std::alloc::{AllocError as NoMemory, Global};
+use tfm_reader::{Tfm, TfmStop};
+
+// The most bytes that a file may have.
+const LONGEST_FILE: usize = 8_388_608;
+
+// Whether a file has more bytes than that.
+fn is_too_long(bytes: &[u8]) -> bool
+    ensures { result ≡ is_too_long bytes.now }
+{
+    bytes.len() > LONGEST_FILE
+}
+
+/// The font of a key, by its files, or its first fault: `Name`; then `Missing`, `TooLong` and `Tfm` of
+/// the TFM file; then `NotYet` where there is a VF file; then `Size`, and `Missing`, `TooLong` and `Pk`
+/// of the PK file. A file behind the first fault isn't looked at.
+///
+/// The widths are those of the TFM file (Knuth, TFtoPL, "Font metric data"), scaled to the key's size,
+/// and the glyphs those of the PK file (Rokicki, PKtype, "Packed file format").
+pub fn decode(
+    alloc: Global,
+    key: &FontKey,
+    files: &Files,
+    units: &Units,
+) -> Result<Decoded, NoMemory>
+    requires units { IsUnits units.now }
+    requires key { IsKey key.now }
+    ensures { IfOk result (IsDecodingOf units.now key.now (bytes_of files.now)) }
+{
+    if !is_valid_name(key) {
+        return Ok(Decoded::Fault(FontFault::Name));
+    }
+    match &files.tfm {
+        Some(tfm) => decode_tfm(alloc, key, tfm, files, units),
+        None => Ok(Decoded::Fault(FontFault::Missing(FileKind::Tfm))),
+    }
+}
+
+// Behind a valid name: judges the TFM file.
+fn decode_tfm(
+    alloc: Global,
+    key: &FontKey,
+    tfm: &[u8],
+    files: &Files,
+    units: &Units,
+) -> Result<Decoded, NoMemory>
+    requires units { IsUnits units.now }
+    requires key { IsKey key.now }
+    ensures { IfOk result (DecodesTfm units.now key.now tfm.now (bytes_of files.now)) }
+{
+    if is_too_long(tfm) {
+        return Ok(Decoded::Fault(FontFault::TooLong(FileKind::Tfm)));
+    }
+    match Tfm::read(alloc, tfm) {
+        Ok(tfm) => decode_sound(alloc, key, &tfm, files, units),
+        Err(TfmStop::Fault(fault)) => Ok(Decoded::Fault(FontFault::Tfm(fault))),
+        Err(TfmStop::NoMemory) => Err(NoMemory),
+    }
+}
+
+// Behind a sound TFM file: looks for a VF file.
+fn decode_sound(
+    alloc: Global,
+    key: &FontKey,
+    tfm: &Tfm,
+    files: &Files,
+    units: &Units,
+) -> Result<Decoded, NoMemory>
+    requires units { IsUnits units.now }
+    requires key { IsKey key.now }
+    ensures { IfOk result (λ d. (bytes : List ℕ) → IsTfmOf bytes tfm.now →
+        DecodesSound units.now key.now bytes (bytes_of files.now) d) }
+{
+    match &files.vf {
+        Some(_) => Ok(Decoded::Fault(FontFault::NotYet)),
+        None => decode_packed(alloc, key, tfm, files, units),
+    }
+}
+
+// Without a VF file: judges the resolution, and looks for a PK file.
+fn decode_packed(
+    alloc: Global,
+    key: &FontKey,
+    tfm: &Tfm,
+    files: &Files,
+    units: &Units,
+) -> Result<Decoded, NoMemory>
+    requires units { IsUnits units.now }
+    requires key { IsKey key.now }
+    ensures { IfOk result (λ d. (bytes : List ℕ) → IsTfmOf bytes tfm.now →
+        DecodesPacked units.now key.now bytes (bytes_of files.now).pk d) }
+{
+    if !is_resolution(dpi(units, key)) {
+        return Ok(Decoded::Fault(FontFault::Size));
+    }
+    match &files.pk {
+        Some(pk) => decode_pk(alloc, key, tfm, pk),
+        None => Ok(Decoded::Fault(FontFault::Missing(FileKind::Pk))),
+    }
+}
+
+// Judges the PK file, and makes the font.
+fn decode_pk(alloc: Global, key: &FontKey, tfm: &Tfm, pk: &[u8]) -> Result<Decoded, NoMemory>
+    requires key { IsKey key.now }
+    ensures { IfOk result (λ d. (bytes : List ℕ) → IsTfmOf bytes tfm.now →
+        DecodesShortPk key.now bytes pk.now d) }
+{
+    if is_too_long(pk) {
+        return Ok(Decoded::Fault(FontFault::TooLong(FileKind::Pk)));
+    }
+    match PkFont::read(alloc, pk) {
+        Ok(glyphs) => {
+            let widths = scaled_widths(alloc, tfm, key.size)?;
+            Ok(Decoded::Font(Font::new(key.size, widths, glyphs)))
+        }
+        Err(PkStop::Fault(fault)) => Ok(Decoded::Fault(FontFault::Pk(fault))),
+        Err(PkStop::NoMemory) => Err(NoMemory),
+    }
+}

@@ -1,0 +1,77 @@
+//! Where a page asks for its fonts.
+ghost use Rattle.std.specs.Prelude.{◌≡◌, ◌+◌, ◌≤◌, ◌∷◌, [], ℕ, List, Option, None, IfOk, IsErrOf, IsSome, OnErr, OnOk};
+ghost use Rattle.std.specs.Arc.{arc_value};
+ghost use Rattle.outside.specs.Counts.{HasCause};
+ghost use Rattle.outside.specs.Library as library;
+ghost use Rattle.outside.specs.declared.keys.FontKey.{FontKey};
+ghost use Rattle.pixel_round.specs.declared.units.Units.{Units};
+ghost use Rattle.font_decode.specs.Names.{IsKey};
+ghost use Rattle.font_decode.specs.Decoding.{IsFontOf};
+ghost use Rattle.font_decode.specs.Desks.{GrewBy, GrewByAtMost};
+
+use crate::Decoded;
+use outside::FontKey;
+use std::alloc::Global;
+use std::sync::{Arc, Wait};
+
+/// Why a desk has no answer.
+#[derive(Clone, Copy, Debug, PartialEq, Eq)]
+pub enum DeskStop {
+    /// The source of the font files failed.
+    SourceFault,
+    /// Memory was wanting.
+    NoMemory,
+}
+
+/// Where a page asks for its fonts.
+pub trait Desk: Drop {
+    /// What all desks of one run share.
+    type Shared;
+
+    /// All the font files, where they are told. No call changes them.
+    ghost library: { Self → Option library.Files } = { λ _. None };
+
+    /// The units of the document, where they are told. No call changes them.
+    ghost units: { Self → Option Units } = { λ _. None };
+
+    /// Whether a shared value is this desk's.
+    ghost fits: { Self → Self.Shared → Type 0 };
+
+    /// How often the source of its font files failed.
+    ghost faults: { Self → ℕ };
+
+    /// The keys asked, in order, where they are told.
+    ghost asked: { Self → Option (List FontKey) } = { λ _. None };
+
+    /// How many more fonts may be asked for.
+    ghost room: { Self → ℕ };
+
+    /// The font of a key, or what is wrong with it.
+    fn font<R: Wait>(
+        &mut self,
+        rt: &R,
+        alloc: Global,
+        shared: &Self::Shared,
+        key: &Arc<FontKey>,
+    ) -> Result<Arc<Decoded>, DeskStop>
+        requires fits { fits self.old shared.now }
+        requires room { 1 ≤ room self.old }
+        requires key { IsKey (arc_value key.now) }
+
+        // Where the library is told: the answer is the key's font there.
+        ensures found { IfOk result (λ font.
+            IsFontOf (library self.old) (units self.old) (arc_value key.now) (arc_value font)) }
+
+        // Whatever the desk.
+        ensures same_library { library self.new ≡ library self.old }
+        ensures same_units { units self.new ≡ units self.old }
+        ensures still_fits { fits self.new shared.now }
+        ensures room { room self.old ≤ room self.new + 1 }
+        ensures cause { HasCause (faults self.old) (faults self.new)
+            (IsErrOf result DeskStop.SourceFault) }
+        ensures asked { OnOk result (GrewBy (asked self.old) (asked self.new) (arc_value key.now ∷ [])) }
+        ensures refused { OnErr result (GrewByAtMost (asked self.old) (asked self.new) (arc_value key.now)) };
+
+    /// The units are told wherever the library is.
+    ghost told: { (d : Self) → IsSome (library d) → IsSome (units d) };
+}

@@ -1,0 +1,35 @@
+//! What can be wrong with a font.
+use pk_packets::PkFault;
+use tfm_reader::TfmFault;
+
+/// A kind of a font's files.
+#[derive(Clone, Copy, Debug, PartialEq, Eq)]
+pub enum FileKind {
+    /// The widths.
+    Tfm,
+    /// The packets of a virtual font.
+    Vf,
+    /// The glyphs of a packed font.
+    Pk,
+}
+
+/// What is wrong with a font: the first fault, in the order in which its name and its files are
+/// judged. First comes its name, then its TFM file, then whether it has a VF file, then its resolution
+/// and its PK file; of a file that it isn't there, then that it is too long, then what it holds.
+#[derive(Clone, Copy, Debug, PartialEq, Eq)]
+pub enum FontFault {
+    /// There is no such file.
+    Missing(FileKind),
+    /// This is wrong with the TFM file.
+    Tfm(TfmFault),
+    /// This is wrong with the PK file.
+    Pk(PkFault),
+    /// Files with this name aren't looked for.
+    Name,
+    /// The resolution of its PK file lies outside 1 to 1,000,000 dots to the inch.
+    Size,
+    /// The file has more than 8,388,608 bytes.
+    TooLong(FileKind),
+    /// It has a VF file, and virtual fonts aren't read yet.
+    NotYet,
+}

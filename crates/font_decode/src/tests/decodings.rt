@@ -1,0 +1,232 @@
+//! Fonts by their files, and what is wrong with changed ones.
+ghost use Rattle.std.specs.Prelude.{◌<◌, ◌≤◌, ◌^◌};
+ghost use Rattle.font_decode.specs.Names.{IsKey};
+
+use super::{UNITS, key};
+use crate::{Decoded, FileKind, Files, FontFault, decode, laws};
+use outside::FontKey;
+use pk_packets::PkFault;
+use pk_runs::Glyph;
+use std::test::Fail;
+use tfm_reader::TfmFault;
+
+// The code 65 alone, 1/16 of the size wide.
+const DOT_TFM: [u8; 56] = [
+    0, 14, 0, 2, 0, 65, 0, 65, 0, 2, 0, 1, 0, 1, 0, 1, 0, 0, 0, 0, 0, 0, 0, 0, 0, 0, 0, 0, 0, 160,
+    0, 0, 1, 0, 0, 0, 0, 0, 0, 0, 0, 1, 0, 0, 0, 0, 0, 0, 0, 0, 0, 0, 0, 0, 0, 0,
+];
+
+// The code 65 alone, two by two black dots.
+const DOT_PK: [u8; 32] = [
+    0xf7, 0x59, 0x00, 0x00, 0xa0, 0x00, 0x00, 0x00, 0x00, 0x00, 0x00, 0x00, 0x04, 0x26, 0xae, 0x00,
+    0x04, 0x26, 0xae, 0xe0, 0x09, 0x41, 0x01, 0x00, 0x00, 0x04, 0x02, 0x02, 0x00, 0x01, 0xf0, 0xf5,
+];
+
+// The most bytes of a file, and one more.
+const LONGEST: usize = 8_388_608;
+
+const TOO_LONG: usize = 8_388_609;
+
+// A file of these bytes, or none where there are none.
+fn file(rt: &HostRuntime, bytes: &[u8]) -> Result<Option<Vec<u8>>, Fail> {
+    if bytes.is_empty() {
+        return Ok(None);
+    }
+    Ok(Some(bytes.to_vec(rt.alloc())?))
+}
+
+// What these files come to.
+fn decoded(
+    rt: &HostRuntime,
+    key: &FontKey,
+    tfm: &[u8],
+    vf: &[u8],
+    pk: &[u8],
+) -> Result<Decoded, Fail>
+    requires { IsKey key.now }
+{
+    let files = Files {
+        tfm: file(rt, tfm)?,
+        vf: file(rt, vf)?,
+        pk: file(rt, pk)?,
+    };
+    Ok(decode(rt.alloc(), key, &files, &UNITS)?)
+}
+
+// What is wrong with these files first.
+fn fault(
+    rt: &HostRuntime,
+    key: &FontKey,
+    tfm: &[u8],
+    vf: &[u8],
+    pk: &[u8],
+) -> Result<Option<FontFault>, Fail>
+    requires { IsKey key.now }
+{
+    match decoded(rt, key, tfm, vf, pk)? {
+        Decoded::Font(_) => Ok(None),
+        Decoded::Fault(fault) => Ok(Some(fault)),
+    }
+}
+
+// The width of a character by a TFM file, at a size in DVI units.
+fn width(rt: &HostRuntime, size: u32, tfm: &[u8], code: i32) -> Result<Option<i64>, Fail>
+    requires { (1 ≤ size) × (size < 2 ^ 27) }
+{
+    match decoded(rt, &key(rt, b"dot", size)?, tfm, b"", &DOT_PK)? {
+        Decoded::Font(font) => Ok(font.width(code)),
+        Decoded::Fault(_) => Err("a fault")?,
+    }
+}
+
+// A file of so many bytes, each of them 0.
+fn zeros(rt: &HostRuntime, length: usize) -> Result<Vec<u8>, Fail> {
+    Ok(vec![in rt.alloc(); 0u8; length]?)
+}
+
+// How many pixels of a glyph are black, and its sides.
+fn black(glyph: Option<&Glyph>) -> (u32, u32, u32) {
+    let Some(glyph) = glyph else { return (0, 0, 0) };
+    let mut count = 0u32;
+    for y in 0..glyph.raster.height() {
+        for x in 0..glyph.raster.width() {
+            if glyph.raster.black(x, y) {
+                count = count.saturating_add(1);
+            }
+        }
+    }
+    (count, glyph.raster.width(), glyph.raster.height())
+}
+
+#[test]
+fn a_font_of_one_character(rt: HostRuntime) -> Result<(), Fail> {
+    let dot = key(&rt, b"dot", 128)?;
+    match decoded(&rt, &dot, &DOT_TFM, b"", &DOT_PK)? {
+        Decoded::Font(font) => {
+            assert_eq!(rt; font.size(), 128);
+            assert_eq!(rt; font.width(65), Some(8));
+            assert_eq!(rt; black(font.glyph(65)), (4, 2, 2));
+            let offsets = font.glyph(65).map(|glyph| (glyph.hoff, glyph.voff));
+            assert_eq!(rt; offsets, Some((0, 1)));
+            assert!(rt; font.glyph(66).is_none());
+            assert!(rt; font.glyph(321).is_none());
+        }
+        Decoded::Fault(_) => assert!(rt; false, "a fault"),
+    }
+    laws::decodings();
+    Ok(())
+}
+
+#[test]
+fn codes_without_a_width(rt: HostRuntime) -> Result<(), Fail> {
+    for code in [64, 66, -1, 321, -191] {
+        assert_eq!(rt; width(&rt, 128, &DOT_TFM, code)?, None, "of {code}");
+    }
+    Ok(())
+}
+
+// 3/128 of a size of 100 units is 2.34, and as much to the left is rounded down, too.
+#[test]
+fn widths_at_a_size(rt: HostRuntime) -> Result<(), Fail> {
+    assert_eq!(rt; width(&rt, 256, &DOT_TFM, 65)?, Some(16));
+    let mut tfm = DOT_TFM;
+    tfm[41] = 0;
+    tfm[42] = 96;
+    assert_eq!(rt; width(&rt, 100, &tfm, 65)?, Some(2));
+    tfm[40] = 255;
+    tfm[41] = 255;
+    tfm[42] = 160;
+    assert_eq!(rt; width(&rt, 100, &tfm, 65)?, Some(-3));
+    Ok(())
+}
+
+#[test]
+fn names_and_missing_files(rt: HostRuntime) -> Result<(), Fail> {
+    let dot = key(&rt, b"dot", 128)?;
+    let found = fault(&rt, &dot, &DOT_TFM, b"", &DOT_PK)?;
+    assert_eq!(rt; found, None);
+    let found = fault(&rt, &key(&rt, b"d/t", 128)?, &DOT_TFM, b"", &DOT_PK)?;
+    assert_eq!(rt; found, Some(FontFault::Name));
+    let found = fault(&rt, &dot, b"", b"", &DOT_PK)?;
+    assert_eq!(rt; found, Some(FontFault::Missing(FileKind::Tfm)));
+    let found = fault(&rt, &dot, &DOT_TFM, b"", b"")?;
+    assert_eq!(rt; found, Some(FontFault::Missing(FileKind::Pk)));
+    let found = fault(&rt, &dot, &DOT_TFM, b"?", b"")?;
+    assert_eq!(rt; found, Some(FontFault::NotYet));
+    Ok(())
+}
+
+#[test]
+fn faults_of_a_tfm_file(rt: HostRuntime) -> Result<(), Fail> {
+    let dot = key(&rt, b"dot", 128)?;
+    let found = fault(&rt, &dot, &DOT_TFM[..55], b"", &DOT_PK)?;
+    assert_eq!(rt; found, Some(FontFault::Tfm(TfmFault::Short)));
+    let mut tfm = DOT_TFM;
+    tfm[32] = 2;
+    let found = fault(&rt, &dot, &tfm, b"", &DOT_PK)?;
+    assert_eq!(rt; found, Some(FontFault::Tfm(TfmFault::WidthIndex(65))));
+    Ok(())
+}
+
+#[test]
+fn faults_of_a_pk_file(rt: HostRuntime) -> Result<(), Fail> {
+    let dot = key(&rt, b"dot", 128)?;
+    let found = fault(&rt, &dot, &DOT_TFM, b"", &DOT_PK[..31])?;
+    assert_eq!(rt; found, Some(FontFault::Pk(PkFault::Short)));
+    let mut pk = DOT_PK;
+    pk[31] = 0xf7;
+    let found = fault(&rt, &dot, &DOT_TFM, b"", &pk)?;
+    assert_eq!(rt; found, Some(FontFault::Pk(PkFault::Undefined(0xf7))));
+    Ok(())
+}
+
+// 1,171,875 dots to the inch, less than a half, and a half.
+#[test]
+fn sizes_without_a_resolution(rt: HostRuntime) -> Result<(), Fail> {
+    let huge = key(&rt, b"dot", 500_000)?;
+    let found = fault(&rt, &huge, &DOT_TFM, b"", &DOT_PK)?;
+    assert_eq!(rt; found, Some(FontFault::Size));
+    let mut small = key(&rt, b"dot", 1)?;
+    small.design = 601;
+    let found = fault(&rt, &small, &DOT_TFM, b"", &DOT_PK)?;
+    assert_eq!(rt; found, Some(FontFault::Size));
+    small.design = 600;
+    let found = fault(&rt, &small, &DOT_TFM, b"", &DOT_PK)?;
+    assert_eq!(rt; found, None);
+    Ok(())
+}
+
+// A file as long as may be is refused for what it holds.
+#[test]
+fn files_that_are_too_long(rt: HostRuntime) -> Result<(), Fail> {
+    let dot = key(&rt, b"dot", 128)?;
+    let longest = zeros(&rt, LONGEST)?;
+    let found = fault(&rt, &dot, &longest, b"", &DOT_PK)?;
+    assert_eq!(rt; found, Some(FontFault::Tfm(TfmFault::Counts)));
+    let found = fault(&rt, &dot, &DOT_TFM, b"", &longest)?;
+    assert_eq!(rt; found, Some(FontFault::Pk(PkFault::Preamble)));
+    let too_long = zeros(&rt, TOO_LONG)?;
+    let found = fault(&rt, &dot, &too_long, b"", &DOT_PK)?;
+    assert_eq!(rt; found, Some(FontFault::TooLong(FileKind::Tfm)));
+    let found = fault(&rt, &dot, &DOT_TFM, b"", &too_long)?;
+    assert_eq!(rt; found, Some(FontFault::TooLong(FileKind::Pk)));
+    Ok(())
+}
+
+#[test]
+fn the_first_of_several_faults(rt: HostRuntime) -> Result<(), Fail> {
+    let found = fault(&rt, &key(&rt, b".dot", 128)?, b"", b"?", b"?")?;
+    assert_eq!(rt; found, Some(FontFault::Name));
+    let huge = key(&rt, b"dot", 500_000)?;
+    let found = fault(&rt, &huge, b"", b"?", b"?")?;
+    assert_eq!(rt; found, Some(FontFault::Missing(FileKind::Tfm)));
+    let found = fault(&rt, &huge, b"?", b"?", b"?")?;
+    assert_eq!(rt; found, Some(FontFault::Tfm(TfmFault::Short)));
+    let found = fault(&rt, &huge, &DOT_TFM, b"?", b"?")?;
+    assert_eq!(rt; found, Some(FontFault::NotYet));
+    let found = fault(&rt, &huge, &DOT_TFM, b"", b"")?;
+    assert_eq!(rt; found, Some(FontFault::Size));
+    let found = fault(&rt, &huge, &DOT_TFM, b"", b"?")?;
+    assert_eq!(rt; found, Some(FontFault::Size));
+    Ok(())
+}

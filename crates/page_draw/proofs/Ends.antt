@@ -1,0 +1,150 @@
+-- How a page ends that was drawn so far.
+use Rattle.std.proofs.Common.{◌≡◌, ◌≢◌, ◌⊎◌, ◌≤◌, inl, inr, ap₂, arith, IfOk, IfErr, ℕ, List, [], ◌∷◌, ◌++◌, refl, sym, ap, subst, Option, Some, None, Result, Ok, Err}
+use Rattle.std.specs.Option.{option_map}
+use Rattle.outside.specs.declared.keys.FontKey.{FontKey}
+use Rattle.pixel_round.specs.Pixels.{conversion, Fraction}
+use Rattle.pixel_round.specs.declared.units.Units.{Units}
+use Rattle.outside.specs.Counts.{Rose}
+use Rattle.drift_rules.specs.Position.{FlatCommand, State, after, at_origin}
+use Rattle.drift_rules.specs.declared.faults.PenFault.TheVariants.{StackLeft}
+use Rattle.drift_rules.specs.declared.flat.Registers.{Registers}
+use Rattle.packed_rows.specs.Bitmap.{Bitmap}
+use Rattle.page_index.specs.Pages.{Indexed, document_units}
+use Rattle.font_decode.specs.Desks.{GrewBy, GrewByAtMost}
+use Rattle.font_decode.specs.declared.decoded.Decoded.{Decoded}
+use Rattle.pk_runs.specs.declared.glyph.Glyph.{Glyph}
+use Rattle.vf_expand.specs.Course.{Course, Gives, Asks, Ends, Stops, course_of}
+use Rattle.vf_expand.specs.Faults.{Pen, seen_fault}
+use Rattle.vf_expand.specs.declared.faults.PageFault.{PageFault}
+use Rattle.page_draw.specs.Members.{Finding, last_state, looks_of}
+use Rattle.page_draw.specs.Values.{EndsIn, HasValue, PageValue, ended_with, fault_at}
+use Rattle.page_draw.specs.Drawn.{IsBroken, IsDrawn, IsLeft, IsPenStop, IsStop}
+use Rattle.page_draw.specs.declared.stop.PageStop.{PageStop}
+use Rattle.page_draw.specs.declared.stop.PageStop.TheVariants as stop
+use Rattle.page_draw.specs.declared.sheet.Sheet.{Sheet}
+use Rattle.page_draw.proofs.Lists.{IsSoFar, grew_more, grew_none}
+
+-- the units whose conversion this is
+units_from : (o : Option Units) (c : Fraction) → option_map conversion o ≡ Some c → (u : Units) × (o ≡ Some u) × (c ≡ conversion u)
+units_from None c e = absurd cc
+units_from (Some u) c e = let same : c ≡ conversion u = cc in (u, refl, same)
+
+module _ (Finds : Finding) (c : Fraction) (sheet : Sheet) (indexed : Indexed) (i : ℕ) (to : Course) (s : State) (page : Bitmap) (old new : Option (List FontKey))
+    (so_far : IsSoFar Finds c sheet (course_of indexed.reading i) to s page old new)
+    (conv : option_map conversion (document_units indexed.res indexed.reading) ≡ Some c) where
+  pub drawn_so_far : (value : PageValue) → EndsIn c s page to value → IsDrawn Finds indexed sheet i value old new
+  drawn_so_far value ends =
+      let units = units_from (document_units indexed.res indexed.reading) c conv in
+      let members = so_far.members in
+      let own : HasValue Finds c sheet (course_of indexed.reading i) value (looks_of members) = record {
+        members = members;
+        to = to;
+        state = s;
+        leads = so_far.leads;
+        moved = so_far.moved;
+        ends = subst (λ (p : Bitmap). EndsIn c s p to value) so_far.has ends;
+        looked = refl;
+      } in (
+        looks_of members,
+        record { units = units.0; of_document = units.1; has = subst (λ (x : Fraction). HasValue Finds x sheet (course_of indexed.reading i) value (looks_of members)) units.2 own },
+        so_far.asked,
+      )
+
+  pub broken_so_far : IsBroken Finds indexed i old new
+  broken_so_far =
+      let units = units_from (document_units indexed.res indexed.reading) c conv in
+      record {
+        members = so_far.members;
+        to = to;
+        units = units.0;
+        state = s;
+        of_document = units.1;
+        leads = so_far.leads;
+        moved = subst (λ (x : Fraction). last_state x at_origin so_far.members ≡ Ok s) units.2 so_far.moved;
+        asked = inl so_far.asked;
+      }
+
+  asked_at_most : (k : FontKey) (at : ℕ) (rest : Decoded → Course) (now : Option (List FontKey)) → to ≡ Asks k at rest → GrewByAtMost new now k
+      → GrewBy old now (looks_of so_far.members)
+      ⊎ ((k : FontKey) × (at : ℕ) × (rest : Decoded → Course) × (to ≡ Asks k at rest) × GrewBy old now (looks_of so_far.members ++ k ∷ []))
+  asked_at_most k at rest now asks (inl same) = inl (subst (λ (x : Option (List FontKey)). GrewBy old x (looks_of so_far.members)) (sym same) so_far.asked)
+  asked_at_most k at rest now asks (inr grew) = inr (k, at, rest, asks, grew_more old new now (looks_of so_far.members) (k ∷ []) so_far.asked grew)
+
+  pub broken_at_look : (k : FontKey) (at : ℕ) (rest : Decoded → Course) (now : Option (List FontKey)) → to ≡ Asks k at rest → GrewByAtMost new now k
+      → IsBroken Finds indexed i old now
+  broken_at_look k at rest now asks grew =
+      let units = units_from (document_units indexed.res indexed.reading) c conv in
+      record {
+        members = so_far.members;
+        to = to;
+        units = units.0;
+        state = s;
+        of_document = units.1;
+        leads = so_far.leads;
+        moved = subst (λ (x : Fraction). last_state x at_origin so_far.members ≡ Ok s) units.2 so_far.moved;
+        asked = asked_at_most k at rest now asks grew;
+      }
+
+  -- a flat command stops the page
+  pub pen_stop : (f : FlatCommand) (g : Option Glyph) (at : ℕ) (rest : Course) → to ≡ Gives f g at rest → (why : PageStop) → IsPenStop (after c s f) at why
+      → IsStop Finds indexed sheet i why old new
+  pen_stop f g at rest gives (stop.Fault fault place) h =
+      let value = fault_at (seen_fault fault) place in
+      let same : value ≡ fault_at (Pen h.0) at = ap₂ fault_at h.2 h.3 in
+      drawn_so_far value (subst (λ (x : Course). EndsIn c s page x value) (sym gives) (h.0, h.1, same))
+  pen_stop f g at rest gives stop.SourceFault h = absurd h
+  pen_stop f g at rest gives stop.NoMemory h = broken_so_far
+
+  -- the page is at its end
+  pub end_drawn : (at : ℕ) → to ≡ Ends at → (r : Result Bitmap PageStop) → IfOk r (λ done. ended_with s.saved at page ≡ Ok done)
+      → IfOk r (λ done. IsDrawn Finds indexed sheet i (Ok done) old new)
+  end_drawn at ends (Ok done) h = drawn_so_far (Ok done) (subst (λ (x : Course). EndsIn c s page x (Ok done)) (sym ends) (sym h))
+  end_drawn at ends (Err why) h = tt
+
+  end_left : (at : ℕ) → to ≡ Ends at → (why : PageStop) → IsLeft why (ended_with s.saved at page) → IsStop Finds indexed sheet i why old new
+  end_left at ends (stop.Fault fault place) h =
+      let value = fault_at (seen_fault fault) place in
+      drawn_so_far value (subst (λ (x : Course). EndsIn c s page x value) (sym ends) (sym h))
+  end_left at ends stop.SourceFault h = absurd h
+  end_left at ends stop.NoMemory h = absurd h
+
+  pub end_stop : (at : ℕ) → to ≡ Ends at → (r : Result Bitmap PageStop) → IfErr r (λ why. IsLeft why (ended_with s.saved at page))
+      → IfErr r (λ why. IsStop Finds indexed sheet i why old new)
+  end_stop at ends (Ok done) h = tt
+  end_stop at ends (Err why) h = end_left at ends why h
+
+  -- the expander stops
+  pub stop_drawn : (fault : PageFault) (at place : ℕ) → to ≡ Stops (seen_fault fault) at → place ≡ at → IsStop Finds indexed sheet i (stop.Fault fault place) old new
+  stop_drawn fault at place stops here =
+      let value = fault_at (seen_fault fault) place in
+      drawn_so_far value (subst (λ (x : Course). EndsIn c s page x value) (sym stops) (ap (fault_at (seen_fault fault)) here))
+
+-- a page's course leads to itself before anything was done
+pub broken_at_first : (Finds : Finding) (indexed : Indexed) (i : ℕ) (c : Fraction) (old : Option (List FontKey))
+    → option_map conversion (document_units indexed.res indexed.reading) ≡ Some c → IsBroken Finds indexed i old old
+broken_at_first Finds indexed i c old conv =
+    let units = units_from (document_units indexed.res indexed.reading) c conv in
+    record {
+      members = [];
+      to = course_of indexed.reading i;
+      units = units.0;
+      state = at_origin;
+      of_document = units.1;
+      leads = refl;
+      moved = refl;
+      asked = inl (grew_none old);
+    }
+
+-- ---- nothing is saved, or something
+
+pub whole_end : (saved : List Registers) (eop : ℕ) (page : Bitmap) → saved ≡ [] → ended_with saved eop page ≡ Ok page
+whole_end saved eop page e = ap (λ (r : List Registers). ended_with r eop page) e
+
+pub left_end : (saved : List Registers) (eop : ℕ) (page : Bitmap) → saved ≢ [] → ended_with saved eop page ≡ fault_at (Pen StackLeft) eop
+left_end [] eop page some = absurd (some refl)
+left_end (r ∷ saved) eop page some = refl
+
+-- a count that rose later rose
+pub rose_on : (a b c : ℕ) → a ≤ b → Rose b c → Rose a c
+rose_on a b c h (inl more) = inl (omega (arith, h, more))
+rose_on a b c h (inr last) = inr last

@@ -1,0 +1,164 @@
+-- A page's list grows by one member at its end.
+use Rattle.std.proofs.Common.{◌≡◌, ℕ, List, [], ◌∷◌, ◌++◌, refl, sym, ap, subst, ◌∙◌, append_assoc, append-nil, Option, Some, None, Result, Ok, Err}
+use Rattle.std.specs.Option.{option_map}
+use Rattle.outside.specs.declared.keys.FontKey.{FontKey}
+use Rattle.pixel_round.specs.Pixels.{Fraction}
+use Rattle.drift_rules.specs.Position.{FlatCommand, State, after, at_origin}
+use Rattle.drift_rules.specs.Marks.{mark_of}
+use Rattle.drift_rules.specs.declared.faults.PenFault.{PenFault}
+use Rattle.packed_rows.specs.Bitmap.{Bitmap}
+use Rattle.pk_runs.specs.declared.glyph.Glyph.{Glyph}
+use Rattle.raster_page.specs.Ink.{Inked, page_of}
+use Rattle.font_decode.specs.Desks.{GrewBy}
+use Rattle.font_decode.specs.declared.decoded.Decoded.{Decoded}
+use Rattle.vf_expand.specs.Course.{Course, Gives, Asks}
+use Rattle.page_draw.specs.Sheets.{inks_of}
+use Rattle.page_draw.specs.Members.{Member, Flat, Look, Finding, Leads, looks_of, and_then, last_state, behind, marks_from}
+use Rattle.page_draw.specs.Values.{bitmap_of}
+use Rattle.page_draw.specs.declared.sheet.Sheet.{Sheet}
+
+abbrev with_flat : List Member → FlatCommand → Option Glyph → ℕ → List Member
+with_flat members f g at = members ++ Flat f g at ∷ []
+
+abbrev with_look : List Member → FontKey → ℕ → List Member
+with_look members k at = members ++ Look k at ∷ []
+
+leads_flat : (Finds : Finding) (from : Course) (members : List Member) (f : FlatCommand) (g : Option Glyph) (at : ℕ) (to : Course)
+    → Leads Finds from members (Gives f g at to) → Leads Finds from (with_flat members f g at) to
+leads_flat Finds from [] f g at to leads = (to, leads, refl)
+leads_flat Finds from (Flat f' g' at' ∷ members) f g at to leads = (leads.0, leads.1, leads_flat Finds leads.0 members f g at to leads.2)
+leads_flat Finds from (Look k' at' ∷ members) f g at to leads = (leads.0, leads.1, leads.2, leads.3, leads_flat Finds (leads.0 leads.1) members f g at to leads.4)
+
+leads_look : (Finds : Finding) (from : Course) (members : List Member) (k : FontKey) (at : ℕ) (rest : Decoded → Course) (d : Decoded)
+    → Leads Finds from members (Asks k at rest) → Finds k d → Leads Finds from (with_look members k at) (rest d)
+leads_look Finds from [] k at rest d leads found = (rest, d, leads, found, refl)
+leads_look Finds from (Flat f' g' at' ∷ members) k at rest d leads found = (leads.0, leads.1, leads_look Finds leads.0 members k at rest d leads.2 found)
+leads_look Finds from (Look k' at' ∷ members) k at rest d leads found =
+    (leads.0, leads.1, leads.2, leads.3, leads_look Finds (leads.0 leads.1) members k at rest d leads.4 found)
+
+looks_flat : (members : List Member) (f : FlatCommand) (g : Option Glyph) (at : ℕ) → looks_of (with_flat members f g at) ≡ looks_of members
+looks_flat [] f g at = refl
+looks_flat (Flat f' g' at' ∷ members) f g at = looks_flat members f g at
+looks_flat (Look k' at' ∷ members) f g at = ap (λ (keys : List FontKey). k' ∷ keys) (looks_flat members f g at)
+
+looks_look : (members : List Member) (k : FontKey) (at : ℕ) → looks_of (with_look members k at) ≡ looks_of members ++ k ∷ []
+looks_look [] k at = refl
+looks_look (Flat f' g' at' ∷ members) k at = looks_look members k at
+looks_look (Look k' at' ∷ members) k at = ap (λ (keys : List FontKey). k' ∷ keys) (looks_look members k at)
+
+-- ---- states and marks
+
+-- a state behind one member and others
+pub apart : (c : Fraction) (r : Result State PenFault) (members : List Member) (t : State) → and_then r (λ u. last_state c u members) ≡ Ok t
+    → (u : State) × (r ≡ Ok u) × (last_state c u members ≡ Ok t)
+apart c (Ok u) members t e = (u, refl, e)
+apart c (Err fault) members t e = absurd cc
+
+state_flat : (c : Fraction) (s t u : State) (members : List Member) (f : FlatCommand) (g : Option Glyph) (at : ℕ) → last_state c s members ≡ Ok t → after c t f ≡ Ok u
+    → last_state c s (with_flat members f g at) ≡ Ok u
+state_flat c s t u [] f g at e moved =
+    let same : s ≡ t = cc in
+    ap (λ (r : Result State PenFault). and_then r (λ v. last_state c v [])) (ap (λ (x : State). after c x f) same ∙ moved)
+state_flat c s t u (Flat f' g' at' ∷ members) f g at e moved =
+    let there = apart c (after c s f') members t e in
+    ap (λ (r : Result State PenFault). and_then r (λ v. last_state c v (with_flat members f g at))) there.1 ∙ state_flat c there.0 t u members f g at there.2 moved
+state_flat c s t u (Look k' at' ∷ members) f g at e moved = state_flat c s t u members f g at e moved
+
+state_behind : (c : Fraction) (r : Result State PenFault) (members others : List Member) → ((u : State) → last_state c u members ≡ last_state c u others)
+    → and_then r (λ u. last_state c u members) ≡ and_then r (λ u. last_state c u others)
+state_behind c (Ok u) members others same = same u
+state_behind c (Err fault) members others same = refl
+
+state_look : (c : Fraction) (s : State) (members : List Member) (k : FontKey) (at : ℕ) → last_state c s (with_look members k at) ≡ last_state c s members
+state_look c s [] k at = refl
+state_look c s (Flat f' g' at' ∷ members) k at = state_behind c (after c s f') (with_look members k at) members (λ u. state_look c u members k at)
+state_look c s (Look k' at' ∷ members) k at = state_look c s members k at
+
+nothing_behind : (r : Result State PenFault) → behind r (λ u. []) ≡ []
+nothing_behind (Ok u) = refl
+nothing_behind (Err fault) = refl
+
+marks_flat : (c : Fraction) (sheet : Sheet) (s t : State) (members : List Member) (f : FlatCommand) (g : Option Glyph) (at : ℕ) → last_state c s members ≡ Ok t
+    → marks_from c sheet s (with_flat members f g at) ≡ marks_from c sheet s members ++ inks_of sheet (mark_of c t.now f) g
+marks_flat c sheet s t [] f g at e =
+    let same : s ≡ t = cc in
+    ap (λ (marks : List Inked). inks_of sheet (mark_of c s.now f) g ++ marks) (nothing_behind (after c s f)) ∙ append-nil (inks_of sheet (mark_of c s.now f) g)
+    ∙ ap (λ (x : State). inks_of sheet (mark_of c x.now f) g) same
+marks_flat c sheet s t (Flat f' g' at' ∷ members) f g at e =
+    let there = apart c (after c s f') members t e in
+    let own = inks_of sheet (mark_of c s.now f') g' in
+    ap (λ (r : Result State PenFault). own ++ behind r (λ v. marks_from c sheet v (with_flat members f g at))) there.1
+    ∙ ap (λ (marks : List Inked). own ++ marks) (marks_flat c sheet there.0 t members f g at there.2)
+    ∙ sym (append_assoc own (marks_from c sheet there.0 members) (inks_of sheet (mark_of c t.now f) g))
+    ∙ ap (λ (r : Result State PenFault). (own ++ behind r (λ v. marks_from c sheet v members)) ++ inks_of sheet (mark_of c t.now f) g) (sym there.1)
+marks_flat c sheet s t (Look k' at' ∷ members) f g at e = marks_flat c sheet s t members f g at e
+
+marks_look : (c : Fraction) (sheet : Sheet) (s t : State) (members : List Member) (k : FontKey) (at : ℕ) → last_state c s members ≡ Ok t
+    → marks_from c sheet s (with_look members k at) ≡ marks_from c sheet s members
+marks_look c sheet s t [] k at e = refl
+marks_look c sheet s t (Flat f' g' at' ∷ members) k at e =
+    let there = apart c (after c s f') members t e in
+    let own = inks_of sheet (mark_of c s.now f') g' in
+    ap (λ (r : Result State PenFault). own ++ behind r (λ v. marks_from c sheet v (with_look members k at))) there.1
+    ∙ ap (λ (marks : List Inked). own ++ marks) (marks_look c sheet there.0 t members k at there.2)
+    ∙ ap (λ (r : Result State PenFault). own ++ behind r (λ v. marks_from c sheet v members)) (sym there.1)
+marks_look c sheet s t (Look k' at' ∷ members) k at e = marks_look c sheet s t members k at e
+
+-- ---- the keys asked for
+
+pub grew_none : (old : Option (List FontKey)) → GrewBy old old []
+grew_none None = refl
+grew_none (Some keys) = ap Some (sym (append-nil keys))
+
+pub grew_more : (old mid new : Option (List FontKey)) (first second : List FontKey) → GrewBy old mid first → GrewBy mid new second → GrewBy old new (first ++ second)
+grew_more None mid new first second e h = h ∙ ap (option_map (λ keys. keys ++ second)) e
+grew_more (Some keys) mid new first second e h = h ∙ ap (option_map (λ asked. asked ++ second)) e ∙ ap Some (append_assoc keys first second)
+
+-- ---- a page as far as it was drawn
+
+-- the members that were taken lead here, moved the pen to this state and set what the page has; the keys asked for are their look-ups
+pub record IsSoFar (Finds : Finding) (c : Fraction) (sheet : Sheet) (from to : Course) (s : State) (page : Bitmap) (old new : Option (List FontKey)) : Type 0 where
+  pub members : List Member
+  pub leads : Leads Finds from members to
+  pub moved : last_state c at_origin members ≡ Ok s
+  pub has : page ≡ bitmap_of c sheet members
+  pub asked : GrewBy old new (looks_of members)
+
+pub so_far_none : (Finds : Finding) (c : Fraction) (sheet : Sheet) (from to : Course) (s : State) (page : Bitmap) (old : Option (List FontKey)) → to ≡ from → s ≡ at_origin
+    → page ≡ page_of sheet.width sheet.height [] → IsSoFar Finds c sheet from to s page old old
+so_far_none Finds c sheet from to s page old begins origin blank =
+    record { members = []; leads = sym begins; moved = ap Ok (sym origin); has = blank; asked = grew_none old }
+
+module _ (Finds : Finding) (c : Fraction) (sheet : Sheet) (from to : Course) (s : State) (page : Bitmap) (old new : Option (List FontKey))
+    (so_far : IsSoFar Finds c sheet from to s page old new) where
+  -- one flat command more, whose marks were set
+  pub so_far_flat : (f : FlatCommand) (g : Option Glyph) (at : ℕ) (rest : Course) (t : State) (page' : Bitmap) → to ≡ Gives f g at rest → after c s f ≡ Ok t
+      → ((done : List Inked) → page ≡ page_of sheet.width sheet.height done → page' ≡ page_of sheet.width sheet.height (done ++ inks_of sheet (mark_of c s.now f) g))
+      → IsSoFar Finds c sheet from rest t page' old new
+  so_far_flat f g at rest t page' gives moved inked =
+      let members = so_far.members in
+      record {
+        members = with_flat members f g at;
+        leads = leads_flat Finds from members f g at rest (subst (Leads Finds from members) gives so_far.leads);
+        moved = state_flat c at_origin s t members f g at so_far.moved moved;
+        has = inked (marks_from c sheet at_origin members) so_far.has
+            ∙ ap (λ (marks : List Inked). page_of sheet.width sheet.height marks) (sym (marks_flat c sheet at_origin s members f g at so_far.moved));
+        asked = subst (GrewBy old new) (sym (looks_flat members f g at)) so_far.asked;
+      }
+
+  -- one look-up more, whose key was asked for
+  pub so_far_look : (k : FontKey) (at : ℕ) (rest : Decoded → Course) (d : Decoded) (now : Option (List FontKey)) → to ≡ Asks k at rest → Finds k d → GrewBy new now (k ∷ [])
+      → IsSoFar Finds c sheet from (rest d) s page old now
+  so_far_look k at rest d now asks found grew =
+      let members = so_far.members in
+      record {
+        members = with_look members k at;
+        leads = leads_look Finds from members k at rest d (subst (Leads Finds from members) asks so_far.leads) found;
+        moved = state_look c at_origin members k at ∙ so_far.moved;
+        has = so_far.has ∙ ap (λ (marks : List Inked). page_of sheet.width sheet.height marks) (sym (marks_look c sheet at_origin s members k at so_far.moved));
+        asked = subst (GrewBy old now) (sym (looks_look members k at)) (grew_more old new now (looks_of members) (k ∷ []) so_far.asked grew);
+      }
+
+  -- the same where what is left is written in another way
+  pub so_far_same : (to' : Course) → to' ≡ to → IsSoFar Finds c sheet from to' s page old new
+  so_far_same to' e = record { members = so_far.members; leads = subst (Leads Finds from so_far.members) (sym e) so_far.leads; moved = so_far.moved; has = so_far.has; asked = so_far.asked }

@@ -1,0 +1,6 @@
+pub mod Sheets
+pub mod Members
+pub mod Values
+pub mod Drawn
+pub mod PlainDesks
+pub mod Laws

@@ -1,0 +1,83 @@
+//! A desk without a cache.
+ghost use Rattle.std.specs.Prelude.{◌≡◌, ◌^◌, Some, refl};
+ghost use Rattle.font_decode.specs.Names.{IsUnits};
+
+use font_decode::{Decoded, Desk, DeskStop, decode, fetch};
+use outside::{FontKey, FontSource, LoadStop};
+use pixel_round::Units;
+use std::alloc::Global;
+use std::marker::Model;
+use std::sync::{Arc, Wait};
+
+/// A desk that loads and decodes a font each time it is asked for one. It tells the library of its source,
+/// where that tells one, and the units; not which keys were asked for.
+#[derive(Drop)]
+pub struct PlainDesk<F: FontSource> {
+    source: F,
+    units: Units,
+}
+
+impl<F: FontSource> Model for PlainDesk<F> {
+    ghost use Rattle.font_decode.specs.Names.{IsUnits};
+    ghost use Rattle.page_draw.specs.PlainDesks.{PlainView};
+
+    ghost Value = { PlainView F };
+
+    ghost view = { λ d. record { source = d.source; units = d.units } };
+
+    ghost invariant = { λ d. IsUnits d.units };
+}
+
+impl<F: FontSource> PlainDesk<F> {
+    /// A desk over a source, for the units of a document.
+    pub fn new(source: F, units: Units) -> PlainDesk<F>
+        requires { IsUnits units }
+        ensures { result ≡ record { source = source; units = units } }
+    {
+        PlainDesk { source, units }
+    }
+
+    /// Gives the source back.
+    pub fn finish(self) -> F
+        ensures { result ≡ self.source }
+    {
+        self.source
+    }
+}
+
+impl<F: FontSource> Desk for PlainDesk<F> {
+    type Shared = ();
+
+    ghost library = { λ d. F.library d.source };
+
+    ghost units = { λ d. Some d.units };
+
+    ghost fits = { λ d shared. Unit {0} };
+
+    ghost faults = { λ d. F.faults d.source };
+
+    ghost room = { λ d. 2 ^ 48 };
+
+    ghost told = { λ d some. refl };
+
+    fn font<R: Wait>(
+        &mut self,
+        _rt: &R,
+        alloc: Global,
+        _shared: &(),
+        key: &Arc<FontKey>,
+    ) -> Result<Arc<Decoded>, DeskStop> {
+        let files = match fetch(alloc, &mut self.source, key, &self.units) {
+            Ok(files) => files,
+            Err(LoadStop::Failed) => return Err(DeskStop::SourceFault),
+            Err(LoadStop::NoMemory) => return Err(DeskStop::NoMemory),
+        };
+        let Ok(decoded) = decode(alloc, key, &files, &self.units) else {
+            return Err(DeskStop::NoMemory);
+        };
+        match Arc::new(alloc, decoded) {
+            Ok(font) => Ok(font),
+            Err(_) => Err(DeskStop::NoMemory),
+        }
+    }
+}
