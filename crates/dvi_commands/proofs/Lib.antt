@@ -9,3 +9,5 @@ pub mod Numbered
 pub mod Texts
 pub mod OneCommand
 pub mod Written
+pub mod FieldNumbers
+pub mod Unrefused

@@ -11,7 +11,7 @@ use Rattle.dvi_commands.proofs.Opcodes.{IsRow, no_text, row_size}
 use Rattle.dvi_commands.proofs.Prefix.{wide}
 
 -- an opcode that holds the number itself
-alone : (op : ℕ) (fields text : List ℕ) → op < 239 → fixed_size op ≡ 0 → length fields ≡ fixed_size op → length text ≡ text_size op fields → fields ++ text ≡ []
+pub alone : (op : ℕ) (fields text : List ℕ) → op < 239 → fixed_size op ≡ 0 → length fields ≡ fixed_size op → length text ≡ text_size op fields → fields ++ text ≡ []
 alone op fields text low none whole behind = ap (λ t. fields ++ t) (no_text op fields text low behind) ∙ append-nil fields ∙ nothing fields (whole ∙ none)
 
 pub opcode_set : (op : ℕ) (fields text : List ℕ) (w : ℤ) → op ≤ 127 → w ≡ pos op → length fields ≡ fixed_size op → length text ≡ text_size op fields → Spells (Set w) (op ∷ (fields ++ text))

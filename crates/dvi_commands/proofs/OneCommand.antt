@@ -67,7 +67,7 @@ define_told : (behind : List ℕ) (n : ℕ) → 1 ≤ n → n ≤ 4 → Told beh
 define_told behind n low high =
     by_width (λ n. Told behind (242 + n)) (lengths_told 1 behind, refl) (lengths_told 2 behind, refl) (lengths_told 3 behind, refl) (lengths_told 4 behind, refl) n low high
 
-told : (op : ℕ) (behind : List ℕ) → op ≤ 249 → Told behind op
+pub told : (op : ℕ) (behind : List ℕ) → op ≤ 249 → Told behind op
 told op behind known = by_kind (Told behind) op (plain_told behind op) (special_told behind) (define_told behind) (get_or-take 14 behind 13 0 (omega arith), refl) (refl, refl) (refl, refl) known
 
 pub negative : (place : Context) (bytes : List ℕ) (at size : ℕ) (fields : List ℕ) → at < length bytes → slice_index bytes at ≤ 249 → may_stand place (slice_index bytes at) ≡ true

@@ -7,6 +7,10 @@ use Rattle.dvi_commands.specs.declared.command.Context.TheVariants as context
 use Rattle.dvi_commands.specs.declared.command.CommandFault.{CommandFault}
 use Rattle.dvi_commands.specs.declared.command.CommandFault.TheVariants.{Short, Undefined, Misplaced, NegativeLength}
 
+-- the last opcode of a command, that of PostPost
+abbrev pub LAST_OPCODE : ℕ
+LAST_OPCODE = 249
+
 -- by the opcode, in the order of the table's last column
 abbrev pub may_stand : Context → ℕ → Bool
 may_stand context.Start op = op == 247
@@ -62,7 +66,7 @@ text_size op fields =
 abbrev pub refusal : Context → List ℕ → Option CommandFault
 refusal place [] = Some Short
 refusal place (op ∷ fields) =
-    if nat_lt 249 op then Some (Undefined op)
+    if nat_lt LAST_OPCODE op then Some (Undefined op)
     else if not (may_stand place op) then Some (Misplaced op)
     else if nat_lt (length fields) (fixed_size op) then Some Short
     else if tells_negative_length op fields then Some NegativeLength

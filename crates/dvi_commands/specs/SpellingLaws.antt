@@ -1,5 +1,6 @@
 -- Laws over spellings: they tell the commands apart, and a shortest one is the least.
 use Rattle.std.specs.Prelude.{◌≡◌, ℕ, ◌≤◌, List, ◌++◌, length, slice_index, IsTrue, None}
+use Rattle.big_endian.specs.Numbers.{AreBytes}
 use Rattle.dvi_commands.specs.Spelling.{DviCommand, Spells}
 use Rattle.dvi_commands.specs.ShortestSpelling.{shortest_spelling}
 use Rattle.dvi_commands.specs.Refusal.{may_stand, refusal}
@@ -24,6 +25,10 @@ SpellingTellsTheCommand = (c d : DviCommand) (bytes : List ℕ) → Spells c byt
 -- what spells a command that may stand there is not refused, whatever follows
 abbrev pub SpelledIsNotRefused : Type 0
 SpelledIsNotRefused = (place : Context) (c : DviCommand) (bytes more : List ℕ) → Spells c bytes → IsTrue (may_stand place (slice_index bytes 0)) → refusal place (bytes ++ more) ≡ None
+
+-- bytes that are not refused begin with a spelling of a command that may stand there
+abbrev pub UnrefusedIsSpelled : Type 0
+UnrefusedIsSpelled = (place : Context) (bytes : List ℕ) → AreBytes bytes → refusal place bytes ≡ None → (c : DviCommand) × (front : List ℕ) × (rest : List ℕ) × Begins place c front rest bytes
 
 -- the shortest spelling is one, and no other is shorter
 abbrev pub ShortestIsLeast : Type 0

@@ -2,7 +2,7 @@
 
 ghost use Rattle.std.specs.Prelude.{◌≡◌, ◌≤◌, ◌+◌, ◌-◌, ◌∷◌, ◌++◌, false, length, slice_index, slice_range};
 ghost use Rattle.big_endian.specs.Numbers.{IsSigned, number_bytes};
-ghost use Rattle.dvi_commands.specs.Refusal.{fixed_size, tells_negative_length, text_size};
+ghost use Rattle.dvi_commands.specs.Refusal.{LAST_OPCODE, fixed_size, tells_negative_length, text_size};
 ghost use Rattle.dvi_commands.specs.Spelling.{IsNumber, Spells, quad, seen};
 
 use crate::command::{Command, FontDef};
@@ -103,7 +103,7 @@ fn postamble<'a>(fields: &[u8]) -> Command<'a>
 
 /// The command with an opcode.
 pub(crate) fn command_with<'a>(opcode: u8, fields: &[u8], text: &'a [u8]) -> Command<'a>
-    requires known { opcode ≤ 249 }
+    requires known { opcode ≤ LAST_OPCODE }
     requires whole { length fields.now ≡ fixed_size opcode }
     requires text { length text.now ≡ text_size opcode fields.now }
     requires not_negative { tells_negative_length opcode fields.now ≡ false }

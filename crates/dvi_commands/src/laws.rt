@@ -1,15 +1,17 @@
 //! Laws over spellings, each the contract of a function without a body.
 
 ghost use Rattle.dvi_commands.specs.Reading.{CommandsFirst, NothingBehindTheLast, PlacedFirst};
-ghost use Rattle.dvi_commands.specs.SpellingLaws.{NoSpellingBeginsAnother, NoSpellingIsAProperPrefix, ShortestIsLeast, SpelledIsNotRefused, SpellingTellsTheCommand, WrittenIsReadBack};
+ghost use Rattle.dvi_commands.specs.SpellingLaws.{NoSpellingBeginsAnother, NoSpellingIsAProperPrefix, ShortestIsLeast, SpelledIsNotRefused, SpellingTellsTheCommand, UnrefusedIsSpelled, WrittenIsReadBack};
 
-/// No spelling of a command is a proper prefix of another spelling, a spelling tells its command, and what
-/// spells a command is not refused where it may stand.
+/// No spelling of a command is a proper prefix of another spelling, a spelling tells its command, what
+/// spells a command is not refused where it may stand, and bytes that are not refused begin with a
+/// spelling of a command.
 pub fn spellings()
     ensures apart { NoSpellingBeginsAnother }
     ensures no_prefix { NoSpellingIsAProperPrefix }
     ensures told { SpellingTellsTheCommand }
     ensures accepted { SpelledIsNotRefused }
+    ensures spelled { UnrefusedIsSpelled }
 {}
 
 /// The shortest spelling is one, and no other is shorter.

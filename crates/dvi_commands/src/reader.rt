@@ -2,7 +2,7 @@
 
 ghost use Rattle.std.specs.Prelude.{◌≡◌, ◌≤◌, ◌<◌, ◌+◌, ◌-◌, ◌∷◌, ◌++◌, ◌↔◌, ℕ, List, length, drop, slice_index, slice_range, Some, IsTrue, IfOk, IfErr, IfSome, IsNone, IsOkAnd};
 ghost use Rattle.dvi_commands.specs.Reading.{Begins, Reads, commands_of, placed, placed_from};
-ghost use Rattle.dvi_commands.specs.Refusal.{fixed_size, may_stand, refusal, tells_negative_length, text_size};
+ghost use Rattle.dvi_commands.specs.Refusal.{LAST_OPCODE, fixed_size, may_stand, refusal, tells_negative_length, text_size};
 ghost use Rattle.dvi_commands.specs.Spelling.{DviCommand, Spells, seen};
 
 use crate::command::{Command, CommandFault, Context};
@@ -50,7 +50,7 @@ fn is_allowed(context: Context, opcode: u8) -> bool
 
 /// How many bytes the fields have, without a text.
 fn field_size(opcode: u8) -> usize
-    requires { opcode ≤ 249 }
+    requires { opcode ≤ LAST_OPCODE }
     ensures { result ≡ fixed_size opcode }
 {
     FIELD_SIZES[opcode as usize] as usize
@@ -58,7 +58,7 @@ fn field_size(opcode: u8) -> usize
 
 /// How long the text behind the fields is, or `None` where the length of a special is negative.
 fn text_length(opcode: u8, fields: &[u8]) -> Option<usize>
-    requires known { opcode ≤ 249 }
+    requires known { opcode ≤ LAST_OPCODE }
     requires whole { length fields.now ≡ fixed_size opcode }
     ensures negative { IsNone result ↔ IsTrue (tells_negative_length opcode fields.now) }
     ensures told { IfSome result (λ n. n ≡ text_size opcode fields.now) }

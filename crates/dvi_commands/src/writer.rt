@@ -20,6 +20,9 @@ use std::alloc::{AllocError as NoMemory, Global};
 /// Appends the shortest spelling of the command: motions in the least number of bytes that holds them
 /// signed, other numbers below 2^24 in the least that holds them unsigned.
 ///
+/// The text of a special has at most 2^31 - 1 bytes and that of a preamble at most 255; the area of a font
+/// is part of its name, and the rest of the name has at most 255 bytes.
+///
 /// Where memory is wanting, `out` is as before: the room for the whole spelling is made at once. Knuth,
 /// DVItype, "Device-independent file format".
 pub fn write_command(_alloc: Global, command: &Command, out: &mut Vec<u8>) -> Result<(), NoMemory>

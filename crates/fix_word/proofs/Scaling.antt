@@ -1,10 +1,11 @@
 -- The shift is the least one, and DVItype's nested divisions are the one floor.
-use Rattle.std.proofs.Common.{◌≡◌, ℕ, zero, suc, ◌+◌, ◌-◌, ◌*◌, ◌/◌, ◌^◌, ◌<◌, ◌≤◌, ℤ, pos, negsuc, ◌-ℤ◌, ◌*ℤ◌, neg_ℤ, ltb, refl, sym, ap, subst, ◌∙◌, arith, inl, inr}
+use Rattle.std.proofs.Common.{◌≡◌, ℕ, zero, suc, ◌+◌, ◌-◌, ◌*◌, ◌/◌, ◌^◌, ◌<◌, ◌≤◌, ℤ, pos, negsuc, ◌-ℤ◌, ◌*ℤ◌, neg_ℤ, [], ◌∷◌, ltb, refl, sym, ap, subst, ◌∙◌, arith, inl, inr}
 use Rattle.std.specs.Prelude.{◌==◌, if◌then◌else◌}
 use Rattle.std.specs.Int.{int_div_euclid}
-use Rattle.std.proofs.lemmas.Bool.{cond_both, ltb-true, ltb-false}
+use Rattle.std.proofs.lemmas.Bool.{cond_both, ltb-true, ltb-false, lt-ltb, le-ltb}
 use Rattle.std.proofs.lemmas.Int.{ints}
-use Rattle.fix_word.specs.Scale.{IsShift, shift, fix_word_of, scale, nested_divisions, NestedDivisionsScale, ShiftIsLeast}
+use Rattle.big_endian.specs.Numbers.{signed_of}
+use Rattle.fix_word.specs.Scale.{IsShift, shift, scale, nested_divisions, NestedDivisionsScale, ShiftIsLeast}
 
 -- what holds at each shift, with the sizes that have it, holds at the shift of a size
 shift_cases : (z : ℕ) → z < 2 ^ 27 → (P : ℕ → Type 0) → (z < 2 ^ 23 → P 0) → (2 ^ 23 ≤ z → z < 2 ^ 24 → P 1) → (2 ^ 24 ≤ z → z < 2 ^ 25 → P 2)
@@ -45,9 +46,12 @@ shift_is_least z h = shift_cases z h (λ j. IsShift z j)
     (λ le lt. record { below = omega arith; least = λ i p. least_3 z i le p })
     (λ le. record { below = omega arith; least = λ i p. least_4 z i le p })
 
--- a fix_word by its four bytes, where the first is 0 or 255
+-- a fix_word by its last three bytes, where the first is 0 or 255
 abbrev low : ℕ → ℕ → ℕ → ℕ
 low b c d = 65536 * b + 256 * c + d
+
+abbrev fix_word_of : ℕ → ℕ → ℕ → ℕ → ℤ
+fix_word_of first b c d = if first == 0 then pos (low b c d) else pos (low b c d) -ℤ pos (2 ^ 24)
 
 signed_255 : (b c d : ℕ) → b < 256 → c < 256 → d < 256 → pos (low b c d) -ℤ pos (2 ^ 24) ≡ negsuc (2 ^ 24 - 1 - low b c d)
 signed_255 b c d hb hc hd = omega (arith, ints)
@@ -160,6 +164,23 @@ claim_255 b c d size hb hc hd h = shift_cases size h (Claim 255 b c d size)
     (λ le lt. scaled_255 b c d (size / 8 * 8) _ _ hb hc hd (nested_2 (b * (size / 8)) (c * (size / 8)) (d * (size / 8)) ∙ ap (λ (k : ℕ). k / 1048576) (regrouped_8 b c d (size / 8))) (moved_8 (size / 8)))
     (λ le. scaled_255 b c d (size / 16 * 16) _ _ hb hc hd (nested_1 (b * (size / 16)) (c * (size / 16)) (d * (size / 16)) ∙ ap (λ (k : ℕ). k / 1048576) (regrouped_16 b c d (size / 16))) (moved_16 (size / 16)))
 
+-- and it is the number that the bytes spell in two's complement
+word_0 : (b c d : ℕ) → b < 256 → c < 256 → d < 256 → fix_word_of 0 b c d ≡ signed_of (0 ∷ b ∷ c ∷ d ∷ [])
+word_0 b c d hb hc hd =
+    let spelt : low b c d ≡ 0 * 256 ^ 3 + (b * 256 ^ 2 + (c * 256 ^ 1 + (d * 256 ^ 0 + 0))) = omega arith in
+    let small : 2 * (0 * 256 ^ 3 + (b * 256 ^ 2 + (c * 256 ^ 1 + (d * 256 ^ 0 + 0)))) < 256 ^ 4 = omega arith in
+    rw (lt-ltb _ _ small) (ap pos spelt)
+
+word_255 : (b c d : ℕ) → b < 256 → c < 256 → d < 256 → fix_word_of 255 b c d ≡ signed_of (255 ∷ b ∷ c ∷ d ∷ [])
+word_255 b c d hb hc hd =
+    let large : 256 ^ 4 ≤ 2 * (255 * 256 ^ 3 + (b * 256 ^ 2 + (c * 256 ^ 1 + (d * 256 ^ 0 + 0)))) = omega arith in
+    let left : 2 ^ 24 - 1 - low b c d ≡ 256 ^ 4 - 1 - (255 * 256 ^ 3 + (b * 256 ^ 2 + (c * 256 ^ 1 + (d * 256 ^ 0 + 0)))) = omega arith in
+    rw (le-ltb _ _ large) (signed_255 b c d hb hc hd ∙ ap negsuc left)
+
 pub nested_divisions_scale : NestedDivisionsScale
-nested_divisions_scale first b c d size (inl e) hb hc hd h = subst (λ (f : ℕ). nested_divisions f b c d size ≡ scale (fix_word_of f b c d) size) (sym e) (claim_0 b c d size hb hc hd h)
-nested_divisions_scale first b c d size (inr e) hb hc hd h = subst (λ (f : ℕ). nested_divisions f b c d size ≡ scale (fix_word_of f b c d) size) (sym e) (claim_255 b c d size hb hc hd h)
+nested_divisions_scale first b c d size (inl e) hb hc hd h =
+    subst (λ (f : ℕ). nested_divisions f b c d size ≡ scale (signed_of (f ∷ b ∷ c ∷ d ∷ [])) size) (sym e)
+    (claim_0 b c d size hb hc hd h ∙ ap (λ (x : ℤ). scale x size) (word_0 b c d hb hc hd))
+nested_divisions_scale first b c d size (inr e) hb hc hd h =
+    subst (λ (f : ℕ). nested_divisions f b c d size ≡ scale (signed_of (f ∷ b ∷ c ∷ d ∷ [])) size) (sym e)
+    (claim_255 b c d size hb hc hd h ∙ ap (λ (x : ℤ). scale x size) (word_255 b c d hb hc hd))

@@ -1,7 +1,8 @@
 -- Scaled dimensions: Knuth, DVItype, "Reading the font information", whose computation with alpha and beta gives the same numbers
 -- as the one floor below; and design sizes in DVI units. Exact, with no reals.
-use Rattle.std.specs.Prelude.{◌≡◌, ◌⊎◌, ◌-ℤ◌, ◌==◌, ℕ, ◌+◌, ◌*◌, ◌/◌, ◌^◌, ◌<◌, ◌≤◌, ℤ, pos, ◌*ℤ◌, nat_lt, if◌then◌else◌}
+use Rattle.std.specs.Prelude.{◌≡◌, ◌⊎◌, ◌-ℤ◌, ◌==◌, ℕ, ◌+◌, ◌*◌, ◌/◌, ◌^◌, ◌<◌, ◌≤◌, ℤ, pos, ◌*ℤ◌, [], ◌∷◌, nat_lt, if◌then◌else◌}
 use Rattle.std.specs.Int.{int_div_euclid}
+use Rattle.big_endian.specs.Numbers.{signed_of}
 
 -- j is the least number for which z divided by 2 ^ j is below 2 ^ 23
 pub record IsShift (z j : ℕ) : Type 0 where
@@ -35,12 +36,6 @@ tex_units d num den = half_up (d * 25400000 * den) (num * 473628672 * 16)
 
 -- ---- laws
 
--- the fix_word of four bytes in two's complement, of which the first is 0 or 255
-abbrev pub fix_word_of : ℕ → ℕ → ℕ → ℕ → ℤ
-fix_word_of first b c d =
-    let low = 65536 * b + 256 * c + d in
-    if first == 0 then pos low else pos low -ℤ pos (2 ^ 24)
-
 -- the width that DVItype computes from the last three bytes of a fix_word, and from the first, which is 0 or 255
 abbrev pub nested_divisions : ℕ → ℕ → ℕ → ℕ → ℕ → ℤ
 nested_divisions first b c d size =
@@ -50,9 +45,10 @@ nested_divisions first b c d size =
     let width = (d * z / 256 + c * z) / 256 + b * z in
     if first == 0 then pos (width / beta) else pos (width / beta) -ℤ pos (alpha * z)
 
+-- they are the one floor, of the number that the four bytes spell in two's complement
 abbrev pub NestedDivisionsScale : Type 0
 NestedDivisionsScale = (first b c d size : ℕ) → (first ≡ 0) ⊎ (first ≡ 255) → b < 256 → c < 256 → d < 256 → size < 2 ^ 27
-    → nested_divisions first b c d size ≡ scale (fix_word_of first b c d) size
+    → nested_divisions first b c d size ≡ scale (signed_of (first ∷ b ∷ c ∷ d ∷ [])) size
 
 abbrev pub ShiftIsLeast : Type 0
 ShiftIsLeast = (z : ℕ) → z < 2 ^ 27 → IsShift z (shift z)

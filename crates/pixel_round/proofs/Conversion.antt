@@ -50,7 +50,7 @@ pub round_is_nearest : RoundIsNearest
 round_is_nearest c (pos m) h = round_pos c m h
 round_is_nearest c (negsuc m) h = round_neg c (suc m) h
 
-ceil_least : (a b j : ℕ) → 0 < b → a ≤ j * b → div_ceil a b ≤ j
+pub ceil_least : (a b j : ℕ) → 0 < b → a ≤ j * b → div_ceil a b ≤ j
 ceil_least a b j h reach =
     let bounds = div_ceil_times a b h in
     elim (cases_lt j (div_ceil a b)) [

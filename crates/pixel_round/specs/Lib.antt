@@ -1,2 +1,3 @@
 pub mod Pixels
 pub mod Rows
+pub mod Preamble

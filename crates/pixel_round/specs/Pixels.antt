@@ -9,6 +9,12 @@ pub record Fraction : Type 0 where
   pub top : ℕ
   pub bottom : ℕ
 
+-- two fractions of one value
+pub record AreEqual (a b : Fraction) : Type 0 where
+  pub first : 0 < a.bottom
+  pub second : 0 < b.bottom
+  pub value : a.top * b.bottom ≡ b.top * a.bottom
+
 -- a fraction that lengths are converted by: more than 0 and at most 512 dots for one DVI unit
 pub record IsUsable (c : Fraction) : Type 0 where
   pub top : 0 < c.top
@@ -64,3 +70,7 @@ CeilIsLeast = (c : Fraction) (x : ℤ) → 0 < c.bottom → IsCeil c x (ceil c x
 
 abbrev pub SidesHaveDots : Type 0
 SidesHaveDots = (c : Fraction) (x : ℤ) → IsUsable c → pos 0 <ℤ x → pos 0 <ℤ ceil c x
+
+-- fractions of one value convert alike
+abbrev pub EqualFractionsConvertAlike : Type 0
+EqualFractionsConvertAlike = (a b : Fraction) (x : ℤ) → AreEqual a b → (round a x ≡ round b x) × (ceil a x ≡ ceil b x)

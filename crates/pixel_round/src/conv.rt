@@ -2,8 +2,9 @@
 
 ghost use Rattle.std.specs.Prelude.{◌≡◌, ◌+◌, ◌*◌, ◌/◌, ◌^◌, ◌<◌, ◌≤◌, ◌<ℤ◌, ◌↔◌, pos, unsigned_abs, IfOk, IsErr};
 ghost use Rattle.std.specs.Int.{div_ceil};
-ghost use Rattle.pixel_round.specs.Pixels.{conversion, nearest, round, ceil, IsUsable};
+ghost use Rattle.pixel_round.specs.Pixels.{AreEqual, conversion, nearest, round, ceil, IsUsable};
 
+use crate::quotients::{gcd, quotient, quotient_up};
 use crate::units::Units;
 use std::error::Error;
 use std::fmt;
@@ -25,7 +26,7 @@ impl Error for Scale {}
 #[derive(Clone, Copy, Debug)]
 pub struct Conv {
     top: u128,
-    bottom: u128,
+    bottom: u64,
 }
 
 impl Model for Conv {
@@ -51,16 +52,32 @@ impl Conv {
         requires den { (0 < units.now.den) × (units.now.den < 2 ^ 31) }
         requires mag { (0 < units.now.mag) × (units.now.mag < 2 ^ 31) }
         requires res { (0 < units.now.res) × (units.now.res ≤ 4800) }
-        ensures made { IfOk result (λ c. c ≡ conversion units.now) }
+        ensures made { IfOk result (λ c. AreEqual c (conversion units.now)) }
         ensures usable { IfOk result IsUsable }
         ensures refused { IsErr result ↔ (512 * (conversion units.now).bottom < (conversion units.now).top) }
     {
         let top = u128::from(units.num) * u128::from(units.res) * u128::from(units.mag);
-        let bottom = 254000000 * u128::from(units.den);
-        if top > 512 * bottom {
+        let bottom = 254000000 * u64::from(units.den);
+        if top > 512 * u128::from(bottom) {
             return Err(Scale);
         }
-        Ok(Conv { top, bottom })
+        Ok(Conv::in_lowest_terms(top, bottom))
+    }
+
+    // The fraction in lowest terms, so that most lengths are converted by numbers of 64 bits.
+    fn in_lowest_terms(top: u128, bottom: u64) -> Conv
+        requires above { 0 < top }
+        requires below { 0 < bottom }
+        requires bounded { top ≤ 512 * bottom }
+        requires small { bottom < 2 ^ 59 }
+        ensures same { AreEqual result (record { top = top; bottom = bottom }) }
+        ensures usable { IsUsable result }
+    {
+        let common = gcd(top, bottom);
+        Conv {
+            top: top / u128::from(common),
+            bottom: bottom / common,
+        }
     }
 
     /// A length or a motion in whole dots: the nearest number, and of two such numbers the one farther from zero.
@@ -98,7 +115,10 @@ impl Conv {
         ensures value { result ≡ pos (nearest self.now size) }
         ensures bounded { nearest self.now size ≤ 512 * size + 1 }
     {
-        ((2 * u128::from(size) * self.top + self.bottom) / (2 * self.bottom)) as i64
+        quotient(
+            2 * u128::from(size) * self.top + u128::from(self.bottom),
+            2 * self.bottom,
+        ) as i64
     }
 
     // The greatest whole number of dots that isn't above a size.
@@ -107,7 +127,7 @@ impl Conv {
         ensures value { result ≡ pos (size * self.now.top / self.now.bottom) }
         ensures bounded { size * self.now.top / self.now.bottom ≤ 512 * size }
     {
-        (u128::from(size) * self.top / self.bottom) as i64
+        quotient(u128::from(size) * self.top, self.bottom) as i64
     }
 
     // The least whole number of dots that isn't below a size.
@@ -117,7 +137,7 @@ impl Conv {
         ensures bounded { div_ceil (size * self.now.top) self.now.bottom ≤ 512 * size }
         ensures has_a_dot { 0 < size → 0 < div_ceil (size * self.now.top) self.now.bottom }
     {
-        (u128::from(size) * self.top).div_ceil(self.bottom) as i64
+        quotient_up(u128::from(size) * self.top, self.bottom) as i64
     }
 }
 
@@ -168,6 +188,30 @@ mod tests {
             (-4933632, -313, -312),
             (2147483648, 136023, 136024),
             (-2147483648, -136023, -136023),
+        ] {
+            assert_eq!(rt; conv.round(x), nearest, "round {x}");
+            assert_eq!(rt; conv.ceil(x), least, "ceil {x}");
+        }
+        Ok(())
+    }
+
+    // 2147483647 * 4799 * 1000003 over 254000000 * 2147483646 is in lowest terms, and about 18.9: with x at 2^31 the numbers
+    // take 95 bits, with x at 0 they fit 64.
+    #[test]
+    fn converts_by_wide_numbers(rt: HostRuntime) -> Result<(), Scale> {
+        let conv = Conv::new(&Units {
+            num: 2147483647,
+            den: 2147483646,
+            mag: 1000003,
+            res: 4799,
+        })?;
+        for (x, nearest, least) in [
+            (0, 0, 0),
+            (1, 19, 19),
+            (-1, -19, -18),
+            (3, 57, 57),
+            (2147483648, 40574035232, 40574035232),
+            (-2147483648, -40574035232, -40574035231),
         ] {
             assert_eq!(rt; conv.round(x), nearest, "round {x}");
             assert_eq!(rt; conv.ceil(x), least, "ceil {x}");

@@ -1,9 +1,10 @@
 //! Laws over the two conversions, each a clause of a function without a body.
 
-ghost use Rattle.pixel_round.specs.Pixels.{OnlyOneIsRound, RoundIsNearest, CeilIsLeast, ConvertedAreBounded, SidesHaveDots};
+ghost use Rattle.pixel_round.specs.Pixels.{EqualFractionsConvertAlike, OnlyOneIsRound, RoundIsNearest, CeilIsLeast, ConvertedAreBounded, SidesHaveDots};
 
 /// One conversion gives the nearest number, and the one farther from zero of two such numbers, which tells it; the other the
 /// least number that isn't below. Where a unit is at most 512 dots, both are of a bounded size; a side above zero has a dot.
+/// Fractions of one value convert alike.
 #[tactic(auto, using(crate::proofs::Conversion::round_is_nearest))]
 pub fn conversions()
     ensures nearest { RoundIsNearest }
@@ -11,4 +12,5 @@ pub fn conversions()
     ensures least { CeilIsLeast }
     ensures bounded { ConvertedAreBounded }
     ensures has_a_dot { SidesHaveDots }
+    ensures alike { EqualFractionsConvertAlike }
 {}

@@ -5,7 +5,7 @@ ghost use Rattle.std.specs.List.{AllByRecursion};
 ghost use Rattle.big_endian.specs.Numbers.{IsSigned, number_bytes};
 ghost use Rattle.dvi_commands.specs.ShortestSpelling.{shortest_spelling};
 ghost use Rattle.dvi_commands.specs.Spelling.{Bop, Define, Special, Spells, quad, seen_definition};
-ghost use Rattle.dvi_commands.specs.Writing.{IsAreaInName, IsRestShort};
+ghost use Rattle.dvi_commands.specs.Writing.{IsAreaInName, IsRestShort, LONGEST_SPECIAL};
 
 use super::numbers::{number_width, quad_at, quad_bytes};
 use super::parts::append;
@@ -51,7 +51,7 @@ pub(super) fn append_bop(out: &mut Vec<u8>, counts: &[i32; 10], back: i32) -> Re
 }
 
 pub(super) fn append_special(out: &mut Vec<u8>, text: &[u8]) -> Result<(), NoMemory>
-    requires { length text.now ≤ 2 ^ 31 - 1 }
+    requires { length text.now ≤ LONGEST_SPECIAL }
     ensures appended { OnOk result (out.new.items ≡ out.old.items ++ shortest_spelling (Special text.now)) }
     ensures unchanged { OnErr result (out.new.items ≡ out.old.items) }
     ensures spelled { Spells (Special text.now) (shortest_spelling (Special text.now)) }

@@ -1,6 +1,7 @@
 use Rattle.dvi_commands.proofs.Prefix.{no_spelling_begins_another, no_spelling_is_a_proper_prefix}
 use Rattle.dvi_commands.proofs.Told.{spelling_tells_the_command}
 use Rattle.dvi_commands.proofs.Refusals.{spelled_is_not_refused}
+use Rattle.dvi_commands.proofs.Unrefused.{unrefused_is_spelled}
 use Rattle.dvi_commands.proofs.laws.spellings.Goals as goal
 
 pub returns-clause-apart : goal.returns-clause-apart
@@ -14,3 +15,6 @@ returns-clause-accepted c = spelled_is_not_refused
 
 pub returns-clause-no_prefix : goal.returns-clause-no_prefix
 returns-clause-no_prefix c = no_spelling_is_a_proper_prefix
+
+pub returns-clause-spelled : goal.returns-clause-spelled
+returns-clause-spelled c = unrefused_is_spelled

@@ -8,7 +8,7 @@ pub returns-clause-value : goal.returns-clause-value
 returns-clause-value c =
     let most = least_at_most c.self.inside.top c.self.inside.bottom c.args.size c.self.invariant.1 c.self.invariant.2 in
     let small : div_ceil (c.args.size * c.self.inside.top) c.self.inside.bottom < 2 ^ 63 = omega (arith, most) in
-    rw (← c.self.view_is, c.div_ceil.ensures, c.from.ensures) (to_z_pos w64 _ small)
+    rw (← c.self.view_is, c.quotient_up.ensures, c.from.ensures) (to_z_pos w64 _ small)
 
 pub returns-clause-bounded : goal.returns-clause-bounded
 returns-clause-bounded c =

@@ -1,0 +1,46 @@
+//! Quotients of wide numbers by narrow ones.
+ghost use Rattle.std.specs.Prelude.{◌≡◌, ◌/◌, ◌<◌};
+ghost use Rattle.std.specs.Int.{IsGcd, div_ceil};
+
+// What fits 64 bits is divided there, which is many times faster.
+const NARROW: u128 = 1 << 64;
+
+/// The greatest number that divides both.
+pub fn gcd(a: u128, b: u64) -> u64
+    requires { 0 < b }
+    ensures divides { IsGcd a b result }
+    ensures some { 0 < result }
+{
+    let mut greater = b;
+    let mut rest = (a % u128::from(b)) as u64;
+    while rest != 0 {
+        let next = greater % rest;
+        greater = rest;
+        rest = next;
+    }
+    greater
+}
+
+/// The quotient, rounded down.
+pub fn quotient(top: u128, bottom: u64) -> u128
+    requires { 0 < bottom }
+    ensures { result ≡ top / bottom }
+{
+    if top < NARROW {
+        u128::from(top as u64 / bottom)
+    } else {
+        top / u128::from(bottom)
+    }
+}
+
+/// The quotient, rounded up.
+pub fn quotient_up(top: u128, bottom: u64) -> u128
+    requires { 0 < bottom }
+    ensures { result ≡ div_ceil top bottom }
+{
+    if top < NARROW {
+        u128::from((top as u64).div_ceil(bottom))
+    } else {
+        top.div_ceil(u128::from(bottom))
+    }
+}
