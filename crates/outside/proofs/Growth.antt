@@ -1,5 +1,5 @@
 -- Bytes that are told grow in steps.
-use Rattle.std.proofs.Common.{◌≡◌, ◌∙◌, ◌≤◌, ◌+◌, ◌-◌, inl, inr, ◌++◌, ℕ, List, [], length, take, drop, arith, refl, sym, ap, subst, append_assoc, append-nil, Option, Some, None, Bool, true, Result}
+use Rattle.std.proofs.Common.{◌≡◌, ◌∙◌, ◌≤◌, ◌<◌, ◌+◌, ◌-◌, inl, inr, ◌++◌, ℕ, List, [], length, take, drop, arith, refl, sym, ap, subst, append_assoc, append-nil, Option, Some, None, Bool, true, Result}
 use Rattle.std.specs.Prelude.{IsErr, is_err}
 use Rattle.std.proofs.Math.Seq.{take-add, take-append-add}
 use Rattle.std.proofs.lemmas.List.{take-append-le}
@@ -68,7 +68,7 @@ failed_now r a b c failed failed2 is p q =
 
 pub front_of_more : (a b c : Option (List ℕ)) (xs ys : List ℕ) → Appends a b xs → AppendsPrefix b c ys → AppendsPrefix a c (xs ++ ys)
 front_of_more a b c xs ys p q =
-    let fits : q.0 ≤ length ys = q.1 in
+    let fits : q.0 < length ys = q.1 in
     (length xs + q.0, grind (arith, common_steps), subst (λ t. Appends a c t) (fronts xs ys q.0) (grown_twice a b c xs (take q.0 ys) p q.2))
   where
     fronts : (xs ys : List ℕ) (n : ℕ) → xs ++ take n ys ≡ take (length xs + n) (xs ++ ys)
@@ -76,16 +76,8 @@ front_of_more a b c xs ys p q =
 
 pub front_of_first : (a b : Option (List ℕ)) (xs ys : List ℕ) → AppendsPrefix a b xs → AppendsPrefix a b (xs ++ ys)
 front_of_first a b xs ys q =
-    let fits : q.0 ≤ length xs = q.1 in
-    (q.0, grind (arith, common_steps), subst (λ t. Appends a b t) (fronts xs ys q.0 fits) q.2)
+    let fits : q.0 < length xs = q.1 in
+    (q.0, grind (arith, common_steps), subst (λ t. Appends a b t) (fronts xs ys q.0 (omega (arith, fits))) q.2)
   where
     fronts : (xs ys : List ℕ) (n : ℕ) → n ≤ length xs → take n xs ≡ take n (xs ++ ys)
     fronts xs ys n le = sym (take-append-le n xs ys le)
-
-pub front_none : (a b : Option (List ℕ)) (xs : List ℕ) → Keeps a b → AppendsPrefix a b xs
-front_none a b xs k = (0, omega arith, kept a b k)
-  where
-    kept : (a b : Option (List ℕ)) → Keeps a b → Appends a b []
-    kept None b k = tt
-    kept (Some x) None k = absurd k
-    kept (Some x) (Some y) k = k ∙ sym (append-nil x)

@@ -2,3 +2,4 @@ pub mod Counts
 pub mod Streams
 pub mod Gather
 pub mod Library
+pub mod FontKeys

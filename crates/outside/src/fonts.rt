@@ -1,8 +1,8 @@
 //! Where font files come from.
-ghost use Rattle.std.specs.Prelude.{◌≡◌, ℕ, Option, None, IfOk, IsErrOf};
+ghost use Rattle.std.specs.Prelude.{◌≡◌, ◌<◌, ◌^◌, ℕ, List, Option, None, IfOk, IsErrOf};
 ghost use Rattle.std.specs.Option.{option_map};
 ghost use Rattle.outside.specs.Counts.{HasCause, next_count};
-ghost use Rattle.outside.specs.Library.{Files, IsFileOf};
+ghost use Rattle.outside.specs.Library.{AskedFor, Files, IsFileOf};
 
 use crate::FileName;
 use std::alloc::AllocError;
@@ -40,6 +40,9 @@ pub trait FontSource: Drop {
     /// How often a file was asked for.
     ghost loads: { Self → ℕ };
 
+    /// The names that were asked for, in order, where they are told.
+    ghost asked: { Self → Option (List (List ℕ)) } = { λ _. None };
+
     /// The bytes of the file of this name, or `None` where there is no such file.
     fn load(&mut self, name: &FileName) -> Result<Option<Vec<u8>>, LoadStop>
         ensures file { IfOk result (λ found.
@@ -47,5 +50,9 @@ pub trait FontSource: Drop {
         ensures same_library { library self.new ≡ library self.old }
         ensures cause { HasCause (faults self.old) (faults self.new)
             (IsErrOf result LoadStop.Failed) }
-        ensures counted { loads self.new ≡ next_count (loads self.old) };
+        ensures counted { loads self.new ≡ next_count (loads self.old) }
+        ensures asked { AskedFor (asked self.old) (asked self.new) name.now result };
+
+    /// A count of loads is a number of 64 bits, so that it never falls.
+    ghost loads_fit: { (s : Self) → loads s < 2 ^ 64 };
 }

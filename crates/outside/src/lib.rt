@@ -3,6 +3,7 @@
 //! never falls; the forms in memory tell theirs, and stand in for the real ones in tests.
 #![tactic(auto)]
 
+mod asked;
 mod fonts;
 mod gather;
 mod keys;

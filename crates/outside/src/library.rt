@@ -11,6 +11,7 @@ use std::marker::Model;
 /// Files by their names. A contract sees it as a finite map from names to bytes.
 #[derive(Drop)]
 pub struct Library {
+    alloc: Global,
     files: BTreeMap<FileName, Vec<u8>>,
 }
 
@@ -33,6 +34,7 @@ impl Library {
         ensures { result ≡ map.empty }
     {
         Library {
+            alloc,
             files: BTreeMap::new(alloc),
         }
     }
@@ -44,6 +46,11 @@ impl Library {
     {
         self.files.insert(name, bytes)?;
         Ok(())
+    }
+
+    // Where its memory comes from.
+    pub(crate) fn alloc(&self) -> Global {
+        self.alloc
     }
 
     // The file of this name.

@@ -1,9 +1,10 @@
 //! Font sources in memory: one of which chosen calls fail, and one that never fails.
-ghost use Rattle.std.specs.Prelude.{◌≡◌, ◌↔◌, Some, Contains, IfOk, IsErrOf};
+ghost use Rattle.std.specs.Prelude.{◌≡◌, ◌<◌, ◌^◌, ◌↔◌, [], Some, Contains, IfOk, IsErrOf};
 ghost use Rattle.std.specs.Option.{option_map};
 ghost use Rattle.outside.specs.Counts.{HasCause, next_count};
-ghost use Rattle.outside.specs.Library.{IsFileOf};
+ghost use Rattle.outside.specs.Library.{AskedFor, IsFileOf};
 
+use crate::asked::Asked;
 use crate::memory::is_listed;
 use crate::{FileName, FontSource, Library, LoadStop};
 use std::sync::Arc;
@@ -15,6 +16,8 @@ pub struct MemFonts {
     fails: Vec<u64>,
     loads: u64,
     faults: u64,
+    asked: Asked,
+    ghost loads_fit: { loads < 2 ^ 64 },
 }
 
 impl MemFonts {
@@ -22,14 +25,23 @@ impl MemFonts {
     pub fn new(library: Arc<Library>, fails: Vec<u64>) -> MemFonts
         ensures library { result.library.value ≡ library.value }
         ensures fails { result.fails.items ≡ fails.items }
-        ensures unused { (result.loads ≡ 0) × (result.faults ≡ 0) }
+        ensures unused { (result.loads ≡ 0) × (result.faults ≡ 0) × (result.asked ≡ Some []) }
     {
+        let asked = Asked::new(library.alloc());
         MemFonts {
             library,
             fails,
             loads: 0,
             faults: 0,
+            asked,
         }
+    }
+
+    /// The names that were asked for, in order, but for want of memory.
+    pub fn asked(&self) -> Option<&[FileName]>
+        ensures { option_map (λ names. names.now) result ≡ self.now.asked }
+    {
+        self.asked.names()
     }
 }
 
@@ -40,25 +52,33 @@ impl FontSource for MemFonts {
 
     ghost loads = { λ m. m.loads };
 
+    ghost asked = { λ m. m.asked };
+
+    ghost loads_fit = { λ m. m.loads_fit };
+
     fn load(&mut self, name: &FileName) -> Result<Option<Vec<u8>>, LoadStop>
         ensures file { IfOk result (λ found. IsFileOf (Some self.old.library.value) name.now
             (option_map (λ bytes. bytes.items) found)) }
         ensures same_library { Some self.new.library.value ≡ Some self.old.library.value }
         ensures cause { HasCause self.old.faults self.new.faults (IsErrOf result LoadStop.Failed) }
         ensures counted { self.new.loads ≡ next_count self.old.loads }
+        ensures asked { AskedFor self.old.asked self.new.asked name.now result }
 
         // The loads are counted from 1, and exactly those that are listed fail.
         ensures listed { (result ≡ Err LoadStop.Failed)
             ↔ Contains self.old.fails.items self.new.loads }
         ensures faulty { result ≡ Err LoadStop.Failed
             → self.new.faults ≡ next_count self.old.faults }
+        ensures good { ¬ (result ≡ Err LoadStop.Failed) → self.new.faults ≡ self.old.faults }
         ensures keeps { self.new.fails ≡ self.old.fails }
     {
         self.loads = self.loads.saturating_add(1);
+        let kept = self.asked.add(name);
         if is_listed(&self.fails, self.loads) {
             self.faults = self.faults.saturating_add(1);
             return Err(LoadStop::Failed);
         }
+        kept?;
         Ok(self.library.copy_of(name)?)
     }
 }
@@ -68,15 +88,22 @@ impl FontSource for MemFonts {
 pub struct SureFonts {
     library: Arc<Library>,
     loads: u64,
+    asked: Asked,
+    ghost loads_fit: { loads < 2 ^ 64 },
 }
 
 impl SureFonts {
     /// A source of the library's files.
     pub fn new(library: Arc<Library>) -> SureFonts
         ensures library { result.library.value ≡ library.value }
-        ensures unused { result.loads ≡ 0 }
+        ensures unused { (result.loads ≡ 0) × (result.asked ≡ Some []) }
     {
-        SureFonts { library, loads: 0 }
+        let asked = Asked::new(library.alloc());
+        SureFonts {
+            library,
+            loads: 0,
+            asked,
+        }
     }
 }
 
@@ -87,16 +114,22 @@ impl FontSource for SureFonts {
 
     ghost loads = { λ s. s.loads };
 
+    ghost asked = { λ s. s.asked };
+
+    ghost loads_fit = { λ s. s.loads_fit };
+
     fn load(&mut self, name: &FileName) -> Result<Option<Vec<u8>>, LoadStop>
         ensures file { IfOk result (λ found. IsFileOf (Some self.old.library.value) name.now
             (option_map (λ bytes. bytes.items) found)) }
         ensures same_library { Some self.new.library.value ≡ Some self.old.library.value }
         ensures cause { HasCause 0 0 (IsErrOf result LoadStop.Failed) }
         ensures counted { self.new.loads ≡ next_count self.old.loads }
+        ensures asked { AskedFor self.old.asked self.new.asked name.now result }
 
         ensures never_fails { ¬ (result ≡ Err LoadStop.Failed) }
     {
         self.loads = self.loads.saturating_add(1);
+        self.asked.add(name)?;
         Ok(self.library.copy_of(name)?)
     }
 }

@@ -134,5 +134,15 @@ fn sources_load_the_later_file(rt: HostRuntime) -> Result<(), Fail> {
     );
     assert!(rt; matches!(fonts.load(&missing), Err(LoadStop::Failed)));
     assert!(rt; fonts.load(&missing)?.is_none());
+    let asked = fonts.asked().ok_or("no names")?;
+    assert_eq!(rt; asked.len(), 4, "loads that fail are asked for too");
+    for (name, expected) in asked.iter().zip([
+        b"cmr10.tfm".as_slice(),
+        b"cmr10.tfm",
+        b"cmr10.vf",
+        b"cmr10.vf",
+    ]) {
+        assert_eq!(rt; name.bytes(), expected);
+    }
     Ok(())
 }

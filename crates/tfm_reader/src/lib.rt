@@ -8,6 +8,7 @@ pub mod laws;
 mod layout;
 mod tables;
 mod tfm;
+pub mod worked;
 
 pub use faults::{TfmFault, TfmStop};
 pub use tfm::Tfm;

@@ -33,6 +33,28 @@ fn faults_of_changed_files(rt: HostRuntime) {
     assert!(rt; is_fault(Tfm::read(rt.alloc(), &DOT[..55]), TfmFault::Short));
 }
 
+// Two faults at once, next to each other in their order: the first one is told.
+#[test]
+fn first_faults_of_files_with_two(rt: HostRuntime) {
+    for (len, changes, fault) in [
+        (23, [(1, 15), (1, 15)], TfmFault::Short),
+        (55, [(1, 15), (1, 15)], TfmFault::Counts),
+        (55, [(32, 2), (32, 2)], TfmFault::Short),
+        (56, [(32, 2), (36, 1)], TfmFault::WidthIndex(65)),
+        (56, [(36, 1), (39, 1)], TfmFault::WidthByte(0)),
+        (56, [(39, 1), (40, 1)], TfmFault::WidthZero),
+    ] {
+        let mut bytes = DOT;
+        for (at, byte) in changes {
+            bytes[at] = byte;
+        }
+        assert!(rt;
+            is_fault(Tfm::read(rt.alloc(), &bytes[..len]), fault),
+            "{fault}"
+        );
+    }
+}
+
 // Codes 3 to 6, of which 4 has no character, with widths of a half and -1/16, and what no reader looks at
 // behind them.
 const GAPS: [u8; 79] = [

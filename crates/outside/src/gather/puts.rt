@@ -70,7 +70,7 @@ impl Gather {
     }
 
     /// Writes what is still held. `Failed` where a write failed, now or at an earlier `put`: then a
-    /// front of the text was written.
+    /// front of the text was written, and not all of it.
     pub fn finish<O: Output>(mut self, out: &mut O) -> Result<(), Failed>
         ensures { (start : Option (List ℕ)) (before : ℕ) (text : List ℕ)
             → Gathers start before self (O.written out.old) (O.faults out.old) text
