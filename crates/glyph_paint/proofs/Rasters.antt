@@ -4,34 +4,34 @@ use Rattle.std.proofs.lemmas.Int.{ints}
 use Rattle.std.proofs.lemmas.Bool.{cases_lt, le-leb, le-ltb, lt-ltb}
 use Rattle.std.proofs.lemmas.Bool.Decides.{same_from_decides}
 use Rattle.std.proofs.lemmas.List.{get_or_past}
-use Rattle.packed_rows.specs.Bitmap.{Bitmap, is_black, from_fn}
+use Rattle.packed_rows.specs.Bitmap.{Bitmap, IsShaped, is_black, from_fn}
 use Rattle.packed_rows.specs.Stamped.{is_black_at}
 use Rattle.packed_rows.proofs.Lists.{from_fn_past, get_or-from_fn}
 use Rattle.packed_rows.proofs.StoredBitmaps.{made, dot_of, same_dots}
 use Rattle.raster_page.specs.Ink.{Dots, Bar, covers, is_inked}
 use Rattle.raster_page.proofs.MarkedPages.{marks_commute}
-use Rattle.glyph_paint.specs.Glyphs.{HasItsSize, IsBeside, black_raster, GlyphsCommute, GlyphsBesideLeaveThePage, BlackGlyphsAreRules}
+use Rattle.glyph_paint.specs.Glyphs.{IsBeside, black_raster, GlyphsCommute, GlyphsBesideLeaveThePage, BlackGlyphsAreRules}
 
 pub glyphs_commute : GlyphsCommute
 glyphs_commute page first second left top left' top' = marks_commute page (Dots first left top) (Dots second left' top')
 
 -- ---- beside the page
 
-white_low : (raster : Bitmap) (x y : ℕ) → HasItsSize raster → raster.height ≤ y → is_black raster x y ≡ false
+white_low : (raster : Bitmap) (x y : ℕ) → IsShaped raster → raster.height ≤ y → is_black raster x y ≡ false
 white_low raster x y size below = ap (λ row. get_or row x false) (get_or_past raster.rows y [] (omega (arith, size.rows, below)))
 
-white_right : (raster : Bitmap) (x y : ℕ) → HasItsSize raster → raster.width ≤ x → is_black raster x y ≡ false
+white_right : (raster : Bitmap) (x y : ℕ) → IsShaped raster → raster.width ≤ x → is_black raster x y ≡ false
 white_right raster x y size behind = by (cases_lt y raster.height)
   where
     by : (y < raster.height) ⊎ (raster.height ≤ y) → is_black raster x y ≡ false
-    by (inl inside) = get_or_past (get_or raster.rows y []) x false (omega (arith, size.each y inside, behind))
+    by (inl inside) = get_or_past (get_or raster.rows y []) x false (omega (arith, size.columns y inside, behind))
     by (inr below) = white_low raster x y size below
 
 -- a place lies outside a raster
 abbrev IsOutside : Bitmap → ℤ → ℤ → Type 0
 IsOutside raster a b = (a <ℤ pos 0) ⊎ (pos raster.width ≤ℤ a) ⊎ (b <ℤ pos 0) ⊎ (pos raster.height ≤ℤ b)
 
-white_outside : (raster : Bitmap) (a b : ℤ) → HasItsSize raster → IsOutside raster a b → is_black_at raster a b ≡ false
+white_outside : (raster : Bitmap) (a b : ℤ) → IsShaped raster → IsOutside raster a b → is_black_at raster a b ≡ false
 white_outside raster (pos x) (pos y) size (inl h) = absurd (omega (arith, ints, h))
 white_outside raster (pos x) (pos y) size (inr (inl h)) = white_right raster x y size (omega (arith, ints, h))
 white_outside raster (pos x) (pos y) size (inr (inr (inl h))) = absurd (omega (arith, ints, h))

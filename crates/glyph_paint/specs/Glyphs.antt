@@ -1,12 +1,7 @@
 -- What holds of rasters set on a page.
-use Rattle.std.specs.Prelude.{◌≡◌, ℕ, ◌<◌, ◌⊎◌, ℤ, pos, ◌+ℤ◌, ◌≤ℤ◌, true, List, [], ◌∷◌, length, slice_index_or}
-use Rattle.packed_rows.specs.Bitmap.{Bitmap, from_fn}
+use Rattle.std.specs.Prelude.{◌≡◌, ℕ, ◌⊎◌, ℤ, pos, ◌+ℤ◌, ◌≤ℤ◌, true, List, ◌∷◌}
+use Rattle.packed_rows.specs.Bitmap.{Bitmap, IsShaped, from_fn}
 use Rattle.raster_page.specs.Ink.{Inked, Dots, Bar, page_of, with_mark}
-
--- as many rows as the raster is high, each as long as it is wide
-pub record HasItsSize (raster : Bitmap) : Type 0 where
-  pub rows : length raster.rows ≡ raster.height
-  pub each : (y : ℕ) → y < raster.height → length (slice_index_or raster.rows y []) ≡ raster.width
 
 -- a raster with its upper left pixel in column `left` of row `top` lies wholly on one side of a page of that size
 abbrev pub IsBeside : ℕ → ℕ → Bitmap → ℤ → ℤ → Type 0
@@ -26,7 +21,7 @@ GlyphsCommute = (page first second : Bitmap) (left top left' top' : ℤ)
 
 -- a glyph that lies beside the page leaves it as it is
 abbrev pub GlyphsBesideLeaveThePage : Type 0
-GlyphsBesideLeaveThePage = (width height : ℕ) (marks : List Inked) (raster : Bitmap) (left top : ℤ) → HasItsSize raster → IsBeside width height raster left top
+GlyphsBesideLeaveThePage = (width height : ℕ) (marks : List Inked) (raster : Bitmap) (left top : ℤ) → IsShaped raster → IsBeside width height raster left top
     → page_of width height (Dots raster left top ∷ marks) ≡ page_of width height marks
 
 -- a glyph of black pixels is a rule of its size

@@ -2,8 +2,8 @@
 
 ghost use Rattle.glyph_paint.specs.Glyphs.{GlyphsCommute, GlyphsBesideLeaveThePage, BlackGlyphsAreRules};
 
-/// Glyphs may be painted in either order, one that lies beside the page leaves it as it is, and a wholly
-/// black one is a rule.
+/// Glyphs may be painted in either order, one that lies beside the page leaves it as it is, and a
+/// wholly black one is a rule.
 pub fn glyphs()
     ensures commute { GlyphsCommute }
     ensures beside { GlyphsBesideLeaveThePage }

@@ -1,6 +1,9 @@
 //! Small pages, with bytes worked out by hand.
 
+mod random_places;
+
 use crate::paint;
+use packed_rows::MAX_COORDINATE;
 use pk_runs::{Raster, RunStop, raster};
 use raster_page::Page;
 use std::alloc::Global;
@@ -129,10 +132,11 @@ fn beside_the_page(rt: HostRuntime) -> Result<(), Fail> {
     paint(&mut page, &glyph, -20, 0);
     paint(&mut page, &glyph, 0, 4);
     paint(&mut page, &glyph, 0, -3);
-    paint(&mut page, &glyph, 2_199_023_255_552, 0);
-    paint(&mut page, &glyph, -2_199_023_255_552, 0);
-    paint(&mut page, &glyph, 0, 2_199_023_255_552);
-    paint(&mut page, &glyph, 0, -2_199_023_255_552);
+    let farthest = MAX_COORDINATE as i64;
+    paint(&mut page, &glyph, farthest, 0);
+    paint(&mut page, &glyph, -farthest, 0);
+    paint(&mut page, &glyph, 0, farthest);
+    paint(&mut page, &glyph, 0, -farthest);
     assert_eq!(rt; page.count(), 0);
     paint(&mut page, &glyph, 20, 3);
     paint(&mut page, &glyph, -19, -2);

@@ -1,7 +1,7 @@
 -- The bits of a byte, and the masks of runs of pixels.
-use Rattle.std.proofs.Common.{◌≡◌, ℕ, zero, suc, ◌-◌, ◌*◌, ◌/◌, ◌%◌, ◌^◌, ◌<◌, ◌≤◌, ◌⊎◌, inl, inr, true, ◌&&◌, ◌||◌, eqb, leb, min, max, refl, ap, sym, ◌∙◌, arith, bit_and, bit_or}
+use Rattle.std.proofs.Common.{◌≡◌, ℕ, zero, suc, ◌-◌, ◌*◌, ◌/◌, ◌%◌, ◌^◌, ◌<◌, ◌≤◌, ◌⊎◌, inl, inr, true, ◌&&◌, ◌||◌, eqb, leb, ltb, min, max, refl, ap, ap₂, sym, ◌∙◌, arith, bit_and, bit_or}
 use Rattle.std.specs.Int.{bit_at}
-use Rattle.std.proofs.lemmas.Bool.{cases_lt, le-leb, lt-leb}
+use Rattle.std.proofs.lemmas.Bool.{cases_lt, le-leb, lt-leb, le-ltb, lt-ltb}
 use Rattle.std.proofs.lemmas.Nat.Bits.{bit_at_or, bit_at_and, bit_at-lt, ones_shr, ones_shl, bit_at_ones, bit_at_ones_above, bit_at_mask_inside, bit_at_mask_below}
 
 max_is_one : (a b : ℕ) → a < 2 → b < 2 → eqb (max a b) 1 ≡ (eqb a 1 || eqb b 1)
@@ -54,3 +54,34 @@ tail_bit k r h g = by (cases_lt k r)
 -- a whole byte of ones
 pub full_bit : (r : ℕ) → r < 8 → eqb (bit_at 255 (7 - r)) 1 ≡ true
 full_bit r g = ap (λ n. eqb n 1) (bit_at_ones 8 (7 - r) (omega (arith, g)))
+
+-- ---- the masks of a word
+
+-- the pixels of a word from k on
+word_head : (k j : ℕ) → k < 64 → j < 64 → eqb (bit_at (18446744073709551615 / 2 ^ k) (63 - j)) 1 ≡ leb k j
+word_head k j h g = by (cases_lt j k)
+  where
+    ones : 18446744073709551615 / 2 ^ k ≡ 2 ^ (64 - k) - 1
+    ones = ones_shr 64 k (omega (arith, h))
+
+    by : (j < k) ⊎ (k ≤ j) → eqb (bit_at (18446744073709551615 / 2 ^ k) (63 - j)) 1 ≡ leb k j
+    by (inl below) = ap (λ n. eqb (bit_at n (63 - j)) 1) ones ∙ ap (λ n. eqb n 1) (bit_at_ones_above (64 - k) (63 - j) (omega (arith, below, g, h))) ∙ sym (lt-leb k j below)
+    by (inr above) = ap (λ n. eqb (bit_at n (63 - j)) 1) ones ∙ ap (λ n. eqb n 1) (bit_at_ones (64 - k) (63 - j) (omega (arith, above, g, h))) ∙ sym (le-leb k j above)
+
+-- the pixels of a word before u
+word_tail : (u j : ℕ) → 0 < u → u ≤ 64 → j < 64 → eqb (bit_at (18446744073709551615 * 2 ^ (64 - u) % 18446744073709551616) (63 - j)) 1 ≡ ltb j u
+word_tail u j some h g = by (cases_lt j u)
+  where
+    ones : 18446744073709551615 * 2 ^ (64 - u) % 18446744073709551616 ≡ 2 ^ 64 - 2 ^ (64 - u)
+    ones = ones_shl 64 (64 - u) (omega (arith, h))
+
+    by : (j < u) ⊎ (u ≤ j) → eqb (bit_at (18446744073709551615 * 2 ^ (64 - u) % 18446744073709551616) (63 - j)) 1 ≡ ltb j u
+    by (inl below) = ap (λ n. eqb (bit_at n (63 - j)) 1) ones ∙ ap (λ n. eqb n 1) (bit_at_mask_inside (64 - u) 64 (63 - j) (omega (arith, below, g, h)) (omega (arith, below, g, h))) ∙ sym (lt-ltb j u below)
+    by (inr above) = ap (λ n. eqb (bit_at n (63 - j)) 1) ones ∙ ap (λ n. eqb n 1) (bit_at_mask_below (64 - u) 64 (63 - j) (omega (arith, above, g, h))) ∙ sym (le-ltb j u above)
+
+-- the pixels of a word from k on and before u
+pub word_span : (k u j : ℕ) → k < 64 → 0 < u → u ≤ 64 → j < 64
+    → eqb (bit_at (bit_and (18446744073709551615 / 2 ^ k) (18446744073709551615 * 2 ^ (64 - u) % 18446744073709551616)) (63 - j)) 1 ≡ (leb k j && ltb j u)
+word_span k u j h some few g =
+    bit_of_and (18446744073709551615 / 2 ^ k) (18446744073709551615 * 2 ^ (64 - u) % 18446744073709551616) (63 - j)
+    ∙ ap₂ (λ a b. a && b) (word_head k j h g) (word_tail u j some few g)

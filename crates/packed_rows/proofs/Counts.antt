@@ -1,11 +1,14 @@
 -- Black dots counted byte by byte.
-use Rattle.std.proofs.Common.{◌≡◌, ℕ, zero, suc, ◌+◌, ◌-◌, ◌*◌, ◌/◌, ◌%◌, ◌^◌, ◌<◌, ◌≤◌, Bool, false, cond, eqb, List, [], ◌∷◌, length, get_or, take, refl, ap, sym, ◌∙◌, arith}
+use Rattle.std.proofs.Common.{◌≡◌, ℕ, zero, suc, ◌+◌, ◌-◌, ◌*◌, ◌/◌, ◌%◌, ◌^◌, ◌<◌, ◌≤◌, Bool, false, cond, eqb, List, [], ◌∷◌, length, get_or, take, drop, refl, ap, ap₂, sym, ◌∙◌, arith}
 use Rattle.std.specs.Int.{bit_at, div_ceil}
 use Rattle.std.specs.Prelude.{count_by, count_ones}
 use Rattle.std.specs.List.{sum_by}
-use Rattle.std.proofs.lemmas.List.{take_all}
 use Rattle.std.proofs.lemmas.List.Sums.{sum_by_push, sum_by-append, sum_by-cons, sum_by_more}
 use Rattle.std.proofs.Math.Seq.{take-add}
+use Rattle.std.proofs.lemmas.List.{length-take-le, length-drop}
+use Rattle.std.proofs.lemmas.List.Elements.{All-from_get_or}
+use Rattle.packed_rows.specs.Stamped.{word_pixel}
+use Rattle.packed_rows.proofs.OneWord.{of_part, part_small}
 use lib.Count.{ones, ones_in, ones_cat, ones-le}
 use mir.Syntax.{w8}
 use mir.Val.{Fits}
@@ -131,15 +134,39 @@ first_count w h bytes stored (suc n) low =
     one_more = omega arith
 
 -- the black dots of a page are the set bits of its bytes
-pub counted : (w h : ℕ) (bytes : List ℕ) → IsStored w h bytes → sum_by count_ones bytes ≡ black_count (bitmap_of w h bytes)
-counted w h bytes stored = sym (first_count w h bytes stored h (omega arith) ∙ ap (sum_by ones) (take_all (h * div_ceil w 8) bytes (omega (arith, stored.len))))
+pub counted : (w h n : ℕ) (bytes : List ℕ) → IsStored w h bytes → n ≡ h * div_ceil w 8 → sum_by count_ones (take n bytes) ≡ black_count (bitmap_of w h bytes)
+counted w h n bytes stored e = ap (λ k. sum_by ones (take k bytes)) e ∙ sym (first_count w h bytes stored h (omega arith))
 
 -- a page has few enough bytes that their bits can be counted
-pub few_bytes : (w h : ℕ) (bytes : List ℕ) → IsStored w h bytes → length bytes ≤ 2 ^ 29
+pub few_bytes : (w h : ℕ) (bytes : List ℕ) → IsStored w h bytes → length bytes ≤ 2 ^ 29 + 8
 few_bytes w h bytes stored = omega (arith, stored.len, mul-le h (div_ceil w 8) 65536 8192 (omega (arith, stored.low)) narrow)
   where
     narrow : div_ceil w 8 ≤ 8192
     narrow = omega (arith, stored.narrow)
+
+-- ---- by words
+
+-- the set bits of a word are those of its eight bytes
+pub word_ones : (bytes : List ℕ) (at word : ℕ) → at + 8 ≤ length bytes → word < 2 ^ 64 → ((k : ℕ) → Fits w8 (get_or bytes k 0)) → ((i : ℕ) → i < 64 → word_pixel word i ≡ pixel bytes (8 * at + i))
+    → count_ones word ≡ sum_by count_ones (take 8 (drop at bytes))
+word_ones bytes at word fit fits small read =
+    bit_tally 64 word fits
+    ∙ ap (count_by (λ p. p)) (from_fn_same 64 (λ i. eqb (bit_at word (64 - 1 - i)) 1) (pixel (take 8 (drop at bytes))) (λ i h. read i h ∙ sym (of_part bytes at 8 i h)))
+    ∙ ap (λ n. tally (8 * n) (pixel (take 8 (drop at bytes)))) (sym whole)
+    ∙ bytes_tally (take 8 (drop at bytes)) (All-from_get_or (λ b. b < 256) (take 8 (drop at bytes)) 0 (λ i h. part_small bytes at 8 i (λ k. omega (arith, small k)) (omega (arith, h, whole))))
+  where
+    whole : length (take 8 (drop at bytes)) ≡ 8
+    whole = length-take-le 8 (drop at bytes) (omega (arith, fit, length-drop at bytes))
+
+-- one word more was counted
+pub word_counted : (bytes : List ℕ) (i count word ones_of : ℕ) → i < length bytes / 8 → word < 2 ^ 64 → ((k : ℕ) → Fits w8 (get_or bytes k 0)) → ((j : ℕ) → j < 64 → word_pixel word j ≡ pixel bytes (8 * (8 * i) + j))
+    → count ≡ sum_by count_ones (take (8 * i) bytes) → ones_of ≡ count_ones word → count + ones_of ≡ sum_by count_ones (take (8 * (i + 1)) bytes)
+word_counted bytes i count word ones_of h fits small read before e =
+    ap₂ (λ m n. m + n) before (e ∙ word_ones bytes (8 * i) word (omega (arith, h)) fits small read)
+    ∙ sym (sum_by-append ones (take (8 * i) bytes) (take 8 (drop (8 * i) bytes))) ∙ ap (sum_by ones) (sym (take-add (8 * i) 8 bytes) ∙ ap (λ n. take n bytes) next)
+  where
+    next : 8 * i + 8 ≡ 8 * (i + 1)
+    next = omega arith
 
 pub bits_of_byte : (bytes : List ℕ) (i : ℕ) → ((k : ℕ) → Fits w8 (get_or bytes k 0)) → count_ones (get_or bytes i 0) ≤ 8
 bits_of_byte bytes i small = ones-le 8 (get_or bytes i 0) (omega (arith, small i))

@@ -5,9 +5,12 @@ pub mod Texts
 pub mod StoredRows
 pub mod Blackened
 pub mod StoredBitmaps
-pub mod Counts
 pub mod Copied
 pub mod Shifts
+pub mod EightBytes
 pub mod Joined
+pub mod OneWord
+pub mod BlackWords
+pub mod Counts
 pub mod Stamping
 pub mod SetRasters

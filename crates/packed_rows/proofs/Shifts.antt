@@ -14,7 +14,7 @@ shl_bit a s w i h g = sym (bit_at_cat_low (a * 2 ^ s / 2 ^ w) w (a * 2 ^ s % 2 ^
     whole : a * 2 ^ s / 2 ^ w * 2 ^ w + a * 2 ^ s % 2 ^ w ≡ a * 2 ^ s + 0
     whole = shr_split (a * 2 ^ s) w ∙ omega arith
 
-shr_bit : (n k i : ℕ) → bit_at (n / 2 ^ k) i ≡ bit_at n (k + i)
+pub shr_bit : (n k i : ℕ) → bit_at (n / 2 ^ k) i ≡ bit_at n (k + i)
 shr_bit n k i = ap (λ m. m % 2) (shr-shr n k i)
 
 -- the bit of two bytes side by side that stands at place 7 - k after they were shifted

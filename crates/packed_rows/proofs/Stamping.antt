@@ -2,6 +2,7 @@
 use Rattle.std.proofs.Common.{◌≡◌, ℕ, ◌+◌, ◌-◌, ◌*◌, ◌<◌, ◌≤◌, ◌⊎◌, inl, inr, Bool, true, false, ◌&&◌, ◌||◌, ltb, leb, List, length, take, drop, refl, ap, sym, subst, ◌∙◌, arith}
 use Rattle.std.proofs.lemmas.Bool.{cases_lt, le-ltb, and_right}
 use Rattle.std.proofs.lemmas.Bool.Decides.{nat_tests}
+use Rattle.std.specs.Int.{div_ceil}
 use borrow.Rule.Slice.PartMut.{put_mid}
 use Rattle.packed_rows.specs.Packing.{pixel, IsPadded}
 use Rattle.packed_rows.specs.Stored.{row_at}
@@ -42,7 +43,7 @@ stamped_none stride width first f old = record {
     nowhere y = grind (arith, nat_tests)
 
 step : (stride width first y : ℕ) (f : ℕ → ℕ → Bool) (old mid new : List ℕ) → first ≤ y → y * stride + stride ≤ length mid → length new ≡ stride
-    → AreUnder width (λ x. f x y) (row_at stride mid y) new → IsPadded width new → IsStamped stride width first y f old mid
+    → AreUnder width (λ x. f x y) (row_at stride mid y) new → (IsPadded width (row_at stride mid y) → IsPadded width new) → IsStamped stride width first y f old mid
     → IsStamped stride width first (y + 1) f old (put_mid (y * stride) stride mid new)
 step stride width first y f old mid new low fit long under padded before = record {
   len = put_long ∙ before.len;
@@ -74,15 +75,17 @@ step stride width first y f old mid new low fit long under padded before = recor
 
     padded_at : (z : ℕ) → z * stride + stride ≤ length old → IsPadded width (row_at stride old z) → (((z < y) ⊎ (y < z)) ⊎ (z ≡ y)) → IsPadded width (row_at stride (put_mid (y * stride) stride mid new) z)
     padded_at z on_page p (inl apart) = subst (λ (l : List ℕ). IsPadded width l) (sym (row_at-put_other stride y z mid new fit long apart)) (before.padded z on_page p)
-    padded_at z on_page p (inr here) = subst (λ (l : List ℕ). IsPadded width l) (sym (ap (λ r. row_at stride (put_mid (y * stride) stride mid new) r) here ∙ same)) padded
+    padded_at z on_page p (inr here) = subst (λ (l : List ℕ). IsPadded width l) (sym (ap (λ r. row_at stride (put_mid (y * stride) stride mid new) r) here ∙ same))
+        (padded (subst (λ (r : ℕ). IsPadded width (row_at stride mid r)) here (before.padded z on_page p)))
 
 -- one row more; the row is a slice whose length the code computes
 pub stamped_more : (stride width first y k : ℕ) (f : ℕ → ℕ → Bool) (old mid new : List ℕ) → k ≡ stride → first ≤ y → y * stride + stride ≤ length mid
-    → length new ≡ stride → AreUnder width (λ x. f x y) (take k (drop (y * stride) mid)) new → IsPadded width new
+    → length new ≡ stride → AreUnder width (λ x. f x y) (take k (drop (y * stride) mid)) new → (IsPadded width (take k (drop (y * stride) mid)) → IsPadded width new)
     → IsStamped stride width first y f old mid → IsStamped stride width first (y + 1) f old (put_mid (y * stride) k mid new)
 stamped_more stride width first y k f old mid new e low fit long under padded before =
     subst (λ (n : ℕ). IsStamped stride width first (y + 1) f old (put_mid (y * stride) n mid new)) (sym e)
-    (step stride width first y f old mid new low fit long (λ x in_row. under x in_row ∙ ap (λ l. f x y || pixel l x) row) padded before)
+    (step stride width first y f old mid new low fit long (λ x in_row. under x in_row ∙ ap (λ l. f x y || pixel l x) row)
+    (λ p. padded (subst (λ (l : List ℕ). IsPadded width l) (sym row) p)) before)
   where
     row : take k (drop (y * stride) mid) ≡ row_at stride mid y
     row = ap (λ n. take n (drop (y * stride) mid)) e
@@ -90,3 +93,34 @@ stamped_more stride width first y k f old mid new e low fit long under padded be
 -- what lies over pixel x of row y
 abbrev pub over : List ℕ → ℕ → ℕ → ℕ → ℕ → ℕ → ℕ → ℕ → Bool
 over upper stride start skipped down_start down_skipped x y = pixel_over (row_at stride upper (y + down_skipped - down_start)) start skipped x
+
+-- rows set behind those that were set before
+pub stamped_on : (stride width first y last : ℕ) (f : ℕ → ℕ → Bool) (old mid new : List ℕ) → first ≤ y → y ≤ last
+    → IsStamped stride width y last f mid new → IsStamped stride width first y f old mid → IsStamped stride width first last f old new
+stamped_on stride width first y last f old mid new low high after before = record {
+  len = after.len ∙ before.len;
+  dots = λ x z in_row on_page.
+      after.dots x z in_row (omega (arith, on_page, before.len)) ∙ ap (λ b. is_within y last z && f x z || b) (before.dots x z in_row on_page)
+      ∙ joined (is_within y last z) (is_within first y z) (f x z) (pixel (row_at stride old z) x)
+      ∙ ap (λ b. b && f x z || pixel (row_at stride old z) x) (both z);
+  padded = λ z on_page p. after.padded z (omega (arith, on_page, before.len)) (before.padded z on_page p);
+}
+  where
+    joined : (a b c d : Bool) → (a && c || (b && c || d)) ≡ ((a || b) && c || d)
+    joined true true true d = refl
+    joined true true false d = refl
+    joined true false true d = refl
+    joined true false false d = refl
+    joined false b c d = refl
+
+    both : (z : ℕ) → (is_within y last z || is_within first y z) ≡ is_within first last z
+    both z = grind (arith, nat_tests)
+
+-- all rows; the code computes the size of a row, and where it ended
+pub done : (own w from last until : ℕ) (f : ℕ → ℕ → Bool) (old new : List ℕ) → own ≡ div_ceil w 8 → last ≡ until → IsStamped own w from last f old new → IsStamped (div_ceil w 8) w from until f old new
+done own w from last until f old new e g stamped =
+    subst (λ (n : ℕ). IsStamped n w from until f old new) e (subst (λ (n : ℕ). IsStamped own w from n f old new) g stamped)
+
+-- the place where rows end, as the code computes it
+pub ended : (stride width first m n : ℕ) (f : ℕ → ℕ → Bool) (old new : List ℕ) → m ≡ n → IsStamped stride width first m f old new → IsStamped stride width first n f old new
+ended stride width first m n f old new e stamped = subst (λ (k : ℕ). IsStamped stride width first k f old new) e stamped

@@ -2,7 +2,7 @@
 use Rattle.std.proofs.Common.{◌^◌, ◌≡◌, ℕ, zero, suc, ◌+◌, ◌-◌, ◌*◌, ◌/◌, ◌%◌, ◌<◌, ◌≤◌, Bool, false, ◌&&◌, ◌||◌, eqb, List, [], ◌∷◌, ◌++◌, length, get_or, take, drop, replicate, slice_index_or, refl, ap, sym, subst, ◌∙◌, arith}
 use Rattle.std.specs.Int.{bit_at, div_ceil}
 use Rattle.std.specs.List.{flat_map}
-use Rattle.std.proofs.lemmas.List.{length-replicate, take-replicate, drop-replicate, take_all, append-nil}
+use Rattle.std.proofs.lemmas.List.{length-replicate, take-replicate, drop-replicate, append-nil}
 use Rattle.std.proofs.lemmas.List.Concat.{flat_map-append}
 use Rattle.std.proofs.lemmas.List.Elements.{All-replicate}
 use Rattle.std.proofs.lemmas.Nat.Bits.{bit_at-zero}
@@ -43,16 +43,16 @@ white_dot n x = ap (λ b. eqb (bit_at b (7 - x % 8)) 1) (zero_at n (x / 8)) ∙ 
 pub row_fits : (stride height y : ℕ) → y < height → y * stride + stride ≤ height * stride
 row_fits stride height y h = omega (arith, mul-le-mul_right stride h)
 
-row_of_zeros : (stride height n y : ℕ) → n ≡ height * stride → y < height → row_at stride (zeros n) y ≡ zeros stride
+row_of_zeros : (stride height n y : ℕ) → height * stride ≤ n → y < height → row_at stride (zeros n) y ≡ zeros stride
 row_of_zeros stride height n y e h =
     ap (take stride) (drop-replicate (y * stride) n 0) ∙ take-replicate stride (n - y * stride) 0 (omega (arith, e, row_fits stride height y h))
 
-pub white_stored : (w h n : ℕ) → w < 2 ^ 16 → h < 2 ^ 16 → n ≡ h * div_ceil w 8 → IsStored w h (zeros n)
+pub white_stored : (w h n : ℕ) → w < 2 ^ 16 → h < 2 ^ 16 → n ≡ h * div_ceil w 8 + 8 → IsStored w h (zeros n)
 white_stored w h n narrow low e = record {
   narrow = narrow;
   low = low;
   len = length-replicate n 0 ∙ e;
-  padded = λ y on_page. subst (λ (l : List ℕ). IsPadded w l) (sym (row_of_zeros (div_ceil w 8) h n y e on_page)) white;
+  padded = λ y on_page. subst (λ (l : List ℕ). IsPadded w l) (sym (row_of_zeros (div_ceil w 8) h n y (omega (arith, e)) on_page)) white;
 }
   where
     white : IsPadded w (zeros (div_ceil w 8))
@@ -62,9 +62,9 @@ white_stored w h n narrow low e = record {
       zero_behind = λ x _ _. white_dot (div_ceil w 8) x;
     }
 
-pub white_is_white : (w h n : ℕ) → n ≡ h * div_ceil w 8 → bitmap_of w h (zeros n) ≡ white_bitmap w h
+pub white_is_white : (w h n : ℕ) → n ≡ h * div_ceil w 8 + 8 → bitmap_of w h (zeros n) ≡ white_bitmap w h
 white_is_white w h n e = ap (made w h) (same_dots w h (λ x y. pixel (row_at (div_ceil w 8) (zeros n) y) x) (λ x y. false)
-    (λ x y _ on_page. ap (λ l. pixel l x) (row_of_zeros (div_ceil w 8) h n y e on_page) ∙ white_dot (div_ceil w 8) x))
+    (λ x y _ on_page. ap (λ l. pixel l x) (row_of_zeros (div_ceil w 8) h n y (omega (arith, e)) on_page) ∙ white_dot (div_ceil w 8) x))
 
 -- ---- its rows
 
@@ -95,8 +95,8 @@ first_rows w h bytes stored (suc n) low =
     one_more : n * div_ceil w 8 + div_ceil w 8 ≡ suc n * div_ceil w 8
     one_more = omega arith
 
-pub rows_are_text : (w h : ℕ) (bytes : List ℕ) → IsStored w h bytes → bytes ≡ flat_map row_text (bitmap_of w h bytes).rows
-rows_are_text w h bytes stored = sym (first_rows w h bytes stored h (omega arith) ∙ take_all (h * div_ceil w 8) bytes (omega (arith, stored.len)))
+pub rows_are_text : (w h n : ℕ) (bytes : List ℕ) → IsStored w h bytes → n ≡ h * div_ceil w 8 → take n bytes ≡ flat_map row_text (bitmap_of w h bytes).rows
+rows_are_text w h n bytes stored e = ap (λ k. take k bytes) e ∙ sym (first_rows w h bytes stored h (omega arith))
 
 -- a dot of a row that has the pixels of the page's row
 pub dot_in_row : (page : Bitmap) (w x y : ℕ) (row : List ℕ) → pixels_of w row ≡ slice_index_or page.rows y [] → x < w → pixel row x ≡ is_black page x y

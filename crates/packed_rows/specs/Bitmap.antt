@@ -1,11 +1,16 @@
 -- Black and white rasters, as lists of pixels.
-use Rattle.std.specs.Prelude.{ℕ, zero, suc, Bool, false, List, [], ◌∷◌, ◌++◌, slice_index_or}
+use Rattle.std.specs.Prelude.{◌≡◌, ℕ, zero, suc, ◌<◌, Bool, false, List, [], ◌∷◌, ◌++◌, length, slice_index_or}
 
 -- a raster: its rows from the top, each from the left, with true for black
 pub record Bitmap : Type 0 where
   pub width : ℕ
   pub height : ℕ
   pub rows : List (List Bool)
+
+-- a raster has as many rows as it is high, each as long as it is wide
+pub record IsShaped (raster : Bitmap) : Type 0 where
+  pub rows : length raster.rows ≡ raster.height
+  pub columns : (y : ℕ) → y < raster.height → length (slice_index_or raster.rows y []) ≡ raster.width
 
 -- a pixel of a raster, white outside it
 abbrev pub is_black : Bitmap → ℕ → ℕ → Bool

@@ -3,3 +3,4 @@ pub mod Packing
 pub mod Stored
 pub mod Changes
 pub mod Stamped
+pub mod Coordinates

@@ -22,3 +22,7 @@ pixel_over upper start skipped x = nat_le start (x + skipped) && pixel upper (x 
 -- pixel k of the eight that a byte holds
 abbrev pub byte_pixel : ℕ → ℕ → Bool
 byte_pixel byte k = bit_at byte (7 - k) == 1
+
+-- pixel i of the sixty-four that a number of eight bytes holds, the first in the high bit
+abbrev pub word_pixel : ℕ → ℕ → Bool
+word_pixel word i = bit_at word (63 - i) == 1

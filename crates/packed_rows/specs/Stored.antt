@@ -1,5 +1,5 @@
 -- How a bitmap is kept: its rows side by side, each in whole bytes.
-use Rattle.std.specs.Prelude.{◌≡◌, ℕ, ◌*◌, ◌^◌, ◌<◌, List, length, drop, take}
+use Rattle.std.specs.Prelude.{◌≡◌, ℕ, ◌+◌, ◌*◌, ◌^◌, ◌<◌, List, length, drop, take}
 use Rattle.std.specs.Int.{div_ceil}
 use Rattle.packed_rows.specs.Bitmap.{Bitmap, from_fn}
 use Rattle.packed_rows.specs.Packing.{pixels_of, IsPadded}
@@ -12,9 +12,10 @@ row_at stride bytes y = take stride (drop (y * stride) bytes)
 abbrev pub bitmap_of : ℕ → ℕ → List ℕ → Bitmap
 bitmap_of width height bytes = record { width = width; height = height; rows = from_fn height (λ y. pixels_of width (row_at (div_ceil width 8) bytes y)) }
 
--- the bytes are rows of that size, and nothing stands behind a row's last pixel
+-- the bytes are rows of that size and eight bytes more, so that eight can be read from each place in a row, and nothing stands
+-- behind a row's last pixel
 pub record IsStored (width height : ℕ) (bytes : List ℕ) : Type 0 where
   pub narrow : width < 2 ^ 16
   pub low : height < 2 ^ 16
-  pub len : length bytes ≡ height * div_ceil width 8
+  pub len : length bytes ≡ height * div_ceil width 8 + 8
   pub padded : (y : ℕ) → y < height → IsPadded width (row_at (div_ceil width 8) bytes y)

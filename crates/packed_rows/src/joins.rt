@@ -2,12 +2,13 @@
 
 ghost use Rattle.std.specs.Prelude.{◌≡◌, ℕ, ◌+◌, ◌-◌, ◌*◌, ◌^◌, ◌<◌, ◌≤◌, ◌&&◌, ◌||◌, length, nat_lt, slice_index};
 ghost use Rattle.std.specs.Int.{div_ceil};
+ghost use Rattle.packed_rows.specs.declared.offset.TheConstants.{MAX_COORDINATE};
 ghost use Rattle.packed_rows.specs.Packing.{pixel, IsPadded};
 ghost use Rattle.packed_rows.specs.Stamped.{byte_pixel, pixel_over};
 
 use crate::offset::Offset;
 
-// A byte of the row, without black pixels behind its end.
+// A byte of the row, white after its end.
 fn byte_at(row: &[u8], at: usize) -> u8
     ensures { result ≡ slice_index row.now at }
 {
@@ -24,10 +25,11 @@ fn eight_from(row: &[u8], from: usize) -> u8
 
 // The eight pixels of the upper row that lie over byte `at` of the lower one.
 fn eight_over(upper: &[u8], across: Offset, at: usize) -> u8
-    requires start { across.start ≤ 2 ^ 42 }
-    requires skipped { across.skipped ≤ 2 ^ 42 }
-    requires at { at < 2 ^ 42 }
-    ensures { (k : ℕ) → k < 8 → byte_pixel result k ≡ pixel_over upper.now across.start across.skipped (8 * at + k) }
+    requires start { across.start ≤ MAX_COORDINATE }
+    requires skipped { across.skipped ≤ MAX_COORDINATE }
+    requires at { at < MAX_COORDINATE }
+    ensures { (k : ℕ) → k < 8 → byte_pixel result k
+        ≡ pixel_over upper.now across.start across.skipped (8 * at + k) }
 {
     let from = 8 * at + across.skipped;
     if from >= across.start {
@@ -43,8 +45,8 @@ fn eight_over(upper: &[u8], across: Offset, at: usize) -> u8
 fn join(row: &mut [u8], upper: &[u8], across: Offset)
     requires short { length row.old < 2 ^ 20 }
     requires upper_short { length upper.now < 2 ^ 20 }
-    requires start { across.start ≤ 2 ^ 42 }
-    requires skipped { across.skipped ≤ 2 ^ 42 }
+    requires start { across.start ≤ MAX_COORDINATE }
+    requires skipped { across.skipped ≤ MAX_COORDINATE }
     ensures len { length row.new ≡ length row.old }
     ensures pixels { (x : ℕ) → x < 8 * length row.old →
         pixel row.new x ≡ (pixel_over upper.now across.start across.skipped x || pixel row.old x) }
@@ -57,11 +59,12 @@ fn join(row: &mut [u8], upper: &[u8], across: Offset)
     }
 }
 
-// Makes the bits behind the row's last pixel zero.
+// Makes the bits after the row's last pixel zero.
 fn trim(row: &mut [u8], width: u32)
     requires { length row.old ≡ div_ceil width 8 }
     ensures len { length row.new ≡ length row.old }
-    ensures pixels { (x : ℕ) → x < 8 * length row.old → pixel row.new x ≡ (nat_lt x width && pixel row.old x) }
+    ensures pixels { (x : ℕ) → x < 8 * length row.old →
+        pixel row.new x ≡ (nat_lt x width && pixel row.old x) }
 {
     if width > 0 {
         let last = (width - 1) as usize;
@@ -74,8 +77,8 @@ pub fn stamp_row(row: &mut [u8], width: u32, upper: &[u8], across: Offset)
     requires narrow { width < 2 ^ 16 }
     requires whole { length row.old ≡ div_ceil width 8 }
     requires upper_short { length upper.now < 2 ^ 20 }
-    requires start { across.start ≤ 2 ^ 42 }
-    requires skipped { across.skipped ≤ 2 ^ 42 }
+    requires start { across.start ≤ MAX_COORDINATE }
+    requires skipped { across.skipped ≤ MAX_COORDINATE }
     ensures pixels { (x : ℕ) → x < width →
         pixel row.new x ≡ (pixel_over upper.now across.start across.skipped x || pixel row.old x) }
     ensures padded { IsPadded width row.new }

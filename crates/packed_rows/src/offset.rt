@@ -1,8 +1,13 @@
 //! Where one line lies over another.
 
-ghost use Rattle.std.specs.Prelude.{◌≡◌, ◌+◌, ◌-◌, ◌^◌, ◌<◌, ◌≤◌, ℤ, pos, ◌-ℤ◌, ◌≤ℤ◌, ◌<ℤ◌, neg_ℤ, max, min};
+ghost use Rattle.std.specs.Prelude.{◌≡◌, ◌+◌, ◌-◌, ◌<◌, ◌≤◌, pos, ◌-ℤ◌, max, min};
+ghost use Rattle.packed_rows.specs.Coordinates.{IsCoordinate};
 
 use crate::rows::Span;
+
+/// The farthest from a bitmap's upper left pixel that a raster or a rule may be placed, and the
+/// longest side of a rule, in pixels either way.
+pub const MAX_COORDINATE: usize = 1 << 42;
 
 /// Place `p` of the lower line lies under place `p + skipped - start` of the upper one.
 #[derive(Clone, Copy)]
@@ -13,11 +18,10 @@ pub struct Offset {
 
 /// The offset of an upper line whose first place lies over place `at` of the lower one.
 pub fn offset_of(at: i64) -> Offset
-    requires low { neg_ℤ (pos (2 ^ 42)) ≤ℤ at }
-    requires high { at <ℤ pos (2 ^ 42) }
+    requires { IsCoordinate at }
     ensures value { pos result.start -ℤ pos result.skipped ≡ at }
-    ensures start { result.start ≤ 2 ^ 42 }
-    ensures skipped { result.skipped ≤ 2 ^ 42 }
+    ensures start { result.start ≤ MAX_COORDINATE }
+    ensures skipped { result.skipped ≤ MAX_COORDINATE }
 {
     if at >= 0 {
         Offset {
@@ -32,13 +36,15 @@ pub fn offset_of(at: i64) -> Offset
     }
 }
 
-/// The places of a lower line of `side` places that lie under one of the `len` places of the upper line.
+/// The places of a lower line of `side` places that lie under one of the `len` places of the upper
+/// line.
 pub fn reached(offset: Offset, len: usize, side: usize) -> Span
-    requires start { offset.start ≤ 2 ^ 42 }
-    requires skipped { offset.skipped ≤ 2 ^ 42 }
-    requires len { len < 2 ^ 42 }
+    requires start { offset.start ≤ MAX_COORDINATE }
+    requires skipped { offset.skipped ≤ MAX_COORDINATE }
+    requires len { len < MAX_COORDINATE }
     ensures from { result.from ≡ min (offset.start - offset.skipped) side }
-    ensures until { result.until ≡ max result.from (min (offset.start + len - offset.skipped) side) }
+    ensures until { result.until
+        ≡ max result.from (min (offset.start + len - offset.skipped) side) }
 {
     let from = offset.start.saturating_sub(offset.skipped).min(side);
     let end = (offset.start + len).saturating_sub(offset.skipped);

@@ -1,20 +1,24 @@
 //! A bitmap of packed rows.
 
-ghost use Rattle.std.specs.Prelude.{◌≡◌, ◌+◌, ◌^◌, ◌<◌, ◌≤◌, [], IfOk, slice_index_or, ℤ, pos, neg_ℤ, ◌≤ℤ◌, ◌<ℤ◌};
+ghost use Rattle.std.specs.Prelude.{◌≡◌, ◌+◌, ◌^◌, ◌<◌, ◌≤◌, [], IfOk, slice_index_or};
 ghost use Rattle.std.specs.List.{flat_map};
 ghost use Rattle.packed_rows.specs.Bitmap.{is_black};
+ghost use Rattle.packed_rows.specs.Coordinates.{IsCoordinate};
 ghost use Rattle.packed_rows.specs.Changes.{white_bitmap, with_black, with_copies, black_count};
 ghost use Rattle.packed_rows.specs.Stamped.{with_raster};
 ghost use Rattle.packed_rows.specs.Packing.{row_text, pixels_of, IsPadded};
 
+use crate::black::blacken_rows;
+use crate::narrow::stamp_over;
 use crate::offset::{offset_of, reached};
+use crate::ones::count_ones;
 use crate::row::{is_black, row_bytes};
-use crate::rows::{Span, blacken_rows, copy_rows};
-use crate::stamps::stamp_rows;
+use crate::rows::{Span, copy_rows};
 use std::alloc::{AllocError as NoMemory, Global};
 use std::marker::Model;
 
-/// A bitmap, seen as its width, its height and its rows of pixels. Its rows lie side by side.
+/// A bitmap, seen as its width, its height and its rows of pixels. Its rows lie side by side. Eight
+/// more bytes stand after the last one, so that a word can be read from each byte of a row.
 #[derive(Drop)]
 pub struct PackedBitmap {
     width: u32,
@@ -40,7 +44,7 @@ impl PackedBitmap {
         requires low { height < 2 ^ 16 }
         ensures white { IfOk result (λ b. b ≡ white_bitmap width height) }
     {
-        let bytes = vec![in alloc; 0; row_bytes(width) * height as usize]?;
+        let bytes = vec![in alloc; 0; row_bytes(width) * height as usize + 8]?;
         Ok(PackedBitmap {
             width,
             height,
@@ -84,7 +88,7 @@ impl PackedBitmap {
         blacken_rows(&mut self.bytes, row_bytes(self.width), columns, rows);
     }
 
-    /// Makes the rows below row `y`, so many of them, copies of it.
+    /// Makes the `copies` rows below row `y` copies of it.
     pub fn copy_down(&mut self, y: usize, copies: usize)
         requires { y + copies < self.old.height }
         ensures { self.new ≡ with_copies self.old y copies }
@@ -92,22 +96,22 @@ impl PackedBitmap {
         copy_rows(&mut self.bytes, row_bytes(self.width), y, copies);
     }
 
-    /// Sets a raster on the bitmap, with its upper left pixel in column `x` of row `y`: the pixels that lie on a
-    /// black one of the raster become black, the others stay. What lies beside the bitmap is cut off.
+    /// Sets a raster on the bitmap, with its upper left pixel in column `x` of row `y`: the pixels
+    /// that lie on a black one of the raster become black, the others stay. What lies beside the
+    /// bitmap is cut off.
     pub fn stamp(&mut self, raster: &PackedBitmap, x: i64, y: i64)
-        requires x_low { neg_ℤ (pos (2 ^ 42)) ≤ℤ x }
-        requires x_high { x <ℤ pos (2 ^ 42) }
-        requires y_low { neg_ℤ (pos (2 ^ 42)) ≤ℤ y }
-        requires y_high { y <ℤ pos (2 ^ 42) }
+        requires left { IsCoordinate x }
+        requires top { IsCoordinate y }
         ensures { self.new ≡ with_raster self.old raster.now x y }
     {
         let across = offset_of(x);
         let down = offset_of(y);
         let rows = reached(down, raster.height as usize, self.height as usize);
         let stride = row_bytes(raster.width);
-        stamp_rows(
+        let width = self.width;
+        stamp_over(
             &mut self.bytes,
-            self.width,
+            width,
             &raster.bytes,
             stride,
             across,
@@ -116,7 +120,8 @@ impl PackedBitmap {
         );
     }
 
-    /// The bytes of row `y`: eight pixels a byte, the first in the high bit, 1 for black, and zero bits behind the last.
+    /// The bytes of row `y`: eight pixels a byte, the first in the high bit, 1 for black, and zero
+    /// bits after the last.
     pub fn row(&self, y: u32) -> &[u8]
         requires { y < self.now.height }
         ensures text { result.now ≡ row_text (slice_index_or self.now.rows y []) }
@@ -132,18 +137,14 @@ impl PackedBitmap {
     pub fn rows(&self) -> &[u8]
         ensures { result.now ≡ flat_map row_text self.now.rows }
     {
-        &self.bytes
+        &self.bytes[..row_bytes(self.width) * self.height as usize]
     }
 
     /// How many pixels are black.
     pub fn count(&self) -> u64
         ensures { result ≡ black_count self.now }
     {
-        let mut count = 0;
-        for byte in &self.bytes {
-            count += u64::from(byte.count_ones());
-        }
-        count
+        count_ones(&self.bytes[..row_bytes(self.width) * self.height as usize])
     }
 }
 
@@ -184,6 +185,24 @@ mod tests {
             bitmap.rows(),
             [0xc0, 0, 0, 0x07, 0xfe, 0, 0, 0, 0x10].as_slice()
         );
+        Ok(())
+    }
+
+    #[test]
+    fn narrow_rasters_are_set_on_wide_rows(rt: HostRuntime) -> Result<(), Fail> {
+        let mut raster = PackedBitmap::white(rt.alloc(), 10, 6)?;
+        raster.blacken(Span { from: 0, until: 10 }, Span { from: 0, until: 1 });
+        raster.blacken(Span { from: 9, until: 10 }, Span { from: 4, until: 6 });
+        let mut bitmap = PackedBitmap::white(rt.alloc(), 80, 5)?;
+        bitmap.stamp(&raster, 15, 0);
+        bitmap.stamp(&raster, 16, -4);
+        assert_eq!(rt;
+            bitmap.row(0),
+            [0, 1, 0xff, 0xc0, 0, 0, 0, 0, 0, 0].as_slice()
+        );
+        assert_eq!(rt; bitmap.row(1), [0, 0, 0, 0x40, 0, 0, 0, 0, 0, 0].as_slice());
+        assert_eq!(rt; bitmap.row(4), [0, 0, 0, 0x80, 0, 0, 0, 0, 0, 0].as_slice());
+        assert_eq!(rt; bitmap.count(), 13);
         Ok(())
     }
 }

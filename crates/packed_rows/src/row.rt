@@ -19,14 +19,15 @@ pub fn is_black(row: &[u8], x: usize) -> bool
     (row[x / 8] >> (7 - x % 8)) & 1 == 1
 }
 
-/// Makes the pixels from `from` up to but not including `until` black, and leaves the others as they are.
+/// Makes the pixels from `from` up to but not including `until` black, and leaves the others as they
+/// are.
 pub fn blacken(row: &mut [u8], from: usize, until: usize)
     requires ordered { from ≤ until }
     requires inside { until ≤ 8 * length row.old }
     ensures len { length row.new ≡ length row.old }
     ensures pixels { (x : ℕ) → x < 8 * length row.old →
         pixel row.new x ≡ (nat_le from x && nat_lt x until || pixel row.old x) }
-    // What lies behind a row's last pixel stays zero.
+    // What lies after a row's last pixel stays zero.
     ensures padded { (width : ℕ) → until ≤ width → IsPadded width row.old → IsPadded width row.new }
 {
     if from == until {

@@ -2,6 +2,7 @@
 
 ghost use Rattle.std.specs.Prelude.{◌≡◌, ℕ, ◌+◌, ◌-◌, ◌*◌, ◌^◌, ◌<◌, ◌≤◌, ◌&&◌, ◌||◌, length};
 ghost use Rattle.std.specs.Int.{div_ceil};
+ghost use Rattle.packed_rows.specs.declared.offset.TheConstants.{MAX_COORDINATE};
 ghost use Rattle.packed_rows.specs.Packing.{pixel, IsPadded};
 ghost use Rattle.packed_rows.specs.Changes.{is_within};
 ghost use Rattle.packed_rows.specs.Stored.{row_at};
@@ -27,27 +28,31 @@ pub fn stamp_rows(
     requires ordered { rows.from ≤ rows.until }
     requires whole { rows.until * div_ceil width 8 ≤ length bytes.old }
     requires stride { stride < 2 ^ 16 }
-    requires start { across.start ≤ 2 ^ 42 }
-    requires skipped { across.skipped ≤ 2 ^ 42 }
-    requires down_start { down.start ≤ 2 ^ 42 }
-    requires down_skipped { down.skipped ≤ 2 ^ 42 }
+    requires start { across.start ≤ MAX_COORDINATE }
+    requires skipped { across.skipped ≤ MAX_COORDINATE }
+    requires down_start { down.start ≤ MAX_COORDINATE }
+    requires down_skipped { down.skipped ≤ MAX_COORDINATE }
     requires reached { rows.from < rows.until → down.start ≤ rows.from + down.skipped }
     requires upper_few { rows.from < rows.until → rows.until + down.skipped - down.start < 2 ^ 16 }
-    requires upper_whole { rows.from < rows.until → (rows.until + down.skipped - down.start) * stride ≤ length upper.now }
+    requires upper_whole { rows.from < rows.until →
+        (rows.until + down.skipped - down.start) * stride ≤ length upper.now }
     ensures len { length bytes.new ≡ length bytes.old }
-    ensures dots { (x y : ℕ) → x < width → y * div_ceil width 8 + div_ceil width 8 ≤ length bytes.old →
+    ensures dots { (x y : ℕ) → x < width →
+        y * div_ceil width 8 + div_ceil width 8 ≤ length bytes.old →
         pixel (row_at (div_ceil width 8) bytes.new y) x ≡
-        (is_within rows.from rows.until y && pixel_over (row_at stride upper.now (y + down.skipped - down.start)) across.start across.skipped x
+        (is_within rows.from rows.until y && pixel_over
+        (row_at stride upper.now (y + down.skipped - down.start)) across.start across.skipped x
         || pixel (row_at (div_ceil width 8) bytes.old y) x) }
     ensures padded { (y : ℕ) → y * div_ceil width 8 + div_ceil width 8 ≤ length bytes.old →
-        IsPadded width (row_at (div_ceil width 8) bytes.old y) → IsPadded width (row_at (div_ceil width 8) bytes.new y) }
+        IsPadded width (row_at (div_ceil width 8) bytes.old y) →
+        IsPadded width (row_at (div_ceil width 8) bytes.new y) }
 {
-    let own = row_bytes(width);
+    let row_len = row_bytes(width);
     for y in rows.from..rows.until {
-        let start = y * own;
+        let start = y * row_len;
         let above = (y + down.skipped - down.start) * stride;
         stamp_row(
-            &mut bytes[start..start + own],
+            &mut bytes[start..start + row_len],
             width,
             &upper[above..above + stride],
             across,

@@ -8,3 +8,4 @@ pub mod Cuts
 pub mod Forms
 pub mod BarFont
 pub mod Answered
+pub mod Total

@@ -18,7 +18,7 @@ same_number item more i n inside =
     ap (λ xs. unsigned_of (take n xs)) (drop-append-le i item more start) ∙ ap unsigned_of (take-append-le n (drop i item) more room)
 
 -- where the head is there the bytes behind it tell nothing more of the size
-same_size : (item more : List ℕ) → head_size (opcode item) ≤ length item → item_size (item ++ more) ≡ item_size item
+pub same_size : (item more : List ℕ) → head_size (opcode item) ≤ length item → item_size (item ++ more) ≡ item_size item
 same_size item more head =
     let op = opcode item in
     let some : 0 < length item = omega arith in

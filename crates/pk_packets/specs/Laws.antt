@@ -1,9 +1,10 @@
 -- What is true of PK files.
-use Rattle.std.specs.Prelude.{◌≡◌, ℕ, ◌+◌, ◌≤◌, List, ◌++◌, length, take, Option}
+use Rattle.std.specs.Prelude.{◌≡◌, ℕ, ◌+◌, ◌≤◌, ◌⊎◌, List, ◌++◌, length, take, Option}
+use Rattle.big_endian.specs.Numbers.{AreBytes}
 use Rattle.pk_runs.specs.declared.glyph.Glyph.{Glyph}
 use Rattle.pk_packets.specs.Preamble.{preamble_size}
 use Rattle.pk_packets.specs.Items.{IsItem, text_of}
-use Rattle.pk_packets.specs.Fonts.{IsAnswer, IsPkFile}
+use Rattle.pk_packets.specs.Fonts.{AreSound, Glyphs, HasGlyphsOf, IsAnswer, IsPkFile}
 use Rattle.pk_packets.specs.Faults.{IsFirstFault}
 use Rattle.pk_packets.specs.declared.faults.PkFault.{PkFault}
 use Rattle.pk_packets.specs.declared.faults.PkFault.TheVariants.{Short}
@@ -28,6 +29,14 @@ FilesHaveNoFault = (bytes : List ℕ) (items : List (List ℕ)) (f : PkFault) �
 -- bytes have one first fault at most
 abbrev pub FirstFaultsAreOne : Type 0
 FirstFaultsAreOne = (bytes : List ℕ) (f g : PkFault) → IsFirstFault bytes f → IsFirstFault bytes g → f ≡ g
+
+-- bytes are a PK file or have a first fault
+abbrev pub FilesAreReadOrHaveAFault : Type 0
+FilesAreReadOrHaveAFault = (bytes : List ℕ) → AreBytes bytes → ((items : List (List ℕ)) × IsPkFile bytes items) ⊎ ((f : PkFault) × IsFirstFault bytes f)
+
+-- sound items have their glyphs
+abbrev pub SoundItemsHaveGlyphs : Type 0
+SoundItemsHaveGlyphs = (items : List (List ℕ)) → AreSound items → (font : Glyphs) × HasGlyphsOf items font
 
 -- the place of the closing command
 abbrev pub closing_at : List ℕ → List (List ℕ) → ℕ

@@ -1,6 +1,6 @@
 //! What is true of PK files, each law the contract of a function without a body.
 ghost use Rattle.pk_packets.specs.Written.{ExtendedPacketsAreReadAgain, LongPacketsAreReadAgain, ShortPacketsAreReadAgain};
-ghost use Rattle.pk_packets.specs.Laws.{AnswersAreOne, CutFilesAreShort, FilesAreReadOneWay, FilesHaveNoFault, FirstFaultsAreOne, NoItemBeginsAnother};
+ghost use Rattle.pk_packets.specs.Laws.{AnswersAreOne, CutFilesAreShort, FilesAreReadOneWay, FilesAreReadOrHaveAFault, FilesHaveNoFault, FirstFaultsAreOne, NoItemBeginsAnother, SoundItemsHaveGlyphs};
 
 /// No item begins another. So a file has one list of items and at most one glyph for a code, a file
 /// that is read has no fault, and bytes have at most one first fault.
@@ -10,6 +10,8 @@ pub fn one_meaning()
     ensures one_answer { AnswersAreOne }
     ensures no_fault { FilesHaveNoFault }
     ensures one_fault { FirstFaultsAreOne }
+    ensures either { FilesAreReadOrHaveAFault }
+    ensures glyphs { SoundItemsHaveGlyphs }
 {}
 
 /// A file that is read is too short at each cut before its closing command.

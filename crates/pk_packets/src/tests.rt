@@ -1,6 +1,7 @@
 //! Small fonts, worked out by hand.
 
 mod faults;
+mod letter;
 
 use crate::{PkFault, PkFont, PkStop};
 use pk_runs::Glyph;

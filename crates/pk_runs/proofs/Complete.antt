@@ -4,7 +4,7 @@ use Rattle.std.proofs.lemmas.Bool.{cases_lt, cases_eq, lt-ltb, le-ltb, and_left,
 use Rattle.std.proofs.lemmas.Bool.Decides.{nat_tests}
 use Rattle.std.proofs.lemmas.Nat.{div-mul-add, mod-mul-add, div-add-mod', mul-add-lt}
 use Rattle.std.proofs.lemmas.List.{ext_get_or, length-drop, length-take-le, get_or_append_left, get_or-append_right, get_or-replicate, drop_all}
-use Rattle.packed_rows.specs.Bitmap.{Bitmap, is_black, from_fn}
+use Rattle.packed_rows.specs.Bitmap.{Bitmap, is_black, from_fn, IsShaped}
 use Rattle.packed_rows.specs.Changes.{is_within, white_bitmap, with_black}
 use Rattle.packed_rows.specs.Packing.{pixel}
 use Rattle.packed_rows.proofs.Lists.{length-from_fn, get_or-from_fn}
@@ -13,7 +13,7 @@ use Rattle.pk_runs.specs.Numbers.{nybbles_of}
 use Rattle.pk_runs.specs.Raster.{pixels, copies, rows_with_copies, count_with_copies, IsRunRaster, IsPlainRaster, IsStuck}
 use Rattle.pk_runs.specs.declared.faults.RunFault.{RunFault}
 use Rattle.pk_runs.proofs.Drawn.{painted_size, black_shaped, black_dot}
-use Rattle.pk_runs.specs.Painting.{shown, IsShaped, IsReady}
+use Rattle.pk_runs.specs.Painting.{shown, IsReady}
 use Rattle.pk_runs.specs.Reading.{IsPaintedTo}
 use Rattle.pk_runs.specs.declared.painter.Painter.{Painter}
 use Rattle.pk_runs.proofs.Shown.{length-rows, shown_above}

@@ -4,12 +4,12 @@ use Rattle.std.proofs.lemmas.Bool.Decides.{nat_tests}
 use Rattle.std.proofs.lemmas.List.{length-replicate, replicate-append-replicate}
 use Rattle.std.proofs.lemmas.Bool.{cases_lt}
 use Rattle.std.proofs.Math.Nat.{mul-le-mul_left}
-use Rattle.packed_rows.specs.Bitmap.{Bitmap, is_black, from_fn}
+use Rattle.packed_rows.specs.Bitmap.{Bitmap, is_black, from_fn, IsShaped}
 use Rattle.packed_rows.specs.Changes.{is_within, with_black, with_copies}
 use Rattle.packed_rows.proofs.Lists.{length-from_fn, get_or-from_fn}
 use Rattle.packed_rows.proofs.StoredBitmaps.{dot_of}
 use Rattle.pk_runs.specs.declared.painter.Painter.{Painter}
-use Rattle.pk_runs.specs.Painting.{painted, row_ended, shown, IsDrawn, IsReady, IsShaped}
+use Rattle.pk_runs.specs.Painting.{painted, row_ended, shown, IsDrawn, IsReady}
 use Rattle.pk_runs.proofs.Shown.{shown_painted, shown_ended, rows_alike, counts_alike}
 
 pub black_dot : (b : Bool) (bits : Bitmap) (from until first last x y : ℕ) → x < bits.width → y < bits.height

@@ -11,3 +11,4 @@ pub mod Complete
 pub mod Empty
 pub mod RowsGiven
 pub mod Sizes
+pub mod Total

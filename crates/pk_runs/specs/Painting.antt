@@ -1,6 +1,6 @@
 -- The steps of painting runs, and what is painted after some of them.
 use Rattle.std.specs.Prelude.{◌≡◌, ℕ, ◌+◌, ◌*◌, ◌<◌, ◌≤◌, Bool, false, List, [], ◌∷◌, ◌++◌, length, drop, slice_index_or, if◌then◌else◌}
-use Rattle.packed_rows.specs.Bitmap.{Bitmap, is_black}
+use Rattle.packed_rows.specs.Bitmap.{Bitmap, IsShaped, is_black}
 use Rattle.packed_rows.specs.Changes.{with_black, with_copies}
 use Rattle.pk_runs.specs.Raster.{rows_with_copies, count_with_copies}
 use Rattle.pk_runs.specs.declared.painter.Painter.{Painter}
@@ -30,11 +30,6 @@ pub record IsReady (p : Painter) : Type 0 where
 -- a pixel of the first n rows of the pixels with their copies, and of what is there of the row below them; white elsewhere
 abbrev pub shown : ℕ → List Bool → (ℕ → ℕ) → ℕ → ℕ → ℕ → Bool
 shown w ps copies_of n x y = slice_index_or (slice_index_or (rows_with_copies w ps copies_of n ++ drop (n * w) ps ∷ []) y []) x false
-
--- a bitmap has as many rows as it is high, each as long as it is wide
-pub record IsShaped (b : Bitmap) : Type 0 where
-  pub rows : length b.rows ≡ b.height
-  pub columns : (y : ℕ) → y < b.height → length (slice_index_or b.rows y []) ≡ b.width
 
 -- the pixels of some runs are painted on a raster of that size, with the copies of the rows that have a repeat count
 pub record IsDrawn (ps : List Bool) (copies_of : ℕ → ℕ) (is_repeated : ℕ → Bool) (w h : ℕ) (p : Painter) : Type 0 where

@@ -2,6 +2,7 @@
 -- The run lengths and repeat counts that were read are a list with the last one first.
 use Rattle.std.specs.Prelude.{◌≡◌, ℕ, zero, suc, ◌+◌, ◌-◌, ◌*◌, ◌/◌, ◌%◌, ◌<◌, ◌≤◌, ◌⊎◌, Bool, false, not, ◌||◌, List, [], ◌∷◌, ◌++◌, length, take, drop, replicate, ◌==◌, if◌then◌else◌, slice_index_or, IsTrue, IsFalse}
 use Rattle.std.specs.Bool.{MatchBool}
+use Rattle.std.specs.List.{AllByRecursion}
 use Rattle.packed_rows.specs.Bitmap.{Bitmap, from_fn}
 use Rattle.packed_rows.specs.Packing.{pixel}
 use Rattle.pk_runs.specs.Numbers.{nybbles_of, Item, Run, Repeat, SpellsItem, SpellsItems, CutsNumber, IsRepeatMark}
@@ -169,3 +170,8 @@ RunFaultsAreOne = (bytes : List ℕ) (dyn_f w h : ℕ) (f g : RunFault) → dyn_
 abbrev pub RastersAreOne : Type 0
 RastersAreOne = (bytes : List ℕ) (dyn_f w h : ℕ) (first : Bool) (r s : Bitmap) → dyn_f ≤ 14
     → IsRaster bytes dyn_f first w h r → IsRaster bytes dyn_f first w h s → r ≡ s
+
+-- bytes stand for a raster or have a fault
+abbrev pub BytesHaveARasterOrAFault : Type 0
+BytesHaveARasterOrAFault = (bytes : List ℕ) (dyn_f w h : ℕ) (first : Bool) → dyn_f ≤ 14 → AllByRecursion (λ b. b < 256) bytes
+    → ((raster : Bitmap) × IsRaster bytes dyn_f first w h raster) ⊎ ((f : RunFault) × IsRunFault bytes dyn_f w h f)

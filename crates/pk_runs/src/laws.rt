@@ -1,7 +1,7 @@
 //! Laws over the definitions, each the contract of a function without a body.
 
 ghost use Rattle.pk_runs.specs.Numbers.{NoNumberBeginsAnother, NoItemBeginsAnother, NumbersHaveNoGreatest};
-ghost use Rattle.pk_runs.specs.Raster.{RunRastersAreOne, RunRastersHaveTheirSize, RastersAreOne, RunRastersAreNeverStuck, RastersHaveNoFault, RunFaultsAreOne};
+ghost use Rattle.pk_runs.specs.Raster.{RunRastersAreOne, RunRastersHaveTheirSize, RastersAreOne, RunRastersAreNeverStuck, RastersHaveNoFault, RunFaultsAreOne, BytesHaveARasterOrAFault};
 
 /// No run length begins another, nor a repeat count, and none is the greatest. Bytes stand for at
 /// most one raster, and one of runs has the size that is asked for.
@@ -19,4 +19,5 @@ pub fn one_fault()
     ensures never_stuck { RunRastersAreNeverStuck }
     ensures no_fault { RastersHaveNoFault }
     ensures one { RunFaultsAreOne }
+    ensures either { BytesHaveARasterOrAFault }
 {}

@@ -1,5 +1,5 @@
-//! A page of dots: blank, with black rectangles and rasters set on it, read dot by dot or as the packed rows that a
-//! PBM file holds.
+//! A page of dots: blank, with black rectangles and rasters set on it, read dot by dot or as the
+//! packed rows that a PBM file holds.
 #![tactic(auto)]
 
 mod laws;

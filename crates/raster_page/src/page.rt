@@ -1,8 +1,9 @@
 //! The page.
 
-ghost use Rattle.std.specs.Prelude.{◌≡◌, ℕ, ◌*◌, ◌^◌, ◌<◌, ◌≤◌, ◌||◌, ℤ, pos, ◌≤ℤ◌, ◌<ℤ◌, neg_ℤ, List, [], ◌∷◌, IfOk, slice_index_or};
+ghost use Rattle.std.specs.Prelude.{◌≡◌, ℕ, ◌<◌, ◌≤◌, ◌||◌, List, [], ◌∷◌, IfOk, slice_index_or};
 ghost use Rattle.std.specs.List.{flat_map};
 ghost use Rattle.packed_rows.specs.Bitmap.{Bitmap, is_black};
+ghost use Rattle.packed_rows.specs.Coordinates.{IsCoordinate};
 ghost use Rattle.packed_rows.specs.Packing.{row_text, pixels_of, IsPadded};
 ghost use Rattle.raster_page.specs.Ink.{Inked, Dots, Bar, covers, page_of, with_mark};
 ghost use Rattle.packed_rows.specs.Changes.{black_count};
@@ -26,7 +27,8 @@ impl Model for Page {
 
     ghost view = { λ p. p.dots };
 
-    ghost invariant = { λ p. (1 ≤ p.dots.width) × (p.dots.width ≤ 20000) × (1 ≤ p.dots.height) × (p.dots.height ≤ 20000) };
+    ghost invariant = { λ p. (1 ≤ p.dots.width) × (p.dots.width ≤ 20000)
+        × (1 ≤ p.dots.height) × (p.dots.height ≤ 20000) };
 }
 
 impl Page {
@@ -70,22 +72,20 @@ impl Page {
         self.dots.is_black(x, y)
     }
 
-    /// Makes the dots of the page inside a rectangle black: `w` dots wide and `h` dots high, with its upper left
-    /// dot in column `x` of row `y`. The others stay. What lies beside the page is cut off.
+    /// Makes the dots of the page inside a rectangle black: `w` dots wide and `h` dots high, with its
+    /// upper left dot in column `x` of row `y`. The others stay. What lies beside the page is cut off.
     pub fn rule(&mut self, x: i64, y: i64, w: i64, h: i64)
-        requires x_low { neg_ℤ (pos (2 ^ 42)) ≤ℤ x }
-        requires x_high { x <ℤ pos (2 ^ 42) }
-        requires y_low { neg_ℤ (pos (2 ^ 42)) ≤ℤ y }
-        requires y_high { y <ℤ pos (2 ^ 42) }
-        requires w_low { neg_ℤ (pos (2 ^ 42)) ≤ℤ w }
-        requires w_high { w <ℤ pos (2 ^ 42) }
-        requires h_low { neg_ℤ (pos (2 ^ 42)) ≤ℤ h }
-        requires h_high { h <ℤ pos (2 ^ 42) }
+        requires left { IsCoordinate x }
+        requires top { IsCoordinate y }
+        requires wide { IsCoordinate w }
+        requires high { IsCoordinate h }
 
         ensures bar { self.new ≡ with_mark self.old (Bar x y w h) }
         ensures dots { (column row : ℕ) → column < self.old.width → row < self.old.height →
-            is_black self.new column row ≡ (covers column row (Bar x y w h) || is_black self.old column row) }
-        ensures marks { (marks : List Inked) → self.old ≡ page_of self.old.width self.old.height marks →
+            is_black self.new column row
+            ≡ (covers column row (Bar x y w h) || is_black self.old column row) }
+        ensures marks { (marks : List Inked) →
+            self.old ≡ page_of self.old.width self.old.height marks →
             self.new ≡ page_of self.old.width self.old.height (Bar x y w h ∷ marks) }
     {
         let columns = clipped(x, w, self.dots.width());
@@ -93,24 +93,25 @@ impl Page {
         self.dots.blacken(columns, rows);
     }
 
-    /// Makes the dots of the page black that lie on a black pixel of the bitmap, whose upper left pixel lies in
-    /// column `x` of row `y`. The others stay. What lies beside the page is cut off.
+    /// Makes the dots of the page black that lie on a black pixel of the bitmap, whose upper left pixel
+    /// lies in column `x` of row `y`. The others stay. What lies beside the page is cut off.
     pub fn stamp(&mut self, bitmap: &PackedBitmap, x: i64, y: i64)
-        requires x_low { neg_ℤ (pos (2 ^ 42)) ≤ℤ x }
-        requires x_high { x <ℤ pos (2 ^ 42) }
-        requires y_low { neg_ℤ (pos (2 ^ 42)) ≤ℤ y }
-        requires y_high { y <ℤ pos (2 ^ 42) }
+        requires left { IsCoordinate x }
+        requires top { IsCoordinate y }
 
         ensures ink { self.new ≡ with_mark self.old (Dots bitmap.now x y) }
         ensures dots { (column row : ℕ) → column < self.old.width → row < self.old.height →
-            is_black self.new column row ≡ (covers column row (Dots bitmap.now x y) || is_black self.old column row) }
-        ensures marks { (marks : List Inked) → self.old ≡ page_of self.old.width self.old.height marks →
+            is_black self.new column row
+            ≡ (covers column row (Dots bitmap.now x y) || is_black self.old column row) }
+        ensures marks { (marks : List Inked) →
+            self.old ≡ page_of self.old.width self.old.height marks →
             self.new ≡ page_of self.old.width self.old.height (Dots bitmap.now x y ∷ marks) }
     {
         self.dots.stamp(bitmap, x, y);
     }
 
-    /// The bytes of row `y`: eight dots a byte, the first in the high bit, 1 for black, and zero bits behind the last.
+    /// The bytes of row `y`: eight dots a byte, the first in the high bit, 1 for black, and zero bits
+    /// after the last.
     pub fn row(&self, y: u32) -> &[u8]
         requires { y < self.now.height }
         ensures text { result.now ≡ row_text (slice_index_or self.now.rows y []) }

@@ -1,7 +1,7 @@
 //! Small pages, with bytes worked out by hand.
 
 use crate::Page;
-use packed_rows::{PackedBitmap, Span};
+use packed_rows::{MAX_COORDINATE, PackedBitmap, Span};
 use std::test::Fail;
 
 #[test]
@@ -22,16 +22,18 @@ fn a_rule_in_the_middle(rt: HostRuntime) -> Result<(), Fail> {
         page.rows(),
         [0, 0, 0x1f, 0x80, 0x1f, 0x80, 0, 0].as_slice()
     );
-    if page.height() == 4 && page.width() == 10 {
-        assert_eq!(rt; page.row(1), [0x1f, 0x80].as_slice());
-        assert!(rt;
-            page.black(3, 1)
-                && page.black(8, 2)
-                && !page.black(2, 1)
-                && !page.black(9, 1)
-                && !page.black(3, 3)
-        );
-    }
+    assert!(rt; page.width() == 10 && page.height() == 4);
+    assert_eq!(rt; page.row(1), [0x1f, 0x80].as_slice());
+    assert_eq!(rt;
+        [
+            page.black(3, 1),
+            page.black(8, 2),
+            page.black(2, 1),
+            page.black(9, 1),
+            page.black(3, 3),
+        ],
+        [true, true, false, false, false]
+    );
     assert_eq!(rt; page.count(), 12);
     Ok(())
 }
@@ -57,14 +59,28 @@ fn rules_beside_the_page_leave_it(rt: HostRuntime) -> Result<(), Fail> {
     page.rule(0, 0, 9, 0);
     page.rule(5, 1, -3, 1);
     assert_eq!(rt; page.count(), 0);
-    page.rule(
-        -4_000_000_000_000,
-        -4_000_000_000_000,
-        4_300_000_000_000,
-        4_300_000_000_000,
-    );
-    assert_eq!(rt; page.rows(), [0xff, 0x80, 0xff, 0x80].as_slice());
-    assert_eq!(rt; page.count(), 18);
+    let farthest = MAX_COORDINATE as i64;
+    page.rule(farthest, farthest, farthest, farthest);
+    page.rule(-farthest, -farthest, farthest, farthest);
+    assert_eq!(rt; page.count(), 0);
+    page.rule(1 - farthest, 1 - farthest, farthest, farthest);
+    assert_eq!(rt; page.rows(), [0x80, 0, 0, 0].as_slice());
+    page.rule(0, 1, farthest, farthest);
+    assert_eq!(rt; page.rows(), [0x80, 0, 0xff, 0x80].as_slice());
+    assert_eq!(rt; page.count(), 10);
+    Ok(())
+}
+
+// Words, the bytes after the last of them, and the padding of 41 rows of 13 dots.
+#[test]
+fn dots_are_counted(rt: HostRuntime) -> Result<(), Fail> {
+    let mut page = Page::blank(rt.alloc(), 13, 41)?;
+    page.rule(7, 0, 2, 41);
+    assert_eq!(rt; page.count(), 82);
+    page.rule(0, 40, 13, 1);
+    assert_eq!(rt; page.count(), 93);
+    page.rule(0, 0, 13, 41);
+    assert_eq!(rt; page.count(), 533);
     Ok(())
 }
 

@@ -1,21 +1,19 @@
-use Rattle.std.proofs.Common.{◌≤◌, ◌^◌, ℕ, List, length, count_ones, ap, ◌∙◌, arith}
+use Rattle.std.proofs.Common.{◌≡◌, ◌*◌, take, count_ones, ap, ◌∙◌, arith}
+use Rattle.std.specs.Int.{div_ceil}
 use Rattle.std.specs.List.{sum_by}
-use Rattle.std.proofs.lemmas.List.{take_all}
-use Rattle.std.proofs.lemmas.List.Sums.{sum_by_more}
+use Rattle.std.proofs.lemmas.List.{length-take}
 use Rattle.packed_rows.specs.Bitmap.{Bitmap}
 use Rattle.packed_rows.specs.Changes.{black_count}
-use Rattle.packed_rows.proofs.Counts.{counted, few_bytes, bits_so_far, bits_of_byte}
+use Rattle.packed_rows.proofs.Counts.{counted, few_bytes}
 use Rattle.packed_rows.proofs.packed.PackedBitmap.count.Goals as goal
 
-pub overflow_add-count : goal.overflow_add-count
-overflow_add-count c =
-    let few : length c.deref-byte-items.result.now ≤ 2 ^ 29 = omega (arith, ap (λ (l : List ℕ). length l) c.deref-byte-items.ensures.value, few_bytes c.self.inside.width c.self.inside.height c.self.inside.bytes.items c.self.invariant) in
-    omega (arith, c.loop-byte.invariant, bits_so_far c.deref-byte-items.result.now c.loop-byte.byte-index (λ k. c.type_inv.byte-items k), bits_of_byte c.deref-byte-items.result.now c.loop-byte.byte-index (λ k. c.type_inv.byte-items k), c.loop-byte-test.true, c.from-count.ensures, few)
-
-pub loop-byte-preserved : goal.loop-byte-preserved
-loop-byte-preserved c = omega (arith, c.loop-byte.invariant, c.from-count.ensures, sum_by_more count_ones c.deref-byte-items.result.now c.loop-byte.byte-index 0 c.loop-byte-test.true)
+pub count_ones-requires : goal.count_ones-requires
+count_ones-requires c =
+    let size : c.row_bytes.result * c.self.inside.height ≡ c.self.inside.height * div_ceil c.self.inside.width 8 = omega (arith, ap (λ n. n * c.self.inside.height) c.row_bytes.ensures) in
+    omega (arith, length-take (c.row_bytes.result * c.self.inside.height) c.deref.result.now, size, c.self.invariant.len, few_bytes c.self.inside.width c.self.inside.height c.self.inside.bytes.items c.self.invariant)
 
 pub returns : goal.returns
 returns c =
-    c.loop-byte.invariant ∙ ap (sum_by count_ones) (take_all c.loop-byte.byte-index c.deref-byte-items.result.now c.loop-byte-test.false ∙ c.deref-byte-items.ensures.value)
-    ∙ counted c.self.inside.width c.self.inside.height c.self.inside.bytes.items c.self.invariant ∙ ap (λ (p : Bitmap). black_count p) c.self.view_is
+    let size : c.row_bytes.result * c.self.inside.height ≡ c.self.inside.height * div_ceil c.self.inside.width 8 = omega (arith, ap (λ n. n * c.self.inside.height) c.row_bytes.ensures) in
+    c.count_ones.ensures ∙ ap (λ l. sum_by count_ones (take (c.row_bytes.result * c.self.inside.height) l)) c.deref.ensures.value
+    ∙ counted c.self.inside.width c.self.inside.height (c.row_bytes.result * c.self.inside.height) c.self.inside.bytes.items c.self.invariant size ∙ ap (λ (p : Bitmap). black_count p) c.self.view_is

@@ -1,4 +1,4 @@
-use Rattle.std.proofs.Common.{◌≡◌, ◌*◌, ℕ, List, ap, sym, subst, ◌∙◌, arith}
+use Rattle.std.proofs.Common.{◌≡◌, ◌+◌, ◌*◌, ℕ, List, ap, sym, subst, ◌∙◌, arith}
 use Rattle.std.specs.Int.{div_ceil}
 use Rattle.packed_rows.specs.Stored.{IsStored, bitmap_of}
 use Rattle.packed_rows.proofs.StoredBitmaps.{white_stored, white_is_white}
@@ -6,13 +6,13 @@ use Rattle.packed_rows.proofs.packed.PackedBitmap.white.Goals as goal
 
 pub invariant_of-result : goal.invariant_of-result
 invariant_of-result c =
-    let size : c.row_bytes.result * c.args.height ≡ c.args.height * div_ceil c.args.width 8 = omega (arith, ap (λ n. n * c.args.height) c.row_bytes.ensures) in
+    let size : c.row_bytes.result * c.args.height + 8 ≡ c.args.height * div_ceil c.args.width 8 + 8 = omega (arith, ap (λ n. n * c.args.height) c.row_bytes.ensures) in
     subst (λ (l : List ℕ). IsStored c.args.width c.args.height l) (sym (c.in_ok-bytes.ensures.items_if_clones_equal (λ y e. e)))
-    (white_stored c.args.width c.args.height (c.row_bytes.result * c.args.height) c.requires.narrow c.requires.low size)
+    (white_stored c.args.width c.args.height (c.row_bytes.result * c.args.height + 8) c.requires.narrow c.requires.low size)
 
 pub returns : goal.returns
 returns c =
-    let size : c.row_bytes.result * c.args.height ≡ c.args.height * div_ceil c.args.width 8 = omega (arith, ap (λ n. n * c.args.height) c.row_bytes.ensures) in
+    let size : c.row_bytes.result * c.args.height + 8 ≡ c.args.height * div_ceil c.args.width 8 + 8 = omega (arith, ap (λ n. n * c.args.height) c.row_bytes.ensures) in
     record {
-      white = ap (λ l. bitmap_of c.args.width c.args.height l) (c.in_ok-bytes.ensures.items_if_clones_equal (λ y e. e)) ∙ white_is_white c.args.width c.args.height (c.row_bytes.result * c.args.height) size;
+      white = ap (λ l. bitmap_of c.args.width c.args.height l) (c.in_ok-bytes.ensures.items_if_clones_equal (λ y e. e)) ∙ white_is_white c.args.width c.args.height (c.row_bytes.result * c.args.height + 8) size;
     }

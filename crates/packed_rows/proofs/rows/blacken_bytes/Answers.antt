@@ -1,7 +1,7 @@
 use Rattle.std.proofs.Common.{◌≡◌, ◌+◌, ◌-◌, ◌*◌, ◌≤◌, length, arith}
 use Rattle.std.proofs.Math.Nat.{mul-le-mul_right}
 use Rattle.packed_rows.proofs.Blackened.{blackened_none, blackened_more}
-use Rattle.packed_rows.proofs.rows.blacken_rows.Goals as goal
+use Rattle.packed_rows.proofs.rows.blacken_bytes.Goals as goal
 
 pub loop-y-init : goal.loop-y-init
 loop-y-init c = blackened_none c.args.stride c.args.columns.from c.args.columns.until c.args.rows.from c.args.bytes.now

@@ -1,0 +1,83 @@
+//! Glyphs and rules at random places, compared with painting dot by dot.
+
+ghost use Rattle.std.specs.Prelude.{◌<◌};
+
+use crate::paint;
+use pk_runs::{Raster, raster};
+use raster_page::Page;
+use std::test::Fail;
+
+const WIDTH: u32 = 150;
+
+const HEIGHT: u32 = 12;
+
+const ROW_BYTES: usize = 19;
+
+// Numbers that look random: a linear congruence with Knuth's multiplier, of MMIX.
+#[derive(Drop)]
+struct Random {
+    state: u64,
+}
+
+impl Random {
+    // A number below `n`.
+    fn below(&mut self, n: u64) -> u64
+        requires { 0 < n }
+        ensures { result < n }
+    {
+        let state = self.state.wrapping_mul(6364136223846793005);
+        self.state = state.wrapping_add(1442695040888963407);
+        (self.state >> 33) % n
+    }
+}
+
+// Whether the raster has a black pixel in a column and a row, which may lie beside it.
+fn is_black(glyph: &Raster, column: i64, row: i64) -> bool {
+    0 <= column
+        && column < i64::from(glyph.width())
+        && 0 <= row
+        && row < i64::from(glyph.height())
+        && glyph.black(column as u32, row as u32)
+}
+
+// Glyphs of up to nine bytes a row and rules, three on each page, at all shifts and over all edges.
+#[test]
+fn as_dot_by_dot(rt: HostRuntime) -> Result<(), Fail> {
+    let mut random = Random { state: 1 };
+    for round in 0..300 {
+        let mut page = Page::blank(rt.alloc(), WIDTH, HEIGHT)?;
+        let mut slow = [0u8; 228];
+        for mark in 0..3 {
+            let mut bytes = [0u8; 80];
+            for byte in &mut bytes {
+                *byte = random.below(256) as u8;
+            }
+            let w = random.below(70) as u32;
+            let h = random.below(9) as u32;
+            let x = random.below(300) as i64 - 100;
+            let y = random.below(30) as i64 - 12;
+            let glyph = raster(rt.alloc(), &bytes, 14, true, w, h)?;
+            if mark == 2 {
+                page.rule(x, y, i64::from(w), i64::from(h));
+            } else {
+                paint(&mut page, &glyph, x, y);
+            }
+            for row in 0..HEIGHT {
+                for column in 0..WIDTH {
+                    let across = i64::from(column) - x;
+                    let down = i64::from(row) - y;
+                    let in_rule = 0 <= across
+                        && across < i64::from(w)
+                        && 0 <= down
+                        && down < i64::from(h);
+                    if (mark == 2 && in_rule) || (mark < 2 && is_black(&glyph, across, down)) {
+                        slow[row as usize * ROW_BYTES + column as usize / 8] |= 0x80
+                            >> (column % 8);
+                    }
+                }
+            }
+        }
+        assert_eq!(rt; page.rows(), slow.as_slice(), "at page {round}");
+    }
+    Ok(())
+}
