@@ -1,0 +1,16 @@
+pub mod Kept
+pub mod Steps
+pub mod Found
+pub mod Fields
+pub mod Spans
+pub mod Defined
+pub mod Sound
+pub mod SoFar
+pub mod OneItem
+pub mod ItemLists
+pub mod OneProgram
+pub mod OneMeaning
+pub mod Cuts
+pub mod Answered
+pub mod Total
+pub mod SmallFonts

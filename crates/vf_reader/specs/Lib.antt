@@ -1,0 +1,11 @@
+pub mod Preamble
+pub mod Items
+pub mod Programs
+pub mod Locals
+pub mod Places
+pub mod Fonts
+pub mod Faults
+pub mod Stops
+pub mod Walked
+pub mod Laws
+pub mod Rows

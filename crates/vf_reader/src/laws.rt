@@ -1,0 +1,17 @@
+//! What is true of VF files, each law the contract of a function without a body.
+ghost use Rattle.vf_reader.specs.Laws.{CutFilesAreShort, FilesAreReadOneWay, FilesAreReadOrHaveAFault, FilesHaveNoFault, FirstFaultsAreOne, NoItemBeginsAnother};
+
+/// No item begins another. So a file has one list of items, a file that is read has no fault, and
+/// bytes have at most one first fault. All bytes are a VF file or have a first fault.
+pub fn one_meaning()
+    ensures items { NoItemBeginsAnother }
+    ensures one_list { FilesAreReadOneWay }
+    ensures no_fault { FilesHaveNoFault }
+    ensures one_fault { FirstFaultsAreOne }
+    ensures either { FilesAreReadOrHaveAFault }
+{}
+
+/// A file that is read is too short at each cut before its closing command.
+pub fn cut_files()
+    ensures { CutFilesAreShort }
+{}

@@ -1,0 +1,25 @@
+//! Virtual fonts: the packets and the local fonts of a VF file (Knuth, VFtoVP, "Virtual fonts").
+//! Every packet is judged at reading, also one that no page uses or that a later one replaces; the
+//! first fault of the file is answered. The bytes of the file are kept once, and a packet is given
+//! out as a part of them.
+#![tactic(auto)]
+
+mod faults;
+mod font;
+mod items;
+pub mod laws;
+mod local_table;
+mod locals;
+mod opcodes;
+mod packet_table;
+mod preamble;
+mod program;
+mod read;
+pub mod rows;
+
+pub use faults::{VfFault, VfStop};
+pub use font::VfFont;
+pub use locals::LocalDef;
+
+#[cfg(test)]
+mod tests;
