@@ -38,7 +38,7 @@ counted p c cs = by_test (p c) (λ t. rw t (omega arith)) (λ t. rw t (omega ari
 first_true : (a b : Bool) → a ≡ true → (a || b) ≡ true
 first_true a b h = rw h refl
 
-same_key : (o p : Option FontKey) → option_key_eq o p ≡ true → o ≡ p
+pub same_key : (o p : Option FontKey) → option_key_eq o p ≡ true → o ≡ p
 same_key None None h = refl
 same_key None (Some k) h = absurd cc
 same_key (Some j) None h = absurd cc

@@ -54,6 +54,10 @@ module _ {T : Type 0} where
   is_found true v o r e = refl
   is_found false v o r e = e
 
+  -- the first font is its key's
+  pub first_found : (k : FontKey) (font : T) (es : List (FontKey × T)) → lookup (key_eq k) ((k, font) ∷ es) ≡ Some font
+  first_found k font es = rw (key_is_itself k) refl
+
   -- a key has a font exactly where it is resident
   pub found_key : (k : FontKey) (es : List (FontKey × T)) → is_some (lookup (key_eq k) es) ≡ has_key k (keys_of es)
   found_key k [] = refl

@@ -1,11 +1,14 @@
 pub mod Answered
 pub mod ArcLists
 pub mod Changes
+pub mod ClaimsFit
 pub mod FewClaims
 pub mod FontLists
 pub mod Keys
 pub mod Looks
 pub mod OwnClaims
+pub mod SeatCalls
+pub mod Solo
 pub mod Sound
 pub mod Steps
 pub mod Turns

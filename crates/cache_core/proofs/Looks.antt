@@ -1,9 +1,7 @@
 -- What a look is answered: exactly one of three.
-use Rattle.std.proofs.Common.{◌≡◌, ◌≢◌, ℕ, true, false, not, ◌&&◌, List, [], ◌∷◌, Some, None, nat_eq, IsFalse, refl, sym, ap, ◌∙◌, subst, inl, inr, true≢false}
-use Rattle.std.specs.Option.{is_some}
+use Rattle.std.proofs.Common.{◌≡◌, ◌≢◌, ℕ, true, false, not, List, [], ◌∷◌, Some, None, nat_eq, refl, sym, ap, ◌∙◌, subst, inl, inr, true≢false}
 use Rattle.std.proofs.lemmas.Bool.{and_parts, eqb-true, eq-eqb}
 use Rattle.outside.specs.declared.keys.FontKey.{FontKey}
-use Rattle.cache_core.specs.declared.calls.Call.{Call}
 use Rattle.cache_core.specs.Machine.{Machine, key_eq, has_key, claims_key, claim_of}
 use Rattle.cache_core.specs.Laws.{IsClaimedByAnother, LooksAreAnswered}
 use Rattle.cache_core.proofs.Keys.{keys_are_equal}

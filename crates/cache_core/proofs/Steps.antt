@@ -15,7 +15,7 @@ after_one capacity m n (d ∷ calls) c h allowed = (elim (allows capacity m d) a
 ]) refl
 
 -- a choice that gives a state gave it at true
-chosen : (b : Bool) (o : Option Machine) → IsSome (cond b o None) → (b ≡ true) × IsSome o
+pub chosen : (b : Bool) (o : Option Machine) → IsSome (cond b o None) → (b ≡ true) × IsSome o
 chosen true o h = (refl, h)
 chosen false o h = absurd cc
 

@@ -17,7 +17,7 @@ use Rattle.cache_core.proofs.FontLists.{found_key, keys_forward}
 use Rattle.cache_core.proofs.Steps.{after_one}
 use Rattle.cache_core.proofs.Sound.{sound_after, claimed_of}
 
-itself : (o : Option FontKey) → option_key_eq o o ≡ true
+pub itself : (o : Option FontKey) → option_key_eq o o ≡ true
 itself None = refl
 itself (Some k) = key_is_itself k
 

@@ -1,5 +1,5 @@
 -- What the calls of one seat are.
-use Rattle.std.specs.Prelude.{◌≡◌, ◌⊎◌, ℕ, ◌==◌, List, [], ◌∷◌, ◌++◌, filter, Option, Some, None}
+use Rattle.std.specs.Prelude.{◌≡◌, ◌≢◌, ◌⊎◌, ℕ, ◌==◌, List, [], ◌∷◌, ◌++◌, filter, Option, Some, None}
 use Rattle.outside.specs.declared.keys.FontKey.{FontKey}
 use Rattle.cache_core.specs.declared.calls.Call.{Call}
 use Rattle.cache_core.specs.declared.calls.Done.{Done}
@@ -36,3 +36,30 @@ IsAnswer k calls =
 abbrev pub SeatCalls : List FontKey → List Call → Type 0
 SeatCalls [] calls = calls ≡ []
 SeatCalls (k ∷ asked) calls = (first : List Call) × (others : List Call) × (calls ≡ first ++ others) × IsAnswer k first × SeatCalls asked others
+
+-- each call is of this seat
+abbrev pub AreOf : ℕ → List Call → Type 0
+AreOf seat [] = Unit {0}
+AreOf seat (c ∷ calls) = (c.seat ≡ seat) × AreOf seat calls
+
+-- no call gives a claim up
+abbrev pub NoneReleased : List Call → Type 0
+NoneReleased [] = Unit {0}
+NoneReleased (c ∷ calls) = (c.done ≢ Released) × NoneReleased calls
+
+-- no look is answered that another seat has claimed the key
+abbrev pub NoneBusy : List Call → Type 0
+NoneBusy [] = Unit {0}
+NoneBusy (c ∷ calls) = (c.done ≢ Busy) × NoneBusy calls
+
+-- the keys of looks, in order
+abbrev pub look_of : FontKey → Done → List FontKey
+look_of k Hit = k ∷ []
+look_of k Claimed = k ∷ []
+look_of k Busy = k ∷ []
+look_of k (Filled _) = []
+look_of k Released = []
+
+abbrev pub looks : List Call → List FontKey
+looks [] = []
+looks (c ∷ calls) = look_of c.key c.done ++ looks calls

@@ -1,11 +1,12 @@
 -- Laws over the machine's histories.
-use Rattle.std.specs.Prelude.{◌≡◌, ◌≢◌, ◌↔◌, ℕ, ◌+◌, ◌≤◌, Bool, true, false, ◌&&◌, ◌||◌, List, ◌++◌, filter, length, Some, None, IsTrue, IsFalse}
+use Rattle.std.specs.Prelude.{◌≡◌, ◌≢◌, ◌↔◌, ℕ, ◌+◌, ◌≤◌, Bool, true, false, ◌&&◌, ◌||◌, List, ◌++◌, filter, length, slice_get, Some, None, IsTrue, IsFalse}
 use Rattle.outside.specs.declared.keys.FontKey.{FontKey}
 use Rattle.cache_core.specs.declared.calls.Call.{Call}
 use Rattle.cache_core.specs.declared.calls.Done.{Done}
 use Rattle.cache_core.specs.declared.calls.Done.TheVariants.{Hit, Claimed, Busy, Filled, Released}
 use Rattle.cache_core.specs.Machine.{Machine, Legal, key_eq, has_key, claim_of, allows_done, machine_after, empty}
-use Rattle.cache_core.specs.Histories.{own, open_claim}
+use Rattle.cache_core.specs.Histories.{own, open_claim, looks, AreOf, NoneReleased, NoneBusy, SeatCalls}
+use Rattle.cache_core.specs.Solo.{solo_history}
 
 abbrev pub is_claim : Done → Bool
 is_claim Claimed = true
@@ -43,9 +44,32 @@ claims_it k c = key_eq k c.key && is_claim c.done
 abbrev pub frees_it : FontKey → Call → Bool
 frees_it k c = leaves_by k c.done || (key_eq k c.key && is_release c.done)
 
--- a key is claimed at most once more than its font left and its claims were given up together
+-- each key is claimed at most once more than its font left and its claims were given up together
+abbrev pub FewClaims : List Call → Type 0
+FewClaims history = (k : FontKey) → length (filter (claims_it k) history) ≤ length (filter (frees_it k) history) + 1
+
+-- so it is in each legal history
 abbrev pub ClaimsAreFew : Type 0
-ClaimsAreFew = (capacity : ℕ) (history : List Call) → Legal capacity history → (k : FontKey) → length (filter (claims_it k) history) ≤ length (filter (frees_it k) history) + 1
+ClaimsAreFew = (capacity : ℕ) (history : List Call) → Legal capacity history → FewClaims history
+
+-- the claim at this place of the list is the seat's on the key
+abbrev pub ClaimsAt : Machine → ℕ → ℕ → FontKey → Type 0
+ClaimsAt m i seat k = slice_get m.claims i ≡ Some (seat, k)
+
+-- the claims of a state
+pub record ClaimsFit (m : Machine) : Type 0 where
+  -- the font of a claimed key is not resident
+  pub absent : (i seat : ℕ) (k : FontKey) → ClaimsAt m i seat k → IsFalse (has_key k m.resident)
+  -- a key is claimed once
+  pub key_once : (i j seat other : ℕ) (k : FontKey) → ClaimsAt m i seat k → ClaimsAt m j other k → i ≡ j
+  -- a seat has at most one claim
+  pub seat_once : (i j seat : ℕ) (k l : FontKey) → ClaimsAt m i seat k → ClaimsAt m j seat l → i ≡ j
+  -- it is the one that is looked up for the seat
+  pub looked_up : (i seat : ℕ) (k : FontKey) → ClaimsAt m i seat k → claim_of seat m.claims ≡ Some k
+
+-- so they are in the state after each legal history
+abbrev pub ClaimsAlwaysFit : Type 0
+ClaimsAlwaysFit = (capacity : ℕ) (history : List Call) (m : Machine) → machine_after capacity empty history ≡ Some m → ClaimsFit m
 
 -- another seat has claimed the key
 abbrev pub IsClaimedByAnother : Machine → ℕ → FontKey → Type 0
@@ -61,3 +85,42 @@ pub record IsLookAnswered (capacity : ℕ) (m : Machine) (seat : ℕ) (k : FontK
 abbrev pub LooksAreAnswered : Type 0
 LooksAreAnswered = (capacity : ℕ) (history : List Call) (m : Machine) → machine_after capacity empty history ≡ Some m
     → (seat : ℕ) (k : FontKey) → claim_of seat m.claims ≡ None → IsLookAnswered capacity m seat k
+
+-- where all calls are of one seat, no look is busy
+abbrev pub NoneAloneIsBusy : Type 0
+NoneAloneIsBusy = (capacity seat : ℕ) (history : List Call) → Legal capacity history → AreOf seat history → NoneBusy history
+
+-- a history of one seat that answers these keys and gives no claim up
+pub record IsSolo (capacity seat : ℕ) (keys : List FontKey) (history : List Call) : Type 0 where
+  pub legal : Legal capacity history
+  pub own : AreOf seat history
+  pub for_keys : SeatCalls keys history
+  pub kept : NoneReleased history
+
+-- there is one, and one only
+abbrev pub SoloIsOne : Type 0
+SoloIsOne = (capacity seat : ℕ) (keys : List FontKey) (history : List Call) → IsSolo capacity seat keys history → history ≡ solo_history capacity seat keys
+
+abbrev pub SoloIsThere : Type 0
+SoloIsThere = (capacity seat : ℕ) (keys : List FontKey) → IsSolo capacity seat keys (solo_history capacity seat keys)
+
+-- a seat's own calls in two joined lists are those in the first and then those in the second
+abbrev pub OwnsAreJoined : Type 0
+OwnsAreJoined = (seat : ℕ) (xs ys : List Call) → own seat (xs ++ ys) ≡ own seat xs ++ own seat ys
+
+-- where all calls are of one seat, its own calls are the history
+abbrev pub OwnsAreHistory : Type 0
+OwnsAreHistory = (seat : ℕ) (history : List Call) → AreOf seat history → own seat history ≡ history
+
+-- the keys that a seat asked for are the keys of its looks: the entries tell them
+abbrev pub KeysAreLooks : Type 0
+KeysAreLooks = (keys : List FontKey) (calls : List Call) → SeatCalls keys calls → looks calls ≡ keys
+
+-- a prefix of the keys has a prefix of the entries, and the keys after it have the entries after that
+abbrev pub PrefixesHaveCalls : Type 0
+PrefixesHaveCalls = (keys after : List FontKey) (calls : List Call) → SeatCalls (keys ++ after) calls
+    → (first : List Call) × (others : List Call) × (calls ≡ first ++ others) × SeatCalls keys first × SeatCalls after others
+
+-- joined lists of keys have joined entries
+abbrev pub CallsAreJoined : Type 0
+CallsAreJoined = (keys after : List FontKey) (first others : List Call) → SeatCalls keys first → SeatCalls after others → SeatCalls (keys ++ after) (first ++ others)

@@ -1,9 +1,10 @@
 -- One page of a virtual font and its two fonts, by one seat, with a cache of one font and of three.
-use Rattle.std.specs.Prelude.{ℕ, List, [], ◌∷◌, Some, None}
+use Rattle.std.specs.Prelude.{List, [], ◌∷◌, Some, None}
 use Rattle.outside.specs.declared.keys.FontKey.{FontKey}
 use Rattle.cache_core.specs.declared.calls.Call.{Call}
 use Rattle.cache_core.specs.declared.calls.Done.{Done}
 use Rattle.cache_core.specs.declared.calls.Done.TheVariants.{Hit, Claimed, Busy, Filled, Released}
+use Rattle.cache_core.specs.States.{call}
 
 abbrev pub duo : FontKey
 duo = record { area = 0; name = 100 ∷ 117 ∷ 111 ∷ []; size = 128; design = 128 }
@@ -14,11 +15,8 @@ dot = record { area = 0; name = 100 ∷ 111 ∷ 116 ∷ []; size = 128; design =
 abbrev pub bar : FontKey
 bar = record { area = 0; name = 98 ∷ 97 ∷ 114 ∷ []; size = 128; design = 128 }
 
-abbrev pub by : ℕ → FontKey → Done → Call
-by seat k done = record { seat = seat; key = k; done = done }
-
 abbrev pub one : FontKey → Done → Call
-one k done = by 1 k done
+one k done = call 1 k done
 
 abbrev pub history_of_one : List Call
 history_of_one = one duo Claimed ∷ one duo (Filled None) ∷ one dot Claimed ∷ one dot (Filled (Some duo)) ∷ one bar Claimed ∷ one bar (Filled (Some dot))
@@ -40,10 +38,10 @@ dot_leaves = one dot Claimed ∷ one dot (Filled None) ∷ one bar Claimed ∷ o
 
 -- a second seat is busy while the first has claimed the key, and claims it when the first has released it
 abbrev pub second_is_busy : List Call
-second_is_busy = by 1 dot Claimed ∷ by 2 dot Busy ∷ by 1 dot Released ∷ by 2 dot Claimed ∷ []
+second_is_busy = call 1 dot Claimed ∷ call 2 dot Busy ∷ call 1 dot Released ∷ call 2 dot Claimed ∷ []
 
 abbrev pub second_claims : List Call
-second_claims = by 1 dot Claimed ∷ by 2 dot Claimed ∷ []
+second_claims = call 1 dot Claimed ∷ call 2 dot Claimed ∷ []
 
 abbrev pub own_is_busy : List Call
-own_is_busy = by 1 dot Claimed ∷ by 1 dot Busy ∷ []
+own_is_busy = call 1 dot Claimed ∷ call 1 dot Busy ∷ []

@@ -161,9 +161,10 @@ impl<T: Stands> CacheState<T> {
         )
     }
 
-    /// Hands in the font of the key that the seat has claimed, which ends the claim. The answer is
-    /// the key whose font left for it. `Err` means that memory was wanting: it hands the font back
-    /// and changes the number of turns alone, so that the seat still holds its claim.
+    /// Hands in the font of the key that the seat has claimed, which ends the claim: the key then has
+    /// this font. The answer is the key whose font left for it. `Err` means that memory was wanting:
+    /// it hands the font back and changes the number of turns alone, so that the seat still holds its
+    /// claim.
     pub fn fill(
         &mut self,
         seat: u32,
@@ -179,6 +180,8 @@ impl<T: Stands> CacheState<T> {
         ensures noted { IfOk result (λ gone. self.new.history
             ≡ self.old.history ++ call seat (arc_value key.now) (Filled (option_map arc_value gone)) ∷ []) }
         ensures fonts { IfOk result (λ _. AddsFont (arc_value key.now) (arc_value value) self.old.fonts self.new.fonts) }
+        ensures stored { IfOk result (λ _. lookup (key_eq (arc_value key.now)) self.new.fonts
+            ≡ Some (arc_value value)) }
         ensures back { IfErr result (λ handed. handed ≡ value) }
         ensures refused { OnErr result (self.new ≡ record self.old { turns = self.old.turns + 1 }) }
         ensures reached { IsReached self.new }
@@ -210,6 +213,8 @@ impl<T: Stands> CacheState<T> {
             ≡ self.old.history ++ call seat (arc_value key.now) (Filled (evicted_key gone)) ∷ []) }
         ensures left { IfOk result (λ gone. option_map evicted_seen gone ≡ gone_font self.old.fonts self.old.capacity) }
         ensures fonts { IfOk result (λ _. AddsFont (arc_value key.now) (arc_value value) self.old.fonts self.new.fonts) }
+        ensures stored { IfOk result (λ _. lookup (key_eq (arc_value key.now)) self.new.fonts
+            ≡ Some (arc_value value)) }
         ensures back { IfErr result (λ handed. handed ≡ value) }
         ensures refused { OnErr result (self.new ≡ record self.old { turns = self.old.turns + 1 }) }
         ensures reached { IsReached self.new }

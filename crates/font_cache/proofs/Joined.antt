@@ -13,6 +13,12 @@ one_joined v two is zero above below = absurd (omega arith)
 one_joined v two is (suc zero) above below = (0, ap (λ l. get_elem? l 0) is)
 one_joined v two is (suc (suc n)) above below = absurd (omega arith)
 
+pub both_joined : (v : View) → v.made ≡ 3 → v.joined ≡ 1 ∷ 2 ∷ [] → AllJoined v
+both_joined v three is zero above below = absurd (omega arith)
+both_joined v three is (suc zero) above below = (0, ap (λ l. get_elem? l 0) is)
+both_joined v three is (suc (suc zero)) above below = (1, ap (λ l. get_elem? l 1) is)
+both_joined v three is (suc (suc (suc n))) above below = absurd (omega arith)
+
 -- eight seats are joined, the last first: one more
 pub more_joined : (joined : List ℕ) (number i : ℕ) → i < 8 → number ≡ 8 - i → ((n : ℕ) → 8 < n + i → n < 9 → (place : ℕ) × (get_elem? joined place ≡ some n))
     → (n : ℕ) → 8 < n + (i + 1) → n < 9 → (place : ℕ) × (get_elem? (joined ++ number ∷ []) place ≡ some n)

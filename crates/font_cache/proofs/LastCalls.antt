@@ -5,7 +5,7 @@ use Rattle.cache_core.specs.declared.calls.Call.{Call}
 use Rattle.cache_core.specs.declared.calls.Done.{Done}
 use Rattle.cache_core.specs.declared.calls.Done.TheVariants.{Hit, Claimed, Busy, Filled, Released}
 use Rattle.cache_core.specs.Histories.{own, left_by, open_from, open_claim}
-use Rattle.cache_core.proofs.OwnClaims.{claims_are_own}
+use Rattle.cache_core.specs.Laws.{ClaimsAreOwn}
 use Rattle.font_cache.specs.Laws.{LastClaims, ClaimsAreLast, HeldByLast}
 
 pub open_last : (claim : Option FontKey) (xs : List Call) (c : Call) → open_from claim (xs ++ c ∷ []) ≡ left_by c.key c.done
@@ -37,7 +37,7 @@ starts k (x ∷ calls) e = ends k x calls e
 pub claims_are_last : ClaimsAreLast
 claims_are_last k calls = (starts k calls, opens k calls)
 
-pub held_by_last : HeldByLast
-held_by_last capacity history m is seat k =
-    let same = claims_are_own capacity history m is seat in
+pub held_by_last : ClaimsAreOwn → HeldByLast
+held_by_last law capacity history m is seat k =
+    let same = law capacity history m is seat in
     (λ e. starts k (own seat history) (sym same ∙ e), λ l. same ∙ opens k (own seat history) l)

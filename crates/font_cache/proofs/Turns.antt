@@ -1,79 +1,103 @@
 -- One turn at the cache: what the value that was taken and the call that was made say of the seat's history.
-use Rattle.std.proofs.Common.{◌≡◌, ℕ, ◌+◌, List, [], ◌∷◌, ◌++◌, Option, Some, None, IsSome, IsTrue, Result, Ok, Err, IfOk, OnErr, refl, sym, ap, ◌∙◌, subst, eq-eqb}
+use Rattle.std.proofs.Common.{◌≡◌, ℕ, ◌+◌, List, [], ◌∷◌, ◌++◌, Option, Some, None, IsSome, IsTrue, Result, Ok, Err, IfOk, OnErr, refl, sym, ap, ◌∙◌, subst, eq-eqb, append_assoc}
 use Rattle.std.specs.Option.{option_map}
 use Rattle.std.specs.Arc.{arc_value}
 use Rattle.std.specs.declared.alloc.Global.{Global}
 use Rattle.std.specs.declared.sync.Arc.{Arc}
+use mathlib.Core.Option.{some}
 use mathlib.Core.List.{IsPrefix}
+use lib.ListN.{get_elem?}
 use Rattle.outside.specs.declared.keys.FontKey.{FontKey}
 use Rattle.cache_core.specs.declared.calls.Call.{Call}
 use Rattle.cache_core.specs.declared.calls.Done.{Done}
 use Rattle.cache_core.specs.declared.common.Common.{Common}
 use Rattle.cache_core.specs.declared.entry.Evicted.{Evicted}
-use Rattle.cache_core.specs.Histories.{own, left_by, open_claim}
+use Rattle.cache_core.specs.Histories.{own, open_claim}
+use Rattle.cache_core.specs.Laws.{ClaimsAreOwn, OwnsAreJoined}
 use Rattle.cache_core.specs.Machine.{Legal, claim_of, empty, machine_after, allows}
 use Rattle.cache_core.specs.States.{Cache, machine, call, Takes, IsReached, StateStands}
 use Rattle.cache_core.specs.Views.{evicted_key}
-use Rattle.cache_core.proofs.OwnClaims.{claims_are_own}
-use Rattle.turn_lock.proofs.Prefixes.{prefix_trans}
-use Rattle.turn_lock.proofs.OwnCalls.{own-append}
-use Rattle.font_cache.specs.Turns.{EndsWithCall, told_of}
+use Rattle.turn_lock.specs.declared.view.View.{View}
+use Rattle.turn_lock.specs.Histories.{OwnsSame}
+use Rattle.turn_lock.specs.Seats.{SeatView}
+use Rattle.turn_lock.specs.Views.{view_with_turn, idle_view}
+use Rattle.font_cache.specs.Turns.{SawMore, NotedCall, told_of}
 use Rattle.font_cache.proofs.LastCalls.{open_last}
 
 -- a seat's claim in the state is the one that its own calls have left to it
-pub claim_is_own : {T : Type 0} (stands_for : T → FontKey → Common → Type 0) (c : Cache T) (part : Common) (n : ℕ) (seen : List Call) (claim : Option FontKey)
-    → StateStands stands_for c part → own n c.history ≡ own n seen → open_claim (own n seen) ≡ claim → claim_of n c.claims ≡ claim
-claim_is_own stands_for c part n seen claim s same e = claims_are_own c.capacity c.history (machine c) s.reached n ∙ (ap open_claim same ∙ e)
+pub claim_is_own : ClaimsAreOwn → {T : Type 0} (stands_for : T → FontKey → Common → Type 0) (c : Cache T) (part : Common) (m n : ℕ) (seen : List Call) (claim : Option FontKey)
+    → StateStands stands_for c part → m ≡ n → own n c.history ≡ own n seen → open_claim (own n seen) ≡ claim → claim_of m c.claims ≡ claim
+claim_is_own law stands_for c part m n seen claim s number same e =
+    subst (λ (j : ℕ). claim_of j c.claims ≡ claim) (sym number) (law c.capacity c.history (machine c) s.reached n ∙ (ap open_claim same ∙ e))
 
 -- the history of a state that is reached is legal
 pub is_legal : {T : Type 0} (c : Cache T) (capacity : ℕ) → IsReached c → c.capacity ≡ capacity → Legal capacity c.history
 is_legal c capacity r e = subst (λ n. Legal n c.history) e (subst IsSome (sym r) refl)
 
-pub own_this : (n : ℕ) (c : Call) → c.seat ≡ n → own n (c ∷ []) ≡ c ∷ []
-own_this n c e = rw (eq-eqb c.seat n e) refl
+-- ---- the seat
 
--- one more call of the seat
-pub own_more : (n : ℕ) (seen before : List Call) (c : Call) → c.seat ≡ n → own n before ≡ own n seen → own n (before ++ c ∷ []) ≡ own n seen ++ c ∷ []
-own_more n seen before c mine same = own-append n before (c ∷ []) ∙ (ap (λ l. own n before ++ l) (own_this n c mine) ∙ ap (λ l. l ++ c ∷ []) same)
+module _ (s u t : SeatView) (turns : ℕ) (log log' : List Call) (took : u.view ≡ view_with_turn s.view turns log) (gave : t.view ≡ idle_view u.view log') where
+  -- a turn keeps what seat 0 knows of the numbers joined
+  joined_same : (s.view.number ≡ 0 → OwnsSame s.view.joined log s.view.seen) → (u.view.number ≡ 0 → OwnsSame u.view.joined log' u.view.seen)
+      → s.view.number ≡ 0 → OwnsSame s.view.joined t.view.seen s.view.seen
+  joined_same first second zero i n there =
+      let at_u : get_elem? u.view.joined i ≡ some n = ap (λ (v : View). get_elem? v.joined i) took ∙ there in
+      ap (λ (v : View). own n v.seen) gave ∙ (second (ap (λ (v : View). v.number) took ∙ zero) i n at_u ∙ (ap (λ (v : View). own n v.seen) took ∙ first zero i n there))
 
-pub prefix_more : (xs ys : List Call) → IsPrefix xs (xs ++ ys)
-prefix_more xs ys = (ys, refl)
+  pub saw_more : {T : Type 0} (stands_for : T → FontKey → Common → Type 0) (before after : Cache T) → after.history ≡ log' → StateStands stands_for before s.view.part → IsReached after
+      → after.capacity ≡ before.capacity → IsPrefix s.view.seen after.history
+      → (s.view.number ≡ 0 → OwnsSame s.view.joined log s.view.seen) → (u.view.number ≡ 0 → OwnsSame u.view.joined log' u.view.seen) → SawMore s.view t.view
+  saw_more stands_for before after history stood reached capacity begins first second =
+      let now : t.view.seen ≡ after.history = ap (λ (v : View). v.seen) gave ∙ sym history in
+      record {
+        begins = subst (IsPrefix s.view.seen) (sym now) begins;
+        legal = subst (Legal s.view.part.capacity) (sym now) (is_legal after s.view.part.capacity reached (capacity ∙ stood.capacity));
+        joined_same = joined_same first second;
+      }
+
+-- ---- the call
+
+prefix_more : (xs log ys : List Call) → IsPrefix xs log → IsPrefix xs (log ++ ys)
+prefix_more xs log ys p = (p.0 ++ ys, sym (append_assoc xs p.0 ys) ∙ ap (λ l. l ++ ys) p.1)
+
+pub longer_begins : (seen log now ys : List Call) → IsPrefix seen log → now ≡ log ++ ys → IsPrefix seen now
+longer_begins seen log now ys p is = subst (IsPrefix seen) (sym is) (prefix_more seen log ys p)
 
 -- a turn that was noted, or refused: the history goes on from what the seat had seen
 pub turn_begins : {T R E : Type 0} (f : R → Call) (before after : Cache T) (seen : List Call) (result : Result R E) → IsPrefix seen before.history
     → IfOk result (λ r. after.history ≡ before.history ++ f r ∷ []) → OnErr result (after ≡ record before { turns = before.turns + 1 }) → IsPrefix seen after.history
-turn_begins f before after seen (Ok r) p noted refused = subst (IsPrefix seen) (sym noted) (prefix_trans seen before.history (before.history ++ f r ∷ []) p (prefix_more before.history (f r ∷ [])))
+turn_begins f before after seen (Ok r) p noted refused = longer_begins seen before.history after.history (f r ∷ []) p noted
 turn_begins f before after seen (Err e) p noted refused = subst (IsPrefix seen) (sym (ap (λ c. c.history) refused)) p
 
-module _ {R E : Type 0} (done : R → Done) (k : FontKey) (n m : ℕ) (number : m ≡ n) (seen log after : List Call) where
-  -- a turn that was noted is the one call more of its seat
-  pub turn_own : (result : Result R E) → own n log ≡ own n seen → IfOk result (λ r. after ≡ log ++ call m k (done r) ∷ []) → IfOk result (λ r. own n after ≡ own n seen ++ call n k (done r) ∷ [])
-  turn_own (Ok r) same noted = ap (own n) (noted ∙ ap (λ j. log ++ call j k (done r) ∷ []) number) ∙ own_more n seen log (call n k (done r)) refl same
-  turn_own (Err e) same noted = tt
+own_this : (n : ℕ) (c : Call) → c.seat ≡ n → own n (c ∷ []) ≡ c ∷ []
+own_this n c e = rw (eq-eqb c.seat n e) refl
 
-  pub turn_claim : (result : Result R E) → own n log ≡ own n seen → IfOk result (λ r. after ≡ log ++ call m k (done r) ∷ []) → IfOk result (λ r. open_claim (own n after) ≡ left_by k (done r))
-  turn_claim (Ok r) same noted = ap open_claim (turn_own (Ok r) same noted) ∙ open_last None (own n seen) (call n k (done r))
-  turn_claim (Err e) same noted = tt
+module _ (law : OwnsAreJoined) {T : Type 0} (stands_for : T → FontKey → Common → Type 0) (before after : Cache T) (k : FontKey) (m : ℕ) (s t : View) (number : m ≡ s.number)
+    (stood : StateStands stands_for before s.part) (begins : IsPrefix s.seen before.history) (same : own s.number before.history ≡ own s.number s.seen) (now : t.seen ≡ after.history) where
+  -- a call that the machine takes is the last of the history that the seat then sees
+  pub noted_call : (d : Done) → Takes before.capacity (machine before) (machine after) (call m k d) → after.history ≡ before.history ++ call m k d ∷ [] → NotedCall k d s t
+  noted_call d takes noted =
+      let n = s.number in
+      let c = call n k d in
+      let is : t.seen ≡ before.history ++ c ∷ [] = now ∙ (noted ∙ ap (λ (j : ℕ). before.history ++ call j k d ∷ []) number) in
+      let grew : own n t.seen ≡ own n s.seen ++ c ∷ [] = ap (own n) is ∙ (law n before.history (c ∷ []) ∙ (ap (λ (l : List Call). own n before.history ++ l) (own_this n c refl) ∙ ap (λ (l : List Call). l ++ c ∷ []) same)) in
+      record {
+        last = record {
+          log = before.history;
+          begins = begins;
+          state = machine before;
+          reached = subst (λ (capacity : ℕ). machine_after capacity empty before.history ≡ Some (machine before)) stood.capacity stood.reached;
+          allowed = subst (λ (capacity : ℕ). IsTrue (allows capacity (machine before) c)) stood.capacity (subst (λ (j : ℕ). IsTrue (allows before.capacity (machine before) (call j k d))) number takes.allowed);
+          ends = is;
+        };
+        own = grew;
+        claim = ap open_claim grew ∙ open_last None (own n s.seen) c;
+      }
 
--- a call that the machine takes is the last of the history that the seat then sees
-pub call_ends : {T : Type 0} (stands_for : T → FontKey → Common → Type 0) (before after : Cache T) (part : Common) (k : FontKey) (d : Done) (n m : ℕ) (seen now : List Call)
-    → m ≡ n → StateStands stands_for before part → IsPrefix seen before.history → Takes before.capacity (machine before) (machine after) (call m k d)
-    → now ≡ before.history ++ call m k d ∷ [] → EndsWithCall part.capacity (call n k d) seen now
-call_ends stands_for before after part k d n m seen now number s p t is = record {
-  log = before.history;
-  begins = p;
-  state = machine before;
-  reached = subst (λ capacity. machine_after capacity empty before.history ≡ Some (machine before)) s.capacity s.reached;
-  allowed = subst (λ capacity. IsTrue (allows capacity (machine before) (call n k d))) s.capacity (subst (λ j. IsTrue (allows before.capacity (machine before) (call j k d))) number t.allowed);
-  ends = is ∙ ap (λ j. before.history ++ call j k d ∷ []) number;
-}
-
-module _ {T R E : Type 0} (stands_for : T → FontKey → Common → Type 0) (done : R → Done) (before after : Cache T) (part : Common) (k : FontKey) (n m : ℕ) (number : m ≡ n) (seen now : List Call) where
-  pub turn_ends : (result : Result R E) → StateStands stands_for before part → IsPrefix seen before.history → now ≡ after.history
-      → IfOk result (λ r. Takes before.capacity (machine before) (machine after) (call m k (done r))) → IfOk result (λ r. after.history ≡ before.history ++ call m k (done r) ∷ [])
-      → IfOk result (λ r. EndsWithCall part.capacity (call n k (done r)) seen now)
-  turn_ends (Ok r) s p is t noted = call_ends stands_for before after part k (done r) n m seen now number s p t (is ∙ noted)
-  turn_ends (Err e) s p is t noted = tt
+  pub noted_turn : {R E : Type 0} (done : R → Done) (result : Result R E) → IfOk result (λ r. Takes before.capacity (machine before) (machine after) (call m k (done r)))
+      → IfOk result (λ r. after.history ≡ before.history ++ call m k (done r) ∷ []) → IfOk result (λ r. NotedCall k (done r) s t)
+  noted_turn done (Ok r) takes noted = noted_call (done r) takes noted
+  noted_turn done (Err e) takes noted = tt
 
 -- what is so of the key of the font that left is so of the key that is told
 pub of_told : {T : Type 0} (P : Option FontKey → Type 0) (filled : Result (Option (Evicted T)) (Arc T Global)) → IfOk filled (λ gone. P (evicted_key gone)) → IfOk (told_of filled) (λ gone. P (option_map arc_value gone))

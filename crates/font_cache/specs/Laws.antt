@@ -1,15 +1,10 @@
 -- Laws over the histories that seats have seen.
-use Rattle.std.specs.Prelude.{◌≡◌, ℕ, ◌+◌, ◌≤◌, List, [], ◌∷◌, ◌++◌, filter, length, Some}
+use Rattle.std.specs.Prelude.{◌≡◌, ℕ, List, [], ◌∷◌, ◌++◌, Some}
 use Rattle.outside.specs.declared.keys.FontKey.{FontKey}
 use Rattle.cache_core.specs.declared.calls.Call.{Call}
 use Rattle.cache_core.specs.declared.calls.Done.TheVariants.{Claimed}
 use Rattle.cache_core.specs.Machine.{Machine, machine_after, empty, claim_of}
 use Rattle.cache_core.specs.Histories.{own, open_claim}
-use Rattle.cache_core.specs.Laws.{claims_it, frees_it}
-
--- a key is claimed at most once more than its font left and its claims were given up together
-abbrev pub FewClaims : List Call → Type 0
-FewClaims history = (k : FontKey) → length (filter (claims_it k) history) ≤ length (filter (frees_it k) history) + 1
 
 -- the last of the calls is a look for the key that claimed it
 abbrev pub LastClaims : FontKey → List Call → Type 0

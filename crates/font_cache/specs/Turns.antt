@@ -1,17 +1,24 @@
 -- What one turn at the cache tells its seat.
-use Rattle.std.specs.Prelude.{◌≡◌, ℕ, List, [], ◌∷◌, ◌++◌, Option, Some, Result, Ok, Err, IsTrue}
+use Rattle.std.specs.Prelude.{◌≡◌, ℕ, ◌+◌, List, [], ◌∷◌, ◌++◌, Option, Some, Result, Ok, Err, IsTrue}
 use Rattle.std.specs.Option.{option_map}
 use Rattle.std.specs.Arc.{arc_value}
 use Rattle.std.specs.declared.alloc.Global.{Global}
 use Rattle.std.specs.declared.sync.Arc.{Arc}
 use mathlib.Core.List.{IsPrefix}
 use Rattle.outside.specs.declared.keys.FontKey.{FontKey}
-use Rattle.cache_core.specs.Machine.{Machine, empty, machine_after, allows}
+use Rattle.cache_core.specs.Histories.{own, open_claim, left_by}
+use Rattle.cache_core.specs.Machine.{Machine, Legal, empty, machine_after, allows}
+use Rattle.cache_core.specs.States.{call}
 use Rattle.cache_core.specs.declared.calls.Call.{Call}
+use Rattle.cache_core.specs.declared.calls.Done.{Done}
 use Rattle.cache_core.specs.declared.common.Common.{Common}
 use Rattle.cache_core.specs.declared.entry.Evicted.{Evicted}
 use Rattle.cache_core.specs.declared.entry.Look.{Look}
 use Rattle.cache_core.specs.declared.entry.Look.TheVariants.{Hit, Claimed, Busy}
+use Rattle.turn_lock.specs.declared.view.View.{View}
+use Rattle.turn_lock.specs.declared.view.Stage.TheVariants.{Idle}
+use Rattle.turn_lock.specs.Histories.{OwnsSame}
+use Rattle.turn_lock.specs.Seats.{SeatView}
 
 -- the history that the seat has seen after the turn: it begins with what it had seen, other seats may have called
 -- since, and its last call is this one, which the machine allows in the state that the calls before it have led to
@@ -22,6 +29,43 @@ pub record EndsWithCall (capacity : ℕ) (c : Call) (before after : List Call) :
   pub reached : machine_after capacity empty log ≡ Some state
   pub allowed : IsTrue (allows capacity state c)
   pub ends : after ≡ log ++ c ∷ []
+
+-- what a turn makes of its seat, whatever was called
+pub record TookTurn (before after : SeatView) : Type 0 where
+  -- the seat is of the lock that it was of
+  pub lock : after.lock ≡ before.lock
+  -- it has handed the turn on, and waits for none
+  pub idle : after.view.stage ≡ Idle
+  pub number : after.view.number ≡ before.view.number
+  -- it drew one turn more
+  pub drawn : after.view.drawn ≡ before.view.drawn + 1
+  pub common_part : after.view.part ≡ before.view.part
+  -- what seat 0 knows of the others: how many seats were made, which were joined, and how many turns those drew
+  pub made : after.view.made ≡ before.view.made
+  pub joined : after.view.joined ≡ before.view.joined
+  pub joined_drawn : after.view.joined_drawn ≡ before.view.joined_drawn
+
+-- what the seat has then seen, whether the call was noted or refused
+pub record SawMore (before after : View) : Type 0 where
+  -- the history goes on from what the seat had seen
+  pub begins : IsPrefix before.seen after.seen
+  -- it is legal for the capacity of the common part
+  pub legal : Legal before.part.capacity after.seen
+  -- seat 0 has seen no more calls of the numbers that it joined
+  pub joined_same : before.number ≡ 0 → OwnsSame before.joined after.seen before.seen
+
+-- the call of the key was noted, with what it did
+pub record NotedCall (k : FontKey) (d : Done) (before after : View) : Type 0 where
+  -- it is the last of the history that the seat has seen, and what the machine allows after those before it
+  pub last : EndsWithCall before.part.capacity (call before.number k d) before.seen after.seen
+  -- the seat holds the claim that it leaves
+  pub claim : open_claim (own before.number after.seen) ≡ left_by k d
+  -- the seat's own calls grew by it alone
+  pub own : own before.number after.seen ≡ own before.number before.seen ++ call before.number k d ∷ []
+
+-- the call was refused: the seat's own calls are as before
+abbrev pub NotedNothing : View → View → Type 0
+NotedNothing before after = own before.number after.seen ≡ own before.number before.seen
 
 -- the font that a hit gives is the one of its key in the common part
 abbrev pub HitStands : {T : Type 0} → (T → FontKey → Common → Type 0) → Look T → FontKey → Common → Type 0

@@ -1,21 +1,22 @@
 //! The cache, and its calls.
-ghost use Rattle.std.specs.Prelude.{◌≡◌, ◌+◌, ◌^◌, ◌<◌, ◌≤◌, [], ◌∷◌, ◌++◌, Some, None, IfOk, IfErr, OnErr};
+ghost use Rattle.std.specs.Prelude.{◌≡◌, ◌^◌, ◌<◌, ◌≤◌, [], Some, None, IfOk, IfErr, OnErr};
 ghost use Rattle.std.specs.Option.{option_map};
 ghost use Rattle.std.specs.Arc.{arc_value};
 ghost use mathlib.Core.List.{IsPrefix};
 ghost use Rattle.cache_core.specs.declared.common.Common.{Common};
 ghost use Rattle.cache_core.specs.declared.calls.Done.TheVariants.{Filled, Released};
-ghost use Rattle.cache_core.specs.Histories.{own, open_claim, left_by};
+ghost use Rattle.cache_core.specs.Histories.{own, open_claim};
 ghost use Rattle.cache_core.specs.Machine.{Legal};
-ghost use Rattle.cache_core.specs.States.{call, answered};
+ghost use Rattle.cache_core.specs.Laws.{FewClaims};
+ghost use Rattle.cache_core.specs.States.{answered};
 ghost use Rattle.cache_core.specs.Views.{calls_of};
 ghost use Rattle.turn_lock.specs.declared.view.Stage.TheVariants.{Idle};
 ghost use Rattle.turn_lock.specs.Histories.{AllMade, OwnsSame};
 ghost use Rattle.turn_lock.specs.Views.{opening_view, split_view, new_view, joined_view};
 ghost use Rattle.turn_lock.specs.Seats.{AllJoined};
-ghost use Rattle.font_cache.specs.Laws.{FewClaims};
-ghost use Rattle.font_cache.specs.Turns.{EndsWithCall, HitStands, told_of};
+ghost use Rattle.font_cache.specs.Turns.{TookTurn, SawMore, NotedCall, NotedNothing, HitStands, told_of};
 
+use cache_core::laws::{histories, own_calls};
 use cache_core::{CacheState, Entry, Evicted, Look, Stands};
 use outside::FontKey;
 use std::alloc::{AllocError as NoMemory, Global};
@@ -90,7 +91,7 @@ impl<T: Stands> FontCache<T> {
 
     /// Takes another seat in. Seat 0 has then seen the longer of both histories, which goes on from both. It has the
     /// calls of the other's number that the other had, and of its own number and of each number joined before those
-    /// that it had itself.
+    /// that it had itself. Both seats have one common part.
     pub fn join(&self, first: &mut CacheSeat<T>, other: CacheSeat<T>)
         requires lock { first.old.lock ≡ self.now }
         requires other_lock { other.lock ≡ self.now }
@@ -104,6 +105,7 @@ impl<T: Stands> FontCache<T> {
         ensures theirs { own other.view.number first.new.view.seen ≡ own other.view.number other.view.seen }
         ensures mine { own 0 first.new.view.seen ≡ own 0 first.old.view.seen }
         ensures before { OwnsSame first.old.view.joined first.new.view.seen first.old.view.seen }
+        ensures common_part { other.view.part ≡ first.old.view.part }
     {
         self.lock.join(first, other);
     }
@@ -122,25 +124,16 @@ impl<T: Stands> FontCache<T> {
         requires idle { seat.old.view.stage ≡ Idle }
         requires room { seat.old.view.drawn < 2 ^ 48 }
         requires free { open_claim (own seat.old.view.number seat.old.view.seen) ≡ None }
-        ensures lock { seat.new.lock ≡ seat.old.lock }
-        ensures idle { seat.new.view.stage ≡ Idle }
-        ensures number { seat.new.view.number ≡ seat.old.view.number }
-        ensures drawn { seat.new.view.drawn ≡ seat.old.view.drawn + 1 }
-        ensures common_part { seat.new.view.part ≡ seat.old.view.part }
-        ensures joined { (seat.new.view.made ≡ seat.old.view.made) × (seat.new.view.joined ≡ seat.old.view.joined) }
-        ensures begins { IsPrefix seat.old.view.seen seat.new.view.seen }
-        ensures legal { Legal seat.old.view.part.capacity seat.new.view.seen }
-        ensures last { IfOk result (λ reply. EndsWithCall seat.old.view.part.capacity
-            (call seat.old.view.number (arc_value key.now) (answered reply)) seat.old.view.seen seat.new.view.seen) }
-        ensures own { IfOk result (λ reply. own seat.old.view.number seat.new.view.seen
-            ≡ own seat.old.view.number seat.old.view.seen
-            ++ call seat.old.view.number (arc_value key.now) (answered reply) ∷ []) }
-        ensures claim { IfOk result (λ reply. open_claim (own seat.old.view.number seat.new.view.seen)
-            ≡ left_by (arc_value key.now) (answered reply)) }
+        ensures turn { TookTurn seat.old seat.new }
+        ensures seen { SawMore seat.old.view seat.new.view }
+        ensures noted { IfOk result (λ reply. NotedCall (arc_value key.now) (answered reply)
+            seat.old.view seat.new.view) }
         ensures stands { IfOk result (λ reply. HitStands T.stands_for reply (arc_value key.now) seat.old.view.part) }
-        ensures refused { OnErr result (own seat.old.view.number seat.new.view.seen
-            ≡ own seat.old.view.number seat.old.view.seen) }
+        ensures refused { OnErr result (NotedNothing seat.old.view seat.new.view) }
     {
+        // What a seat's own calls tell of its claim.
+        histories();
+        own_calls();
         let mut state = self.lock.take(rt, seat);
         let reply = state.look(seat.number(), key);
         self.lock.give(seat, state);
@@ -163,25 +156,16 @@ impl<T: Stands> FontCache<T> {
         requires room { seat.old.view.drawn < 2 ^ 48 }
         requires claim { open_claim (own seat.old.view.number seat.old.view.seen) ≡ Some (arc_value key.now) }
         requires stands { T.stands_for (arc_value value) (arc_value key.now) seat.old.view.part }
-        ensures lock { seat.new.lock ≡ seat.old.lock }
-        ensures idle { seat.new.view.stage ≡ Idle }
-        ensures number { seat.new.view.number ≡ seat.old.view.number }
-        ensures drawn { seat.new.view.drawn ≡ seat.old.view.drawn + 1 }
-        ensures common_part { seat.new.view.part ≡ seat.old.view.part }
-        ensures joined { (seat.new.view.made ≡ seat.old.view.made) × (seat.new.view.joined ≡ seat.old.view.joined) }
-        ensures begins { IsPrefix seat.old.view.seen seat.new.view.seen }
-        ensures legal { Legal seat.old.view.part.capacity seat.new.view.seen }
-        ensures last { IfOk result (λ gone. EndsWithCall seat.old.view.part.capacity
-            (call seat.old.view.number (arc_value key.now) (Filled (option_map arc_value gone)))
-            seat.old.view.seen seat.new.view.seen) }
-        ensures own { IfOk result (λ gone. own seat.old.view.number seat.new.view.seen
-            ≡ own seat.old.view.number seat.old.view.seen
-            ++ call seat.old.view.number (arc_value key.now) (Filled (option_map arc_value gone)) ∷ []) }
-        ensures free { IfOk result (λ _. open_claim (own seat.old.view.number seat.new.view.seen) ≡ None) }
+        ensures turn { TookTurn seat.old seat.new }
+        ensures seen { SawMore seat.old.view seat.new.view }
+        ensures noted { IfOk result (λ gone. NotedCall (arc_value key.now) (Filled (option_map arc_value gone))
+            seat.old.view seat.new.view) }
         ensures back { IfErr result (λ handed. handed ≡ value) }
-        ensures refused { OnErr result (own seat.old.view.number seat.new.view.seen
-            ≡ own seat.old.view.number seat.old.view.seen) }
+        ensures refused { OnErr result (NotedNothing seat.old.view seat.new.view) }
     {
+        // What a seat's own calls tell of its claim.
+        histories();
+        own_calls();
         let mut state = self.lock.take(rt, seat);
         let filled = state.fill_keeping(seat.number(), key, value);
         self.lock.give(seat, state);
@@ -195,21 +179,13 @@ impl<T: Stands> FontCache<T> {
         requires idle { seat.old.view.stage ≡ Idle }
         requires room { seat.old.view.drawn < 2 ^ 48 }
         requires claim { open_claim (own seat.old.view.number seat.old.view.seen) ≡ Some (arc_value key.now) }
-        ensures lock { seat.new.lock ≡ seat.old.lock }
-        ensures idle { seat.new.view.stage ≡ Idle }
-        ensures number { seat.new.view.number ≡ seat.old.view.number }
-        ensures drawn { seat.new.view.drawn ≡ seat.old.view.drawn + 1 }
-        ensures common_part { seat.new.view.part ≡ seat.old.view.part }
-        ensures joined { (seat.new.view.made ≡ seat.old.view.made) × (seat.new.view.joined ≡ seat.old.view.joined) }
-        ensures begins { IsPrefix seat.old.view.seen seat.new.view.seen }
-        ensures legal { Legal seat.old.view.part.capacity seat.new.view.seen }
-        ensures last { EndsWithCall seat.old.view.part.capacity
-            (call seat.old.view.number (arc_value key.now) Released) seat.old.view.seen seat.new.view.seen }
-        ensures own { own seat.old.view.number seat.new.view.seen
-            ≡ own seat.old.view.number seat.old.view.seen
-            ++ call seat.old.view.number (arc_value key.now) Released ∷ [] }
-        ensures free { open_claim (own seat.old.view.number seat.new.view.seen) ≡ None }
+        ensures turn { TookTurn seat.old seat.new }
+        ensures seen { SawMore seat.old.view seat.new.view }
+        ensures noted { NotedCall (arc_value key.now) Released seat.old.view seat.new.view }
     {
+        // What a seat's own calls tell of its claim.
+        histories();
+        own_calls();
         let mut state = self.lock.take(rt, seat);
         state.release(seat.number(), key);
         self.lock.give(seat, state);
@@ -228,6 +204,7 @@ impl<T: Stands> FontCache<T> {
         ensures made { AllMade first.view.made (calls_of result.items) }
         ensures few_claims { FewClaims (calls_of result.items) }
     {
+        histories();
         let FontCache { lock } = self;
         lock.close(first).finish()
     }

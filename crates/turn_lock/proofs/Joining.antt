@@ -17,7 +17,7 @@ use Rattle.turn_lock.specs.declared.view.View.{View}
 use Rattle.turn_lock.specs.declared.view.Stage.{Stage}
 use Rattle.turn_lock.specs.declared.view.Stage.TheVariants.{Idle, Holding, Comparing, Spent}
 use Rattle.turn_lock.specs.Views.{IsLive, HasTicket, idle_view, split_view, new_view, comparing_view, spent_view}
-use Rattle.turn_lock.specs.TurnRule.{LiveFits, CompareFits, FirstFits, SeatsFit}
+use Rattle.turn_lock.specs.TurnRule.{LiveFits, CompareFits, HasSamePart, KeepsDraws, FirstFits, SeatsFit}
 use Rattle.turn_lock.specs.Steps.{CompareTells}
 use Rattle.turn_lock.proofs.Longer.{longer_begins, first_begins, second_begins, first_owns, second_owns}
 use Rattle.turn_lock.proofs.OneView.{each_set, not_spent, apart, moved}
@@ -51,6 +51,7 @@ module _ (part : Common) (words : List ℕ) (views : List View) (log : List Call
         each_drew = λ j d at_j. ⊎_elim (q.each_drew j d) (λ (t : (j ≡ length q.draws) × (0 ≡ d)). let e = t.1 in omega arith) (at_end q.draws 0 d j at_j);
         as_many = let h = length-append q.draws (0 ∷ []) in let m = q.as_many in omega arith;
         few = omega arith;
+        begun = omega arith;
         in_line = λ i j at_i. let h = q.in_line i j at_i in there j h.0 (HasTicket (serving + i)) h.1 h.2;
         served = λ is_out. let h = q.served is_out in let t = there h.0 h.1 (λ st. st ≡ Holding serving) h.2 h.3 in (h.0, t.0, t.1, t.2);
         each = λ j u at_j. ⊎_elim
@@ -84,7 +85,12 @@ module _ (part : Common) (words : List ℕ) (views : List View) (log : List Call
                   (at_end (set views 0 w) (new_view v) x n at_n);
               behind = f.behind;
               compares = f.compares;
+              same_part = f.same_part;
             };
+        keeps = λ u at_0.
+            let is : w ≡ u = some-injective w u (sym (at_longer (set views 0 w) (new_view v ∷ []) 0 w (set_here views 0 w (at_inside views 0 v at))) ∙ at_0) in
+            let k = q.keeps v at in
+            subst (KeepsDraws new_draws) is record { one_each = k.one_each; drew = λ i n d there drew. at_longer q.draws (0 ∷ []) n d (k.drew i n d there drew) };
         made = made_up (length views) (length (set views 0 w ++ new_view v ∷ [])) log (omega arith) q.made;
       }
 
@@ -114,6 +120,7 @@ module _ (part : Common) (words : List ℕ) (views : List View) (log : List Call
         each_drew = q.each_drew;
         as_many = q.as_many ∙ sym long;
         few = let n = q.few in omega arith;
+        begun = let n = q.begun in omega arith;
         in_line = λ i j at_i. let k = q.in_line i j at_i in (k.0, busy j k.0 (HasTicket (serving + i)) (λ e. e) k.1 k.2, k.2);
         served = λ is_out. let k = q.served is_out in (k.0, k.1, busy k.0 k.1 (λ st. st ≡ Holding serving) (λ e. cc (e)) k.2 k.3, k.3);
         each = each_set (λ j u. IsLive u.stage → LiveFits part serving q.line q.draws log out j u) V other spent_view (λ none. absurd none)
@@ -153,20 +160,36 @@ module _ (part : Common) (words : List ℕ) (views : List View) (log : List Call
             noted = (length v.joined, at_last v.joined x.number (length v.joined) refl);
             before_behind = λ i m at_i inside. ⊎_elim (f.behind i m) (λ (t : (i ≡ length v.joined) × (x.number ≡ m)). let l = length-append v.joined (x.number ∷ []) in let e = t.0 in absurd (omega arith)) (at_end v.joined x.number m i at_i);
           };
+          same_part = h.part_is ∙ sym g.part_is;
         };
+        keeps = λ u at_0. subst (KeepsDraws q.draws) (some-injective w u (sym at_w ∙ at_0)) (
+            let k = q.keeps v at in
+            let one_each = k.one_each in record {
+              one_each = let a = length-append v.joined_drawn (x.drawn ∷ []) in let b = length-append v.joined (x.number ∷ []) in omega arith;
+              drew = λ i n d at_i drew. ⊎_elim
+                  (λ was. ⊎_elim
+                  (k.drew i n d was)
+                  (λ (t : (i ≡ length v.joined_drawn) × (x.drawn ≡ d)). let e = t.0 in let inside = at_inside v.joined i n was in absurd (omega arith))
+                  (at_end v.joined_drawn x.drawn d i drew))
+                  (λ (t : (i ≡ length v.joined) × (x.number ≡ n)). ⊎_elim
+                  (λ had. let e = t.0 in let inside = at_inside v.joined_drawn i d had in absurd (omega arith))
+                  (λ (s : (i ≡ length v.joined_drawn) × (x.drawn ≡ d)). ap (get_elem? q.draws) (sym t.1 ∙ h.number_is) ∙ (h.drew ∙ ap some s.1))
+                  (at_end v.joined_drawn x.drawn d i drew))
+                  (at_end v.joined x.number n i at_i);
+            });
         made = subst (λ (n : ℕ). AllMade n log) (sym long) q.made;
       }
 
   -- seat 0 has compared what it took in
-  pub settles_from : (q : SeatsFit part words views log out serving) (v : View) (n : ℕ) (was theirs : List Call) → get_elem? views 0 ≡ some v → v.stage ≡ Comparing n was theirs
+  pub settles_from : (q : SeatsFit part words views log out serving) (v : View) (n : ℕ) (was theirs : List Call) (p : Common) → get_elem? views 0 ≡ some v → v.stage ≡ Comparing n was theirs p
       → SeatsFit part words (set views 0 (idle_view v v.seen)) log out serving × CompareTells v v.stage
-  settles_from q v n was theirs at is_comparing =
+  settles_from q v n was theirs p at is_comparing =
       let f = q.first v at in
       let live = f.live in
       let g = q.each 0 v at live in
       let w = idle_view v v.seen in
       let c = subst (CompareFits log v.joined v.seen) is_comparing f.compares in
-      let busy : (j : ℕ) (u : View) (P : Stage → Type 0) → (P (Comparing n was theirs) → ⊥) → get_elem? views j ≡ some u → P u.stage → get_elem? (set views 0 w) j ≡ some u =
+      let busy : (j : ℕ) (u : View) (P : Stage → Type 0) → (P (Comparing n was theirs p) → ⊥) → get_elem? views j ≡ some u → P u.stage → get_elem? (set views 0 w) j ≡ some u =
       λ j u P none at_j p. set_else views 0 j w (apart views j 0 u v at_j at (λ e. none (subst P (ap (λ (y : View). y.stage) e ∙ is_comparing) p))) ∙ at_j in (
         moved part words words views log log out out serving serving q.line q.draws 0 v w q at live tt q.words_are q.drew q.each_drew q.as_many
             (λ i j at_i. let k = q.in_line i j at_i in (k.0, busy j k.0 (HasTicket (serving + i)) (λ e. e) k.1 k.2, k.2))
@@ -174,12 +197,13 @@ module _ (part : Common) (words : List ℕ) (views : List View) (log : List Call
             (prefix_self log) (λ m _. refl) q.made
             record { number_is = g.number_is; part_is = g.part_is; begins = g.begins; behind = g.behind; drew = g.drew; stage = tt }
             (λ j _. refl) (λ j u _ _ known. known)
-            (λ _. (refl, refl, (λ i m at_i _. f.behind i m at_i), tt)),
+            (λ _. (refl, refl, refl, (λ i m at_i _. f.behind i m at_i), tt, tt)),
         subst (CompareTells v) (sym is_comparing) record {
           was_begins = subst (IsPrefix was) (sym c.seen_is) (first_begins was theirs log c.was_begins c.theirs_begins);
           theirs_begins = subst (IsPrefix theirs) (sym c.seen_is) (second_begins was theirs log c.was_begins c.theirs_begins);
           mine = g.behind ∙ sym c.first_behind;
           theirs_same = f.behind c.noted.0 n c.noted.1 ∙ sym c.their_behind;
+          same_part = subst (HasSamePart v.part) is_comparing f.same_part;
           before = λ i m at_i inside. f.behind i m at_i ∙ sym (c.before_behind i m at_i inside);
         },
       )

@@ -1,5 +1,5 @@
 -- Each step of the lock keeps its rule, and tells what it says.
-use Rattle.std.proofs.Common.{◌≡◌, ℕ, zero, suc, ◌+◌, ◌%◌, ◌^◌, ◌<◌, ◌≤◌, Bool, true, false, true≢false, List, [], ◌∷◌, ◌++◌, get_or, set, Option, Some, refl, ap, sym, ◌∙◌, subst, arith}
+use Rattle.std.proofs.Common.{◌≡◌, ◌≢◌, ℕ, zero, suc, ◌+◌, ◌%◌, ◌^◌, ◌<◌, ◌≤◌, Bool, true, false, true≢false, List, [], ◌∷◌, ◌++◌, get_or, set, Option, Some, refl, ap, sym, ◌∙◌, subst, ⊎_elim, arith}
 use mathlib.Core.Option.{none, some, some-injective, some-ne-none}
 use mathlib.Core.Option as maybe
 use mathlib.Core.Logic.{dite}
@@ -14,10 +14,12 @@ use Rattle.cache_core.specs.declared.common.Common.{Common}
 use Rattle.cache_core.specs.Histories.{own}
 use Rattle.turn_lock.specs.Histories.{AllMade, Grows}
 use Rattle.turn_lock.proofs.Prefixes.{prefix_self}
+use Rattle.turn_lock.proofs.OwnCalls.{own_grew}
+use Rattle.turn_lock.proofs.OneView.{not_spent, apart}
 use Rattle.turn_lock.specs.declared.view.View.{View}
 use Rattle.turn_lock.specs.declared.view.Stage.TheVariants.{Idle, Waiting, Holding, Comparing, Spent}
 use Rattle.turn_lock.specs.Views.{IsLive, ticket_of, opening_view, spent_view, waiting_view, holding_view, idle_view, split_view, new_view, comparing_view}
-use Rattle.turn_lock.specs.TurnRule.{StageFits, LiveFits, FirstFits, SeatsFit, IsHome, SlotFits, TurnRule}
+use Rattle.turn_lock.specs.TurnRule.{StageFits, LiveFits, KeepsDraws, FirstFits, SeatsFit, IsHome, SlotFits, TurnRule}
 use Rattle.turn_lock.specs.Steps.{Drew, Asked, ComparedAll, Looked, carried_history, HandedOn}
 use Rattle.turn_lock.specs.Seats.{AllJoined}
 use Rattle.turn_lock.proofs.Lines.{at_inside, ticket_is, serving_is, ticket_most, draws_from, is_home, looks_from, holds_all, hands_from}
@@ -67,6 +69,7 @@ module _ {T : Type 0} (history : T → List Call) (turns : T → ℕ) (stands : 
       each_drew = each_zero;
       as_many = refl;
       few = omega arith;
+      begun = omega arith;
       in_line = λ i j at. absurd (some-ne-none j (sym at));
       served = λ e. absurd (true≢false (sym e));
       each = alone;
@@ -77,7 +80,9 @@ module _ {T : Type 0} (history : T → List Call) (turns : T → ℕ) (stands : 
         all_spent = none_spent;
         behind = λ i n at. refl;
         compares = tt;
+        same_part = tt;
       };
+      keeps = λ v at. subst (KeepsDraws (0 ∷ [])) (some-injective (opening_view part) v at) record { one_each = refl; drew = λ i n d there drew. absurd (some-ne-none n (sym there)) };
       made = tt;
     };
     slot = record { value = x; homes_are = refl; turns_are = zeroes; history_is = new; stood = stood };
@@ -141,6 +146,9 @@ module _ {T : Type 0} (history : T → List Call) (turns : T → ℕ) (stands : 
               stood = subst (stands x) (sym f.part_is) h.stood;
               begins = subst (IsPrefix v.seen) (sym h.history_is) f.begins;
               own_same = ap (own v.number) h.history_is ∙ subst (λ (n : ℕ). own n r.log ≡ own n v.seen) (sym f.number_is) (sym f.behind);
+              joined_same = λ zero i n there.
+                  let at0 : get_elem? s.views 0 ≡ some v = ap (get_elem? s.views) (sym (sym f.number_is ∙ zero)) ∙ at in
+                  ap (own n) h.history_is ∙ sym ((q.first v at0).behind i n there);
             },
           ),
           λ not. absurd (not (hit ∙ sym own_ticket)),
@@ -172,7 +180,15 @@ module _ {T : Type 0} (history : T → List Call) (turns : T → ℕ) (stands : 
             stood = subst (stands x) f.part_is stood;
           };
         },
-        (λ i. (idle_view v (sym (ap (carried_history history) full) i), ap rest full i)),
+        (
+          (λ i. (idle_view v (sym (ap (carried_history history) full) i), ap rest full i)),
+          λ zero i n there.
+              let at0 : get_elem? s.views 0 ≡ some v = ap (get_elem? s.views) (sym (sym f.number_is ∙ zero)) ∙ at in
+              let g = (q.first v at0).are_spent i n there in
+              let other : n ≢ v.number = λ e. apart s.views n 0 g.0 v g.1 at0 (λ same. not_spent v g.0 (subst IsLive (sym is_holding) tt) (sym same) g.2) (e ∙ zero) in
+              ap (λ (l : List (ℕ × Option T)). own n (carried_history history l)) full
+              ∙ ⊎_elim (λ e. ap (own n) e) (λ (more : (c : Call) × (c.seat ≡ v.number) × (history x ≡ v.seen ++ c ∷ [])). ap (own n) more.2 ∙ own_grew n v.seen more.0 (λ e. other (sym e ∙ more.1))) grows,
+        ),
       )
 
   pub asks : (slots id : ℕ) (me : M) → me.0.number ≡ 0 → IsLive me.0.stage → Allows Rule slots id me 0 (λ n. n) (Asked (step slots 0 0 0 none) me)
@@ -181,12 +197,12 @@ module _ {T : Type 0} (history : T → List Call) (turns : T → ℕ) (stands : 
       let zeroth : id ≡ 0 = sym (q.each id me.0 at live).number_is ∙ is_first in
       (me.0, keeps, tt, same_views s 0 id me.1 me.0 at r, (refl, asks_from part s.words s.views r.log r.out r.serving q me.0 (ap (get_elem? s.views) (sym zeroth) ∙ at)))
 
-  pub settles : (slots id : ℕ) (me : M) (n : ℕ) (was theirs : List Call) → me.0.number ≡ 0 → me.0.stage ≡ Comparing n was theirs → Allows Rule slots id me 0 (λ m. m) (ComparedAll (step slots 0 0 0 none) me)
-  settles slots id me n was theirs is_first is_comparing s r _ at _ =
+  pub settles : (slots id : ℕ) (me : M) (n : ℕ) (was theirs : List Call) (p : Common) → me.0.number ≡ 0 → me.0.stage ≡ Comparing n was theirs p → Allows Rule slots id me 0 (λ m. m) (ComparedAll (step slots 0 0 0 none) me)
+  settles slots id me n was theirs p is_first is_comparing s r _ at _ =
       let q = r.seats in
       let zeroth : id ≡ 0 = sym (q.each id me.0 at (subst IsLive (sym is_comparing) tt)).number_is ∙ is_first in
       let at0 : get_elem? s.views 0 ≡ some me.0 = ap (get_elem? s.views) (sym zeroth) ∙ at in
-      let both = settles_from part s.words s.views r.log r.out r.serving q me.0 n was theirs at0 is_comparing in
+      let both = settles_from part s.words s.views r.log r.out r.serving q me.0 n was theirs p at0 is_comparing in
       let w = idle_view me.0 me.0.seen in (
         w,
         keeps,

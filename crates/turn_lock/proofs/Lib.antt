@@ -1,5 +1,6 @@
 pub mod Prefixes
 pub mod OwnCalls
+pub mod Histories
 pub mod Longer
 pub mod OneView
 pub mod Lines

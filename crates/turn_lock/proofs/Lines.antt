@@ -93,13 +93,13 @@ module _ (part : Common) (words : List ℕ) (views : List View) (log : List Call
       }
       (λ j other. set_else q.draws id j (v.drawn + 1) other)
       (λ j u other there known. in_longer j u.seen id u.stage known)
-      (λ zeroth. (refl, refl, (λ i n there _. (q.first v (ap (get_elem? views) (sym zeroth) ∙ at)).behind i n there), tt))
+      (λ zeroth. (refl, refl, refl, (λ i n there _. (q.first v (ap (get_elem? views) (sym zeroth) ∙ at)).behind i n there), tt, tt))
     where
       in_longer : (j : ℕ) (seen : List Call) (id : ℕ) (st : Stage) → StageFits serving q.line log out j seen st → StageFits serving (q.line ++ id ∷ []) log out j seen st
       in_longer j seen id Idle k = tt
       in_longer j seen id (Waiting t) k = record { place = k.place; ticket_is = k.ticket_is; stands = at_longer q.line (id ∷ []) k.place j k.stands }
       in_longer j seen id (Holding t) k = record { ticket_is = k.ticket_is; stands = at_longer q.line (id ∷ []) 0 j k.stands; slot = k.slot; whole = k.whole }
-      in_longer j seen id (Comparing n was theirs) k = tt
+      in_longer j seen id (Comparing n was theirs p) k = tt
       in_longer j seen id Spent k = tt
 
   old_ticket : (id : ℕ) (v : View) → get_elem? views id ≡ some v → (P : Stage → Type 0) → (j : ℕ) (u : View) → get_elem? views j ≡ some u → j ≡ id → P u.stage → P v.stage
@@ -139,13 +139,13 @@ module _ (part : Common) (words : List ℕ) (views : List View) (log : List Call
       record { number_is = f.number_is; part_is = f.part_is; begins = prefix_self log; behind = refl; drew = f.drew; stage = record { ticket_is = is; stands = first; slot = refl; whole = refl } }
       (λ j _. refl)
       (λ j u other there known. others home j u.seen u.stage known)
-      (λ zeroth. (refl, refl, (λ i n _ _. refl), tt))
+      (λ zeroth. (refl, refl, refl, (λ i n _ _. refl), tt, tt))
     where
       others : (out ≡ true → ⊥) → (j : ℕ) (seen : List Call) (st : Stage) → StageFits serving q.line log out j seen st → StageFits serving q.line log true j seen st
       others home j seen Idle k = tt
       others home j seen (Waiting t) k = k
       others home j seen (Holding t) k = absurd (home k.slot)
-      others home j seen (Comparing n was theirs) k = tt
+      others home j seen (Comparing n was theirs p) k = tt
       others home j seen Spent k = tt
 
   -- what the holder knows
@@ -188,7 +188,7 @@ module _ (part : Common) (words : List ℕ) (views : List View) (log : List Call
       record { number_is = f.number_is; part_is = f.part_is; begins = prefix_self log'; behind = refl; drew = f.drew; stage = tt }
       (λ j _. refl)
       (λ j u other there known. others rest l.1 j other u.seen u.stage known)
-      (λ zeroth. (refl, refl, (λ i n _ _. refl), tt))
+      (λ zeroth. (refl, refl, refl, (λ i n _ _. refl), tt, tt))
     where
       others : (rest : List ℕ) → q.line ≡ id ∷ rest → (j : ℕ) → j ≢ id → (seen : List Call) (st : Stage) → StageFits serving q.line log out j seen st → StageFits (serving + 1) rest log' false j seen st
       others rest is j other seen Idle k = tt
@@ -198,5 +198,5 @@ module _ (part : Common) (words : List ℕ) (views : List View) (log : List Call
           later zero e at = absurd (other (sym (some-injective id j at)))
           later (suc i) e at = record { place = i; ticket_is = omega arith; stands = at }
       others rest is j other seen (Holding t) k = absurd (other (sym (some-injective id j (ap (λ m. get_elem? m 0) (sym is) ∙ k.stands))))
-      others rest is j other seen (Comparing n was theirs) k = tt
+      others rest is j other seen (Comparing n was theirs p) k = tt
       others rest is j other seen Spent k = tt

@@ -27,14 +27,14 @@ live_or_spent : (st : Stage) → IsLive st ⊎ (st ≡ Spent)
 live_or_spent Idle = inl tt
 live_or_spent (Waiting t) = inl tt
 live_or_spent (Holding t) = inl tt
-live_or_spent (Comparing n was theirs) = inl tt
+live_or_spent (Comparing n was theirs p) = inl tt
 live_or_spent Spent = inr refl
 
 has_live : (n : ℕ) (st : Stage) → HasTicket n st → IsLive st
 has_live n Idle has = absurd has
 has_live n (Waiting t) has = tt
 has_live n (Holding t) has = tt
-has_live n (Comparing m was theirs) has = absurd has
+has_live n (Comparing m was theirs p) has = absurd has
 has_live n Spent has = absurd has
 
 -- a seat with a ticket stands in line
@@ -42,7 +42,7 @@ stands_at : (serving : ℕ) (line : List ℕ) (log : List Call) (out : Bool) (j 
 stands_at serving line log out j seen n Idle k has = absurd has
 stands_at serving line log out j seen n (Waiting t) k has = record { place = k.place; ticket_is = sym has ∙ k.ticket_is; stands = k.stands }
 stands_at serving line log out j seen n (Holding t) k has = record { place = 0; ticket_is = let e = k.ticket_is in omega arith; stands = k.stands }
-stands_at serving line log out j seen n (Comparing m was theirs) k has = absurd has
+stands_at serving line log out j seen n (Comparing m was theirs p) k has = absurd has
 stands_at serving line log out j seen n Spent k has = absurd has
 
 module _ {T : Type 0} (history : T → List Call) (turns : T → ℕ) (stands : T → Common → Type 0) (part : Common) where
@@ -75,6 +75,10 @@ module _ {T : Type 0} (history : T → List Call) (turns : T → ℕ) (stands : 
     pub numbers_fit : NumbersFit s
     numbers_fit =
         record {
+          first_there =
+              let there = at_each s.views 0 (let b = r.seats.begun in omega arith) in
+              let f = r.seats.first there.0 there.1 in
+              (there.0, there.1, f.made, (r.seats.each 0 there.0 there.1 f.live).number_is);
           apart = λ i j v w a b same. sym (fits i v a).number_is ∙ (same ∙ (fits j w b).number_is);
           below = λ first at i v a.
               let count = (r.seats.first first at).made in
@@ -146,6 +150,8 @@ module _ {T : Type 0} (history : T → List Call) (turns : T → ℕ) (stands : 
           draws = r.seats.draws;
           one_each = r.seats.as_many;
           seat_drew = λ i v seat. subst (λ (n : ℕ). get_elem? r.seats.draws n ≡ some v.drawn) (sym (fits i v seat).number_is) (fits i v seat).drew;
+          joined_kept = λ first at. (r.seats.keeps first at).one_each;
+          joined_drew = λ first at. (r.seats.keeps first at).drew;
           each_few = r.seats.each_drew;
           ticket_is = ap (λ l. get_elem? l 0) r.seats.words_are ∙ ap some (sym r.seats.drew);
           few = let most = ticket_most part s.words s.views r.log r.out r.serving r.seats in let all = r.seats.drew in omega arith;

@@ -1,12 +1,16 @@
--- That a new lock meets its rule, and that each kind of step keeps it, whatever the other seats did before.
-use Rattle.std.specs.Prelude.{◌≡◌, ℕ, ◌+◌, ◌%◌, ◌^◌, ◌<◌, List, [], ◌∷◌, Option, Some}
+-- That a new lock meets its rule, and that each kind of step keeps it, whatever the other seats did before; and what the
+-- own calls of seats tell of a history.
+use Rattle.std.specs.Prelude.{◌≡◌, ◌≢◌, ℕ, ◌+◌, ◌%◌, ◌^◌, ◌<◌, Bool, List, [], ◌∷◌, Option, Some, Contains}
+use Rattle.std.specs.List.{AllPass}
+use mathlib.Core.List.{IsPrefix}
 use mathlib.Core.Option.{none}
 use Rattle.atomic_table.specs.Table.{Me, step, Allows, Splits, Joins, opening}
 use Rattle.cache_core.specs.declared.calls.Call.{Call}
 use Rattle.cache_core.specs.declared.common.Common.{Common}
 use Rattle.turn_lock.specs.declared.view.View.{View}
 use Rattle.turn_lock.specs.declared.view.Stage.TheVariants.{Idle, Waiting, Holding, Comparing}
-use Rattle.turn_lock.specs.Histories.{Grows}
+use Rattle.cache_core.specs.Histories.{own}
+use Rattle.turn_lock.specs.Histories.{AllMade, Grows}
 use Rattle.turn_lock.specs.Views.{IsLive, opening_view, spent_view, split_view, new_view, comparing_view}
 use Rattle.turn_lock.specs.TurnRule.{TurnRule}
 use Rattle.turn_lock.specs.Steps.{Drew, Looked, HandedOn, Asked, ComparedAll}
@@ -45,5 +49,23 @@ module _ {T : Type 0} (history : T → List Call) (turns : T → ℕ) (stands : 
 
   -- the comparison reads word 0
   abbrev pub CompareKeeps : Type 0
-  CompareKeeps = (part : Common) (slots id : ℕ) (me : Me (Option T) View) (n : ℕ) (was theirs : List Call) → me.0.number ≡ 0 → me.0.stage ≡ Comparing n was theirs
+  CompareKeeps = (part : Common) (slots id : ℕ) (me : Me (Option T) View) (n : ℕ) (was theirs : List Call) (p : Common) → me.0.number ≡ 0 → me.0.stage ≡ Comparing n was theirs p
       → Allows (TurnRule history turns stands part) slots id me 0 (λ m. m) (ComparedAll (step slots 0 0 0 none) me)
+
+-- ---- own calls
+
+-- each call of the history is one of its seat's own, and the seat was made
+abbrev pub CallsAreOwn : Type 0
+CallsAreOwn = (made : ℕ) (history : List Call) → AllMade made history → (c : Call) → Contains history c → (c.seat < made) × Contains (own c.seat history) c
+
+-- a test that each made seat's own calls pass is passed by all calls of the history
+abbrev pub OwnsTellAll : Type 0
+OwnsTellAll = (made : ℕ) (passes : Call → Bool) (history : List Call) → AllMade made history → ((seat : ℕ) → seat < made → AllPass passes (own seat history)) → AllPass passes history
+
+-- where no other seat that was made has called, the calls of one are the history
+abbrev pub AloneIsHistory : Type 0
+AloneIsHistory = (made seat : ℕ) (history : List Call) → AllMade made history → ((other : ℕ) → other < made → other ≢ seat → own other history ≡ []) → own seat history ≡ history
+
+-- a prefix with all calls of each seat that was made is the history
+abbrev pub OwnsAreWhole : Type 0
+OwnsAreWhole = (made : ℕ) (first history : List Call) → IsPrefix first history → AllMade made history → ((seat : ℕ) → seat < made → own seat first ≡ own seat history) → first ≡ history

@@ -34,9 +34,10 @@ module _ {T : Type 0} (s : State (Option T) View) where
   abbrev pub IsOut : Type 0
   IsOut = s.homes ≡ none ∷ []
 
-  -- seats have different numbers, below the number of seats made, which is at most 1024; and each number below it is
-  -- that of a seat or was joined, and not both
+  -- seat 0 has a view, which counts the views; seats have different numbers, below the number of seats made, which is at
+  -- most 1024; and each number below it is that of a seat or was joined, and not both
   pub record NumbersFit : Type 0 where
+    pub first_there : (first : View) × IsFirst first × (first.made ≡ length s.views) × (first.number ≡ 0)
     pub apart : (i j : ℕ) (v w : View) → IsSeat i v → IsSeat j w → v.number ≡ w.number → i ≡ j
     pub below : (first : View) → IsFirst first → (i : ℕ) (v : View) → IsSeat i v → v.number < first.made
     pub known : (first : View) → IsFirst first → (n : ℕ) → n < first.made → HasSeat n ⊎ WasJoined first n
@@ -55,12 +56,15 @@ module _ {T : Type 0} (s : State (Option T) View) where
     pub holder_served : (i : ℕ) (v : View) (n : ℕ) → IsSeat i v → v.stage ≡ Holding n → n ≡ serving
     pub one_holds : (i j : ℕ) (v w : View) (m n : ℕ) → IsSeat i v → IsSeat j w → v.stage ≡ Holding m → w.stage ≡ Holding n → i ≡ j
 
-  -- the next ticket is the sum of the turns drawn by each number, joined ones included; none is above 2^48, so it
-  -- never wraps
+  -- the next ticket is the sum of the turns drawn by each number, joined ones included, of which seat 0 keeps them; none
+  -- is above 2^48, so it never wraps
   pub record DrawsFit : Type 0 where
     pub draws : List ℕ
     pub one_each : length draws ≡ length s.views
     pub seat_drew : (i : ℕ) (v : View) → IsSeat i v → get_elem? draws v.number ≡ some v.drawn
+    pub joined_kept : (first : View) → IsFirst first → length first.joined_drawn ≡ length first.joined
+    pub joined_drew : (first : View) → IsFirst first → (i n d : ℕ) → get_elem? first.joined i ≡ some n → get_elem? first.joined_drawn i ≡ some d
+        → get_elem? draws n ≡ some d
     pub each_few : (n d : ℕ) → get_elem? draws n ≡ some d → d ≤ 2 ^ 48
     pub ticket_is : get_elem? s.words 0 ≡ some (sum draws)
     pub few : sum draws ≤ 2 ^ 58

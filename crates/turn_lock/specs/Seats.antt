@@ -18,7 +18,7 @@ abbrev pub IsHolding : Stage → Type 0
 IsHolding Idle = ⊥
 IsHolding (Waiting _) = ⊥
 IsHolding (Holding _) = Unit {0}
-IsHolding (Comparing _ _ _) = ⊥
+IsHolding (Comparing _ _ _ _) = ⊥
 IsHolding Spent = ⊥
 
 -- each seat that was made was joined, but for seat 0

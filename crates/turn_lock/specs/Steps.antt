@@ -10,19 +10,21 @@ use Rattle.cache_core.specs.Histories.{own}
 use Rattle.turn_lock.specs.declared.view.View.{View}
 use Rattle.turn_lock.specs.declared.view.Stage.{Stage}
 use Rattle.turn_lock.specs.declared.view.Stage.TheVariants.{Comparing}
+use Rattle.turn_lock.specs.Histories.{OwnsSame}
 use Rattle.turn_lock.specs.Views.{ticket_of, waiting_view, holding_view, idle_view}
 
 -- seat 0 has compared what it had seen with what the seat n had: what it has seen now goes on from both, and has no
--- more calls of number 0, of n, and of the numbers joined before
-pub record IsCompared (seen : List Call) (joined : List ℕ) (n : ℕ) (was theirs : List Call) : Type 0 where
+-- more calls of number 0, of n, and of the numbers joined before; both seats have one common part
+pub record IsCompared (seen : List Call) (joined : List ℕ) (part : Common) (n : ℕ) (was theirs : List Call) (their_part : Common) : Type 0 where
   pub was_begins : IsPrefix was seen
   pub theirs_begins : IsPrefix theirs seen
   pub mine : own 0 seen ≡ own 0 was
   pub theirs_same : own n seen ≡ own n theirs
   pub before : (i m : ℕ) → get_elem? joined i ≡ some m → i + 1 < length joined → own m seen ≡ own m was
+  pub same_part : their_part ≡ part
 
 abbrev pub CompareTells : View → Stage → Type 0
-CompareTells v (Comparing n was theirs) = IsCompared v.seen v.joined n was theirs
+CompareTells v (Comparing n was theirs p) = IsCompared v.seen v.joined v.part n was theirs p
 CompareTells v _ = Unit {0}
 
 module _ {T : Type 0} where
@@ -38,8 +40,8 @@ module _ {T : Type 0} where
   ComparedAll step before found after = (after ≡ (idle_view before.0 before.0.seen, before.1)) × CompareTells before.0 before.0.stage
 
 module _ {T : Type 0} (history : T → List Call) (turns : T → ℕ) (stands : T → Common → Type 0) where
-  -- the value has as many turns as the ticket, begins with what was seen, has no more calls of the seat's number, and
-  -- stands in the seat's common part
+  -- the value has as many turns as the ticket, begins with what was seen, has no more calls of the seat's number and,
+  -- at seat 0, of the numbers joined, and stands in the seat's common part
   pub record TakesValue (before : View) (value : T) (after : View) : Type 0 where
     pub view_is : after ≡ holding_view before (ticket_of before.stage) (history value)
     pub turns_are : turns value ≡ ticket_of before.stage
@@ -47,6 +49,7 @@ module _ {T : Type 0} (history : T → List Call) (turns : T → ℕ) (stands : 
     pub stood : stands value before.part
     pub begins : IsPrefix before.seen (history value)
     pub own_same : own before.number (history value) ≡ own before.number before.seen
+    pub joined_same : before.number ≡ 0 → OwnsSame before.joined (history value) before.seen
 
   -- where its own ticket is served the seat takes the value, and else nothing changes
   abbrev pub Looked : Step (Option T) → Me (Option T) View → ℕ → Me (Option T) View → Type 0
@@ -60,5 +63,8 @@ module _ {T : Type 0} (history : T → List Call) where
   carried_history ((k, Some value) ∷ rest) = history value
   carried_history _ = []
 
+  -- seat 0 has then seen no more calls of the numbers joined
   abbrev pub HandedOn : Step (Option T) → Me (Option T) View → ℕ → Me (Option T) View → Type 0
-  HandedOn step before found after = after ≡ (idle_view before.0 (carried_history before.1), [])
+  HandedOn step before found after =
+      (after ≡ (idle_view before.0 (carried_history before.1), []))
+      × (before.0.number ≡ 0 → OwnsSame before.0.joined (carried_history before.1) before.0.seen)

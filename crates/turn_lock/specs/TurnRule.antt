@@ -37,7 +37,7 @@ module _ (serving : ℕ) (line : List ℕ) (log : List Call) (out : Bool) (numbe
   StageFits Idle = Unit {0}
   StageFits (Waiting ticket) = IsInLine serving line number ticket
   StageFits (Holding ticket) = IsServed serving line log out number seen ticket
-  StageFits (Comparing _ _ _) = Unit {0}
+  StageFits (Comparing _ _ _ _) = Unit {0}
   StageFits Spent = Unit {0}
 
 -- what is true of a live view, which is the view at the place of its number
@@ -62,8 +62,18 @@ pub record ComparesTo (log : List Call) (joined : List ℕ) (seen : List Call) (
 
 module _ (log : List Call) (joined : List ℕ) (seen : List Call) where
   abbrev pub CompareFits : Stage → Type 0
-  CompareFits (Comparing n was theirs) = ComparesTo log joined seen n was theirs
+  CompareFits (Comparing n was theirs p) = ComparesTo log joined seen n was theirs
   CompareFits _ = Unit {0}
+
+-- a seat that was taken in has the common part of the seat that took it
+abbrev pub HasSamePart : Common → Stage → Type 0
+HasSamePart part (Comparing _ _ _ theirs) = theirs ≡ part
+HasSamePart part _ = Unit {0}
+
+-- for each number joined seat 0 keeps the turns that it drew
+pub record KeepsDraws (draws : List ℕ) (v : View) : Type 0 where
+  pub one_each : length v.joined_drawn ≡ length v.joined
+  pub drew : (i n d : ℕ) → get_elem? v.joined i ≡ some n → get_elem? v.joined_drawn i ≡ some d → get_elem? draws n ≡ some d
 
 -- what is true of the view of seat 0
 pub record FirstFits (views : List View) (log : List Call) (v : View) : Type 0 where
@@ -75,6 +85,7 @@ pub record FirstFits (views : List View) (log : List Call) (v : View) : Type 0 w
   -- behind what it has seen, the history has no call of a number joined
   pub behind : (i n : ℕ) → get_elem? v.joined i ≡ some n → own n v.seen ≡ own n log
   pub compares : CompareFits log v.joined v.seen v.stage
+  pub same_part : HasSamePart v.part v.stage
 
 -- the words and the views. There is a view for each number made
 pub record SeatsFit (part : Common) (words : List ℕ) (views : List View) (log : List Call) (out : Bool) (serving : ℕ) : Type 0 where
@@ -87,10 +98,13 @@ pub record SeatsFit (part : Common) (words : List ℕ) (views : List View) (log 
   pub each_drew : (n d : ℕ) → get_elem? draws n ≡ some d → d ≤ 2 ^ 48
   pub as_many : length draws ≡ length views
   pub few : length views ≤ 1024
+  -- the view of seat 0 is there
+  pub begun : 1 ≤ length views
   pub in_line : (i n : ℕ) → get_elem? line i ≡ some n → (v : View) × (get_elem? views n ≡ some v) × HasTicket (serving + i) v.stage
   pub served : out ≡ true → (n : ℕ) × (v : View) × (get_elem? views n ≡ some v) × (v.stage ≡ Holding serving)
   pub each : (n : ℕ) (v : View) → get_elem? views n ≡ some v → IsLive v.stage → LiveFits part serving line draws log out n v
   pub first : (v : View) → get_elem? views 0 ≡ some v → FirstFits views log v
+  pub keeps : (v : View) → get_elem? views 0 ≡ some v → KeepsDraws draws v
   -- no call is of a number that was not made
   pub made : AllMade (length views) log
 

@@ -12,7 +12,7 @@ abbrev pub IsLive : Stage → Type 0
 IsLive Idle = Unit {0}
 IsLive (Waiting _) = Unit {0}
 IsLive (Holding _) = Unit {0}
-IsLive (Comparing _ _ _) = Unit {0}
+IsLive (Comparing _ _ _ _) = Unit {0}
 IsLive Spent = ⊥
 
 -- the seat waits or holds with this ticket
@@ -20,7 +20,7 @@ abbrev pub HasTicket : ℕ → Stage → Type 0
 HasTicket n Idle = ⊥
 HasTicket n (Waiting t) = t ≡ n
 HasTicket n (Holding t) = t ≡ n
-HasTicket n (Comparing _ _ _) = ⊥
+HasTicket n (Comparing _ _ _ _) = ⊥
 HasTicket n Spent = ⊥
 
 -- the ticket that the seat waits or holds with
@@ -31,7 +31,7 @@ ticket_of _ = 0
 
 -- seat 0 of a new lock
 abbrev pub opening_view : Common → View
-opening_view part = record { number = 0; stage = Idle; drawn = 0; seen = []; part = part; made = 1; joined = [] }
+opening_view part = record { number = 0; stage = Idle; drawn = 0; seen = []; part = part; made = 1; joined = []; joined_drawn = [] }
 
 -- what a join leaves of the view that was taken in
 abbrev pub spent_view : View
@@ -44,6 +44,7 @@ spent_view =
       part = record { capacity = 0; units = record { num = 0; den = 0; mag = 0; res = 0 }; library = None };
       made = 0;
       joined = [];
+      joined_drawn = [];
     }
 
 -- after a ticket was drawn
@@ -63,11 +64,17 @@ abbrev pub split_view : View → View
 split_view v = record v { made = v.made + 1 }
 
 abbrev pub new_view : View → View
-new_view v = record { number = v.made; stage = Idle; drawn = 0; seen = v.seen; part = v.part; made = 0; joined = [] }
+new_view v = record { number = v.made; stage = Idle; drawn = 0; seen = v.seen; part = v.part; made = 0; joined = []; joined_drawn = [] }
 
 -- seat 0 after it took another seat in, which it has not compared yet
 abbrev pub comparing_view : View → View → View
-comparing_view v w = record v { stage = Comparing w.number v.seen w.seen; seen = longer_of v.seen w.seen; joined = v.joined ++ w.number ∷ [] }
+comparing_view v w =
+    record v {
+      stage = Comparing w.number v.seen w.seen w.part;
+      seen = longer_of v.seen w.seen;
+      joined = v.joined ++ w.number ∷ [];
+      joined_drawn = v.joined_drawn ++ w.drawn ∷ [];
+    }
 
 -- the views after whole calls: after a turn was drawn and came, and after another seat was taken in
 abbrev pub view_with_turn : View → ℕ → List Call → View

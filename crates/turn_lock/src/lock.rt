@@ -117,7 +117,7 @@ impl<T: Told> TurnLock<T> {
 
     /// Takes another seat in. Seat 0 has then seen the longer of both histories, which goes on from both. It has the
     /// calls of the other's number that the other had, and of its own number and of each number joined before those
-    /// that it had itself.
+    /// that it had itself. Both seats have one common part.
     pub fn join(&self, first: &mut Seat<T>, other: Seat<T>)
         requires lock { first.old.lock ≡ self.now }
         requires other_lock { other.lock ≡ self.now }
@@ -131,6 +131,7 @@ impl<T: Told> TurnLock<T> {
         ensures theirs { own other.view.number first.new.view.seen ≡ own other.view.number other.view.seen }
         ensures mine { own 0 first.new.view.seen ≡ own 0 first.old.view.seen }
         ensures before { OwnsSame first.old.view.joined first.new.view.seen first.old.view.seen }
+        ensures common_part { other.view.part ≡ first.old.view.part }
     {
         let Seat {
             place,
@@ -173,7 +174,7 @@ impl<T: Told> TurnLock<T> {
     }
 
     /// Draws a turn, waits for it, and takes the value. Its history begins with what the seat had seen and has no more
-    /// calls of the seat's number.
+    /// calls of the seat's number and, at seat 0, of the numbers joined.
     pub fn take<R: Wait>(&self, rt: &R, seat: &mut Seat<T>) -> T
         requires lock { seat.old.lock ≡ self.now }
         requires idle { seat.old.view.stage ≡ Idle }
@@ -182,6 +183,8 @@ impl<T: Told> TurnLock<T> {
         ensures seen { seat.new.view ≡ view_with_turn seat.old.view (T.turns result) (T.history result) }
         ensures begins { IsPrefix seat.old.view.seen (T.history result) }
         ensures own { own seat.old.view.number (T.history result) ≡ own seat.old.view.number seat.old.view.seen }
+        ensures joined { seat.old.view.number ≡ 0
+            → OwnsSame seat.old.view.joined (T.history result) seat.old.view.seen }
         ensures stands { T.stands result seat.old.view.part }
         ensures few { T.turns result < 2 ^ 58 }
     {
@@ -193,8 +196,9 @@ impl<T: Told> TurnLock<T> {
         value
     }
 
-    /// Gives the value back after one turn, and hands the turn on. The seat has then seen the value's history, which is
-    /// the one that it took, or that with one call of this seat behind it.
+    /// Gives the value back after one turn, and hands the turn on. The seat has then seen the value's
+    /// history, which is the one that it took, or that with one call of this seat behind it. No number
+    /// that seat 0 joined is its own, so none of those has a call more.
     pub fn give(&self, seat: &mut Seat<T>, value: T)
         requires lock { seat.old.lock ≡ self.now }
         requires turn { IsHolding seat.old.view.stage }
@@ -203,6 +207,8 @@ impl<T: Told> TurnLock<T> {
         requires stands { T.stands value seat.old.view.part }
         ensures lock { seat.new.lock ≡ seat.old.lock }
         ensures seen { seat.new.view ≡ idle_view seat.old.view (T.history value) }
+        ensures joined { seat.old.view.number ≡ 0
+            → OwnsSame seat.old.view.joined (T.history value) seat.old.view.seen }
     {
         let Some(ticket) = seat.ticket else {
             unreachable!()

@@ -10,8 +10,9 @@ pub enum Stage {
     Waiting(u64),
     /// It has the turn of this ticket, and the value, which then had as many turns.
     Holding(u64),
-    /// It took another seat in: that one's number, what this one had seen, and what that one had.
-    Comparing(u32, LinkedList<Call>, LinkedList<Call>),
+    /// It took another seat in: that one's number, what this one had seen, what that one had, and
+    /// that one's common part.
+    Comparing(u32, LinkedList<Call>, LinkedList<Call>, Common),
     /// It was joined.
     Spent,
 }
@@ -29,4 +30,6 @@ pub struct View {
     pub made: u32,
     /// The numbers of the seats that were joined, in that order. Only seat 0 knows.
     pub joined: LinkedList<u32>,
+    /// How many turns each of these drew, in that order. Only seat 0 knows.
+    pub joined_drawn: LinkedList<u64>,
 }

@@ -5,4 +5,4 @@ pub returns-clause-last : goal.returns-clause-last
 returns-clause-last c = claims_are_last
 
 pub returns-clause-held : goal.returns-clause-held
-returns-clause-held c = held_by_last
+returns-clause-held c = held_by_last c.histories.ensures.claims

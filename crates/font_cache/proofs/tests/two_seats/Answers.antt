@@ -1,5 +1,5 @@
 use Rattle.std.proofs.Common.{rules, ◌≡◌, [], ◌∷◌}
-use Rattle.turn_lock.proofs.TwoSeats.{both_joined}
+use Rattle.font_cache.proofs.Joined.{both_joined}
 use Rattle.font_cache.proofs.tests.two_seats.Goals as goal
 
 pub close-requires-clause-joined : goal.close-requires-clause-joined

@@ -1,5 +1,5 @@
 use Rattle.std.proofs.Common.{rules, ◌≡◌, [], ◌∷◌}
-use Rattle.turn_lock.proofs.TwoSeats.{both_joined}
+use Rattle.font_cache.proofs.Joined.{both_joined}
 use Rattle.font_cache.proofs.tests.two_threads.Goals as goal
 
 pub close-entries-requires-clause-joined : goal.close-entries-requires-clause-joined

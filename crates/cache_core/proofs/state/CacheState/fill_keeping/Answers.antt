@@ -8,7 +8,7 @@ use Rattle.cache_core.specs.Machine.{empty, key_eq, claim_of, machine_after}
 use Rattle.cache_core.specs.Views.{calls_of, claims_of, fonts_of, evicted_key}
 use Rattle.cache_core.specs.States.{Cache, machine, machine_of, call, Takes, AddsFont}
 use Rattle.cache_core.proofs.ArcLists.{key_of_left}
-use Rattle.cache_core.proofs.FontLists.{values_after}
+use Rattle.cache_core.proofs.FontLists.{first_found, values_after}
 use Rattle.cache_core.proofs.Changes.{noted, filled, fill_reaches}
 use Rattle.cache_core.proofs.Turns.{claimed_is_missing, fill_stands}
 use Rattle.cache_core.proofs.state.CacheState.fill_keeping.Goals as goal
@@ -49,6 +49,9 @@ returns-clause-fonts g c =
     subst (λ (v : Cache g.row.T.Denot). AddsFont (arc_value c.args.key.now) (arc_value c.args.value) v.fonts (fonts_of c.store.new.fonts.entries)) c.self.view_is
     (λ j found h. values_after (arc_value c.args.key.now) j (arc_value c.args.value) found (c.self.inside.resident.cap - 1) (fonts_of c.self.inside.resident.entries)
     (ap (lookup (key_eq j)) (sym c.in_ok-gone.ensures.added) ∙ h))
+
+pub returns-clause-stored : goal.returns-clause-stored
+returns-clause-stored g c = ap (lookup (key_eq (arc_value c.args.key.now))) c.in_ok-gone.ensures.added ∙ first_found (arc_value c.args.key.now) (arc_value c.args.value) _
 
 pub returns-clause-reached : goal.returns-clause-reached
 returns-clause-reached g c =

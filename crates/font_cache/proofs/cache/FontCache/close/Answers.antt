@@ -1,9 +1,8 @@
 use Rattle.std.proofs.Common.{refl, sym, subst}
-use Rattle.cache_core.proofs.FewClaims.{claims_are_few}
-use Rattle.font_cache.specs.Laws.{FewClaims}
+use Rattle.cache_core.specs.Laws.{FewClaims}
 use Rattle.font_cache.proofs.Turns.{is_legal}
 use Rattle.font_cache.proofs.cache.FontCache.close.Goals as goal
 
 pub returns-clause-few_claims : goal.returns-clause-few_claims
 returns-clause-few_claims g c =
-    subst FewClaims (sym c.finish.ensures.history) (claims_are_few c.close.result.capacity c.close.result.history (is_legal c.close.result c.close.result.capacity c.finish.ensures.reached refl))
+    subst FewClaims (sym c.finish.ensures.history) (c.histories.ensures.few_claims c.close.result.capacity c.close.result.history (is_legal c.close.result c.close.result.capacity c.finish.ensures.reached refl))

@@ -31,7 +31,7 @@ load-requires g c =
     let j = c.join_seat.ensures in (
       j.0 ∙ (ap (λ s. s.lock) is ∙ (c.requires.lock ∙ sym c.self.view_is)),
       omega arith,
-      settles _ _ _ _ _ _ _ _ _ _ (ap (λ (m : Me (Option g.row.T.Denot) View). m.0.number) j.2 ∙ (ap (λ s. s.view.number) is ∙ c.requires.first)) (ap (λ (m : Me (Option g.row.T.Denot) View). m.0.stage) j.2),
+      settles _ _ _ _ _ _ _ _ _ _ _ (ap (λ (m : Me (Option g.row.T.Denot) View). m.0.number) j.2 ∙ (ap (λ s. s.view.number) is ∙ c.requires.first)) (ap (λ (m : Me (Option g.row.T.Denot) View). m.0.stage) j.2),
     )
 
 pub returns-clause-before : goal.returns-clause-before
