@@ -15,20 +15,23 @@ use Rattle.dvi_commands.specs.declared.command.CommandFault.{CommandFault}
 use Rattle.dvi_commands.specs.declared.command.Context.TheVariants as context
 use Rattle.dvi_commands.proofs.Commands.{parted}
 use Rattle.dvi_commands.proofs.Told.{told_by_bytes}
-use Rattle.page_index.specs.Judged.{preamble_fault}
+use Rattle.page_index.specs.Judged.{preamble_fault, preamble_fields}
 use Rattle.page_index.specs.Document.{context_after, is_bop, is_post, is_postpost, key_or, preamble_or, whole_fault}
 use Rattle.page_index.specs.Fonts.{Fonts}
 use Rattle.page_index.specs.Walked.{IsBegun, IsReadTo, behind_preamble}
 use Rattle.page_index.specs.declared.faults.DocFault.{DocFault}
 use Rattle.page_index.specs.declared.preamble.Scaled.{Scaled}
-use Rattle.page_index.proofs.Fields.{preamble_same, preamble_there}
+use Rattle.page_index.proofs.Fields.{AllThere, preamble_same, preamble_there}
 
 -- ---- it is not refused
 
-pub not_refused : (bytes : List ℕ) (s : Scaled) (f : CommandFault) → IsBegun bytes s → refusal context.Start bytes ≡ Some f → ⊥
-not_refused bytes s f b h = by bytes (preamble_there s.units.res bytes b.right).0 (first bytes b.right) (preamble_there s.units.res bytes b.right).1.1.1.1.1.1.0 (preamble_there s.units.res bytes b.right).1.1.1.1.1.1.1.0 h
+pub unrefused : (res : ℕ) (bytes : List ℕ) → preamble_fault res bytes ≡ None → refusal context.Start bytes ≡ None
+unrefused res bytes right = by bytes there.0 (first bytes right) there.1.1.1.1.1.1.0 there.1.1.1.1.1.1.1.0
   where
-    first : (bytes : List ℕ) → preamble_fault s.units.res bytes ≡ None → slice_index bytes 0 ≡ 247
+    there : AllThere (length bytes) (preamble_fields res bytes)
+    there = preamble_there res bytes right
+
+    first : (bytes : List ℕ) → preamble_fault res bytes ≡ None → slice_index bytes 0 ≡ 247
     first [] h = cc
     first (b ∷ text) h = eqb-true b 247 (told (nat_lt (length (b ∷ text)) 1) (b == 247) _ _ _ h)
       where
@@ -37,15 +40,18 @@ not_refused bytes s f b h = by bytes (preamble_there s.units.res bytes b.right).
         told false true w o x h = refl
         told false false w o x h = cc
 
-    by : (text : List ℕ) → 1 ≤ length text → slice_index text 0 ≡ 247 → 15 ≤ length text → 15 + slice_index text 14 ≤ length text → refusal context.Start text ≡ Some f → ⊥
-    by [] some op long whole h = absurd (omega (arith, some))
-    by (b ∷ text) some op long whole h =
+    by : (text : List ℕ) → 1 ≤ length text → slice_index text 0 ≡ 247 → 15 ≤ length text → 15 + slice_index text 14 ≤ length text → refusal context.Start text ≡ None
+    by [] some op long whole = absurd (omega (arith, some))
+    by (b ∷ text) some op long whole =
         let is : b ≡ 247 = op in
         let fields : nat_lt (length text) 14 ≡ false = le-ltb (length text) 14 (omega (arith, long)) in
         let comment : nat_lt (length text) (14 + slice_index text 13) ≡ false = le-ltb (length text) (14 + slice_index text 13) (omega (arith, whole)) in
-        let none : refusal context.Start (b ∷ text) ≡ None = ap (λ (n : ℕ). refusal context.Start (n ∷ text)) is ∙ rw (fields, comment) refl in
-        let bad : Some f ≡ None = sym h ∙ none in
-        cc
+        ap (λ (n : ℕ). refusal context.Start (n ∷ text)) is ∙ rw (fields, comment) refl
+
+pub not_refused : (bytes : List ℕ) (s : Scaled) (f : CommandFault) → IsBegun bytes s → refusal context.Start bytes ≡ Some f → ⊥
+not_refused bytes s f b h =
+    let bad : Some f ≡ None = sym h ∙ unrefused s.units.res bytes b.right in
+    cc
 
 -- ---- it is a preamble
 

@@ -14,7 +14,8 @@ use Rattle.dvi_commands.specs.Reading.{Placed, Reads, placed_from}
 use Rattle.dvi_commands.specs.declared.command.Context.{Context}
 use Rattle.dvi_commands.specs.declared.command.Context.TheVariants as context
 use Rattle.page_index.specs.Judged.{is_filler, tail_fault}
-use Rattle.page_index.specs.Document.{LONGEST, IsDocument, Reading, Sound, context_after, end_of, is_ended, is_post_read, is_postpost, pages_begun, text_of, units_of}
+use Rattle.page_index.specs.Limits.{LONGEST}
+use Rattle.page_index.specs.Document.{IsDocument, Reading, Sound, context_after, end_of, is_ended, is_post_read, is_postpost, pages_begun, text_of, units_of}
 use Rattle.page_index.specs.Faults.{FaultAfter, FaultBehind, IsFirstFault}
 use Rattle.page_index.specs.Fonts.{Fonts}
 use Rattle.page_index.specs.Pages.{Indexed, eop_at, is_page, page_commands, reading_to}
@@ -24,7 +25,7 @@ use Rattle.page_index.specs.declared.preamble.Scaled.{Scaled}
 use Rattle.page_index.specs.declared.progress.Progress.{Progress}
 use Rattle.page_index.specs.declared.progress.PageSpan.{PageSpan}
 use Rattle.page_index.proofs.Contexts.{SaysOf, behind_post, says_of}
-use Rattle.page_index.proofs.Filler.{filler_is}
+use Rattle.page_index.proofs.Filler.{filler_is, tail_right}
 use Rattle.page_index.proofs.FontKeys.{fonts_fit}
 use Rattle.page_index.proofs.Runs.{runs_more, runs_placed, runs_read}
 
@@ -87,7 +88,7 @@ module _ (bytes : List ℕ) (s : Scaled) (p : Progress) (pages : List PageSpan) 
 
   pub document : tail_fault p.at (drop p.at bytes) ≡ None → IsDocument s.units.res bytes w.reading
   document h =
-      let fill = filled (list_all is_filler (drop p.at bytes)) (nat_lt (length (drop p.at bytes)) 4) refl refl _ _ h in
+      let fill = tail_right p.at (drop p.at bytes) h in
       record {
         fits = w.fits;
         sound = w.sound;
@@ -96,12 +97,6 @@ module _ (bytes : List ℕ) (s : Scaled) (p : Progress) (pages : List PageSpan) 
         filled = fill.1;
         whole = sym w.text ∙ ap (λ (t : List ℕ). text_of w.reading ++ t) (filler_is (drop p.at bytes) fill.0);
       }
-    where
-      filled : (all few : Bool) → list_all is_filler (drop p.at bytes) ≡ all → nat_lt (length (drop p.at bytes)) 4 ≡ few → (x y : DocFault) → (if not all then Some x else if few then Some y else None) ≡ None
-          → (list_all is_filler (drop p.at bytes) ≡ true) × (4 ≤ length (drop p.at bytes))
-      filled true false a f x y h = (a, ltb-false (length (drop p.at bytes)) 4 f)
-      filled true true a f x y h = cc
-      filled false few a f x y h = cc
 
   same_units : s.units ≡ units_of s.units.res w.preamble.preamble
   same_units =

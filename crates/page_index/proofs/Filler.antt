@@ -1,9 +1,10 @@
 -- What stands behind PostPost.
 use Rattle.std.proofs.Common.{◌≡◌, ℕ, suc, ◌+◌, ◌≤◌, ◌<◌, Bool, true, false, cond, List, [], ◌∷◌, length, refl, ap, arith, eqb-true, sym, ◌∙◌, length-take}
-use Rattle.std.specs.Prelude.{◌==◌, ◌&&◌, nat_lt, replicate, Some, None}
-use Rattle.std.proofs.lemmas.Bool.{le-ltb, lt-ltb}
+use Rattle.std.specs.Prelude.{◌==◌, ◌&&◌, not, if◌then◌else◌, nat_lt, replicate, Some, None}
+use Rattle.std.proofs.lemmas.Bool.{le-ltb, lt-ltb, ltb-false}
 use Rattle.std.specs.List.{list_all, prefix_len, take_while}
 use Rattle.page_index.specs.Judged.{is_filler, tail_fault}
+use Rattle.page_index.specs.declared.faults.DocFault.{DocFault}
 use Rattle.page_index.specs.declared.faults.DocFault.TheVariants.{Trailer, Truncated}
 
 front_within : (bytes : List ℕ) → prefix_len is_filler bytes ≤ length bytes
@@ -70,3 +71,13 @@ module _ (at : ℕ) (rest : List ℕ) (n : ℕ) (is : n ≡ length (take_while i
   all_right within h enough =
       let less : nat_lt (length rest) 4 ≡ false = le-ltb (length rest) 4 (omega (arith, within, h, enough)) in
       rw (all_there within h, less) refl
+
+-- where nothing is wrong
+pub tail_right : (at : ℕ) (rest : List ℕ) → tail_fault at rest ≡ None → (list_all is_filler rest ≡ true) × (4 ≤ length rest)
+tail_right at rest h = filled (list_all is_filler rest) (nat_lt (length rest) 4) refl refl _ _ h
+  where
+    filled : (all few : Bool) → list_all is_filler rest ≡ all → nat_lt (length rest) 4 ≡ few → (x y : DocFault) → (if not all then Some x else if few then Some y else None) ≡ None
+        → (list_all is_filler rest ≡ true) × (4 ≤ length rest)
+    filled true false a f x y h = (a, ltb-false (length rest) 4 f)
+    filled true true a f x y h = cc
+    filled false few a f x y h = cc

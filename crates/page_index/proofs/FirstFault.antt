@@ -24,18 +24,18 @@ first_is : (bytes : List ℕ) (op : ℕ) → 0 < op → slice_index bytes 0 ≡ 
 first_is [] op some e = absurd (omega (arith, e, some))
 first_is (b ∷ fields) op some e = (fields, ap (λ x. x ∷ fields) e)
 
-is_pre : (c : DviCommand) (bytes : List ℕ) → Spells c bytes → slice_index bytes 0 ≡ 247 → (p : Preamble) × (c ≡ Pre p)
+pub is_pre : (c : DviCommand) (bytes : List ℕ) → Spells c bytes → slice_index bytes 0 ≡ 247 → (p : Preamble) × (c ≡ Pre p)
 is_pre c bytes h e =
     let first = first_is bytes 247 (omega arith) e in
     (_, told_by_bytes c bytes h ∙ ap command_of first.1)
 
-is_post_post : (c : DviCommand) (bytes : List ℕ) → Spells c bytes → slice_index bytes 0 ≡ 249 → (q : ℤ) × (id : ℕ) × (c ≡ PostPost q id)
+pub is_post_post : (c : DviCommand) (bytes : List ℕ) → Spells c bytes → slice_index bytes 0 ≡ 249 → (q : ℤ) × (id : ℕ) × (c ≡ PostPost q id)
 is_post_post c bytes h e =
     let first = first_is bytes 249 (omega arith) e in
     (_, _, told_by_bytes c bytes h ∙ ap command_of first.1)
 
 -- the first byte of a command's bytes is that of all bytes from there on
-first_of : (bytes more : List ℕ) → 0 < length bytes → slice_index (bytes ++ more) 0 ≡ slice_index bytes 0
+pub first_of : (bytes more : List ℕ) → 0 < length bytes → slice_index (bytes ++ more) 0 ≡ slice_index bytes 0
 first_of [] more h = absurd (omega (arith, h))
 first_of (b ∷ bytes) more h = refl
 

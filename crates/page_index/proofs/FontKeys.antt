@@ -10,7 +10,7 @@ use Rattle.dvi_commands.specs.Spelling.{Definition, DviCommand, Define, Spells}
 use Rattle.dvi_commands.specs.Reading.{Placed}
 use Rattle.page_index.specs.Judged.{agrees_with, define_fault, is_size}
 use Rattle.page_index.specs.Document.{IsSound, Reading, Sound, font_table, key_of, key_or, whole_fault}
-use Rattle.page_index.specs.Fonts.{IsFontKey}
+use Rattle.outside.specs.FontKeys.{IsFontKey}
 use Rattle.page_index.specs.declared.faults.DocFault.TheVariants.{FontClash, FontDef}
 
 size_fits : (z : ℤ) → is_size z ≡ true → (1 ≤ unsigned_abs z) × (unsigned_abs z < 2 ^ 27)

@@ -13,3 +13,5 @@ mod Steps
 mod Begin
 mod Ended
 mod PageEnds
+mod PagesApart
+mod Total

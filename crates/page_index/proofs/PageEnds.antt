@@ -9,7 +9,7 @@ use Rattle.dvi_commands.specs.declared.command.Context.{Context}
 use Rattle.dvi_commands.specs.declared.command.Context.TheVariants as context
 use Rattle.page_index.specs.Document.{IsSound, Reading, Sound, context_after, is_bop, is_eop, is_page_open, is_post, is_post_read, pages_begun}
 use Rattle.page_index.specs.Pages.{eop_at, is_page}
-use Rattle.page_index.specs.Laws.{EachPageEnds, PagesAreApart}
+use Rattle.page_index.specs.Laws.{EachPageEnds}
 use Rattle.page_index.proofs.Contexts.{SaysOf, behind_pages, between_pages, says_of}
 use Rattle.page_index.proofs.Ended.{post_is_read}
 
@@ -115,11 +115,3 @@ each_page_ends res bytes reading i doc h =
       | inl some ↦ some
       | inr open_page ↦ absurd (true≢false (sym open_page.0 ∙ closed_behind_post res reading doc.sound (post_is_read res reading doc.sound doc.ended)))
     ]
-
-pub pages_are_apart : PagesAreApart
-pages_are_apart reading c i j on_i on_j =
-    let a = and_parts (is_page (context_after reading) && not (is_eop c.command)) (pages_begun reading == suc i) on_i in
-    let b = and_parts (is_page (context_after reading) && not (is_eop c.command)) (pages_begun reading == suc j) on_j in
-    let p : pages_begun reading ≡ suc i = eqb-true (pages_begun reading) (suc i) a.1 in
-    let q : pages_begun reading ≡ suc j = eqb-true (pages_begun reading) (suc j) b.1 in
-    omega (arith, p, q)

@@ -11,6 +11,7 @@ use Rattle.dvi_commands.specs.Refusal.{may_stand}
 use Rattle.dvi_commands.specs.Reading.{Placed}
 use Rattle.dvi_commands.specs.declared.command.Context.{Context}
 use Rattle.dvi_commands.specs.declared.command.Context.TheVariants as context
+use Rattle.page_index.specs.Limits.{LONGEST}
 use Rattle.page_index.specs.Judged.{bop_fault, define_fault, post_fault, postpost_fault, preamble_fault}
 use Rattle.page_index.specs.declared.faults.DocFault.{DocFault}
 
@@ -130,10 +131,6 @@ pub record IsSound (res : ℕ) (before : Reading) (p : Placed) : Type 0 where
 abbrev pub Sound : ℕ → Reading → Type 0
 Sound res [] = Unit {0}
 Sound res (p ∷ before) = Sound res before × IsSound res before p
-
--- the most bytes that a document may have
-abbrev pub LONGEST : ℕ
-LONGEST = 67108864
 
 -- the bytes are a document, of which this is the reading, at a resolution
 pub record IsDocument (res : ℕ) (bytes : List ℕ) (reading : Reading) : Type 0 where

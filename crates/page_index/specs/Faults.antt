@@ -7,7 +7,8 @@ use Rattle.dvi_commands.specs.declared.command.Context.{Context}
 use Rattle.dvi_commands.specs.declared.command.CommandFault.{CommandFault}
 use Rattle.dvi_commands.specs.declared.command.CommandFault.TheVariants as command_fault
 use Rattle.page_index.specs.Judged.{preamble_fault, postpost_fault, tail_fault}
-use Rattle.page_index.specs.Document.{Reading, Sound, LONGEST, context_after, end_of, post_at, text_of, whole_fault}
+use Rattle.page_index.specs.Limits.{LONGEST}
+use Rattle.page_index.specs.Document.{Reading, Sound, context_after, end_of, post_at, text_of, whole_fault}
 use Rattle.page_index.specs.declared.faults.DocFault.{DocFault}
 use Rattle.page_index.specs.declared.faults.DocFault.TheVariants as fault
 use Rattle.page_index.specs.declared.faults.IndexStop.{IndexStop}

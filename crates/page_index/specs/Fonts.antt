@@ -1,5 +1,4 @@
--- Fonts by their numbers, and what their keys hold.
-use Rattle.std.specs.Prelude.{◌^◌, ◌<◌, ◌≤◌, length}
+-- Fonts by their numbers.
 use Rattle.std.specs.Ordering.{int_cmp}
 use Rattle.std.specs.Coded.{Coded, coded_ℤ}
 use Rattle.std.specs.FinMap.{FinMap, code}
@@ -13,9 +12,3 @@ Fonts = FinMap int_cmp FontKey
 -- how the logic stores it
 abbrev pub fonts_code : Coded Fonts
 fonts_code = code coded_ℤ key_row.the_row.coded
-
--- the sizes of a key are more than 0, and its area lies in its name
-pub record IsFontKey (k : FontKey) : Type 0 where
-  pub size : (1 ≤ k.size) × (k.size < 2 ^ 27)
-  pub design : (1 ≤ k.design) × (k.design < 2 ^ 27)
-  pub area : k.area ≤ length k.name

@@ -8,6 +8,7 @@ use Rattle.big_endian.specs.Numbers.{int_eq}
 use Rattle.big_endian.specs.Fields.{judge, whole_until, signed_at, Field}
 use Rattle.outside.specs.declared.keys.FontKey.{FontKey}
 use Rattle.dvi_commands.specs.Spelling.{Definition, Preamble, Postamble}
+use Rattle.page_index.specs.Limits.{MOST_PAGES, SIZES}
 use Rattle.page_index.specs.declared.faults.DocFault.{DocFault}
 use Rattle.page_index.specs.declared.faults.DocFault.TheVariants as fault
 use Rattle.page_index.specs.declared.faults.PostField.TheVariants as field
@@ -40,7 +41,7 @@ preamble_fault res bytes = judge (length bytes) (fault.Truncated (length bytes))
 -- the pages begun before, the position of the last Bop or -1, and where this Bop stands with its pointer
 abbrev pub bop_fault : ℕ → ℤ → ℕ → ℤ → Option DocFault
 bop_fault pages last at back =
-    if nat_le 1000000 pages then Some (fault.TooManyPages at)
+    if nat_le MOST_PAGES pages then Some (fault.TooManyPages at)
     else if not (int_eq back last) then Some (fault.BackPointer at)
     else None
 
@@ -48,7 +49,7 @@ bop_fault pages last at back =
 
 -- a size or a design size, in DVI units
 abbrev pub is_size : ℤ → Bool
-is_size z = int_lt (pos 0) z && int_lt z (pos 134217728)
+is_size z = int_lt (pos 0) z && int_lt z (pos SIZES)
 
 -- a definition says what the font number was defined to be before, if it was; the checksum is not compared
 abbrev pub is_same_font : FontKey → Definition → Bool

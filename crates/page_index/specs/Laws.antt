@@ -1,8 +1,8 @@
 -- Laws over documents and their faults.
-use Rattle.std.specs.Prelude.{◌≡◌, ◌<◌, ℕ, List, IsSome, IsTrue}
-use Rattle.dvi_commands.specs.Reading.{Placed}
+use Rattle.std.specs.Prelude.{◌≡◌, ◌≢◌, ◌<◌, ◌≤◌, ◌+◌, ◌⊎◌, ℕ, List, length, All, IsSome, Some}
+use Rattle.big_endian.specs.Numbers.{AreBytes}
 use Rattle.page_index.specs.Document.{Reading, IsDocument, pages_begun}
-use Rattle.page_index.specs.Pages.{eop_at, is_on_page}
+use Rattle.page_index.specs.Pages.{eop_at, page_commands}
 use Rattle.page_index.specs.Faults.{IsFirstFault}
 use Rattle.page_index.specs.declared.faults.DocFault.{DocFault}
 
@@ -14,6 +14,10 @@ DocumentsHaveNoFault = (res : ℕ) (bytes : List ℕ) (reading : Reading) (f : D
 abbrev pub FirstFaultsAreOne : Type 0
 FirstFaultsAreOne = (res : ℕ) (bytes : List ℕ) (f g : DocFault) → IsFirstFault res bytes f → IsFirstFault res bytes g → f ≡ g
 
+-- all bytes are a document or have a first fault
+abbrev pub BytesAreADocumentOrHaveAFault : Type 0
+BytesAreADocumentOrHaveAFault = (res : ℕ) (bytes : List ℕ) → AreBytes bytes → ((reading : Reading) × IsDocument res bytes reading) ⊎ ((f : DocFault) × IsFirstFault res bytes f)
+
 -- and a document has one reading
 abbrev pub DocumentsHaveOneReading : Type 0
 DocumentsHaveOneReading = (res : ℕ) (bytes : List ℕ) (r s : Reading) → IsDocument res bytes r → IsDocument res bytes s → r ≡ s
@@ -22,6 +26,11 @@ DocumentsHaveOneReading = (res : ℕ) (bytes : List ℕ) (r s : Reading) → IsD
 abbrev pub EachPageEnds : Type 0
 EachPageEnds = (res : ℕ) (bytes : List ℕ) (reading : Reading) (i : ℕ) → IsDocument res bytes reading → i < pages_begun reading → IsSome (eop_at i reading)
 
--- a command stands on one page at most, and where it stands on one, between that page's beginning and its end
+-- pages follow one another: the commands of a page end before its Eop, and those of a later page stand behind it
+abbrev pub PagesFollowOneAnother : Type 0
+PagesFollowOneAnother = (res : ℕ) (bytes : List ℕ) (reading : Reading) (i j end : ℕ) → IsDocument res bytes reading → i < j → eop_at i reading ≡ Some end
+    → All (λ p. p.at + length p.bytes ≤ end) (page_commands i reading) × All (λ p. end < p.at) (page_commands j reading)
+
+-- no command lies on two pages: the positions of the commands of two pages are disjoint
 abbrev pub PagesAreApart : Type 0
-PagesAreApart = (reading : Reading) (c : Placed) (i j : ℕ) → IsTrue (is_on_page i reading c.command) → IsTrue (is_on_page j reading c.command) → i ≡ j
+PagesAreApart = (res : ℕ) (bytes : List ℕ) (reading : Reading) (i j : ℕ) → IsDocument res bytes reading → i ≢ j → All (λ p. All (λ q. p.at ≢ q.at) (page_commands j reading)) (page_commands i reading)

@@ -1,6 +1,7 @@
 -- The pages of a document.
-use Rattle.std.specs.Prelude.{ℕ, ◌^◌, ◌<◌, ◌≤◌, suc, Bool, true, false, not, ◌&&◌, ◌==◌, List, [], ◌∷◌, ◌++◌, take, reverse, if◌then◌else◌, Option, Some, None}
+use Rattle.std.specs.Prelude.{◌≡◌, ℕ, suc, Bool, true, false, not, ◌&&◌, ◌==◌, List, [], ◌∷◌, ◌++◌, take, reverse, if◌then◌else◌, Option, Some, None}
 use Rattle.std.specs.Option.{option_map}
+use Rattle.pixel_round.specs.Pixels.{AreEqual, Fraction, conversion}
 use Rattle.pixel_round.specs.declared.units.Units.{Units}
 use Rattle.dvi_commands.specs.Spelling.{DviCommand}
 use Rattle.dvi_commands.specs.Reading.{Placed, placed_from}
@@ -27,16 +28,13 @@ abbrev pub eop_at : ℕ → Reading → Option ℕ
 eop_at i [] = None
 eop_at i (p ∷ before) = if is_eop p.command && pages_begun before == suc i then Some p.at else eop_at i before
 
--- the numbers of a preamble are more than 0, and the resolution is 1 to 4800
-pub record AreUnits (u : Units) : Type 0 where
-  pub num : (1 ≤ u.num) × (u.num < 2 ^ 31)
-  pub den : (1 ≤ u.den) × (u.den < 2 ^ 31)
-  pub mag : (1 ≤ u.mag) × (u.mag < 2 ^ 31)
-  pub res : (1 ≤ u.res) × (u.res ≤ 4800)
-
 -- the units of a document at a resolution
 abbrev pub document_units : ℕ → Reading → Option Units
 document_units res reading = option_map (units_of res) (preamble_of reading)
+
+-- a fraction has the value of the conversion to dots that these units make
+abbrev pub IsConversionOf : Option Units → Fraction → Type 0
+IsConversionOf units c = (u : Units) × (units ≡ Some u) × AreEqual c (conversion u)
 
 -- the reading of bytes whose commands end at a position
 abbrev pub reading_to : List ℕ → ℕ → Reading

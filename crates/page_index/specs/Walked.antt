@@ -1,20 +1,22 @@
 -- What is kept of a reading while the commands behind it are read.
 use Rattle.std.specs.Prelude.{◌≡◌, ℕ, suc, ◌+◌, ◌≤◌, ℤ, pos, negsuc, Bool, true, false, List, [], ◌∷◌, ◌++◌, length, drop, nat_lt, if◌then◌else◌, int_lt, slice_get, slice_index, slice_range, Option, Some, None, IfSome, is_some, IsTrue}
 use Rattle.std.specs.FinMap.{get, insert}
-use Rattle.page_index.specs.Fonts.{Fonts, IsFontKey}
+use Rattle.outside.specs.FontKeys.{IsFontKey}
+use Rattle.page_index.specs.Fonts.{Fonts}
 use Rattle.big_endian.specs.Fields.{signed_at}
-use Rattle.pixel_round.specs.Pixels.{Fraction, conversion}
+use Rattle.pixel_round.specs.Pixels.{AreEqual, Fraction, conversion}
 use Rattle.pixel_round.specs.declared.units.Units.{Units}
-use Rattle.dvi_commands.specs.Spelling.{DviCommand, Definition, Preamble, Bop, Eop, Define, Post, PostPost, Spells}
+use Rattle.dvi_commands.specs.Spelling.{DviCommand, Preamble, Bop, Eop, Define, Post, PostPost, Spells}
 use Rattle.dvi_commands.specs.Refusal.{may_stand}
 use Rattle.dvi_commands.specs.Reading.{Placed}
 use Rattle.dvi_commands.specs.declared.command.Context.{Context}
 use Rattle.dvi_commands.specs.declared.command.Context.TheVariants as context
-use Rattle.dvi_commands.specs.declared.command.FontDef.{FontDef}
 use Rattle.page_index.specs.Judged.{bop_fault, define_fault, post_fault_against, postpost_fault, preamble_fault}
 use Rattle.page_index.specs.Faults.{is_postpost_at}
-use Rattle.page_index.specs.Document.{LONGEST, Reading, Sound, context_after, end_of, font_table, is_ended, key_of, last_bop, pages_begun, post_at, preamble_of, text_of}
-use Rattle.page_index.specs.Pages.{AreUnits, document_units, eop_at, is_page, page_commands}
+use Rattle.page_index.specs.Limits.{LONGEST, MOST_PAGES}
+use Rattle.page_index.specs.Document.{Reading, Sound, context_after, end_of, font_table, is_ended, key_of, last_bop, pages_begun, post_at, preamble_of, text_of}
+use Rattle.pixel_round.specs.Preamble.{AreUnits}
+use Rattle.page_index.specs.Pages.{document_units, eop_at, is_page, page_commands}
 use Rattle.page_index.specs.declared.faults.DocFault.{DocFault}
 use Rattle.page_index.specs.declared.faults.DocFault.TheVariants as fault
 use Rattle.page_index.specs.declared.preamble.Scaled.{Scaled}
@@ -36,17 +38,12 @@ pub record IsScaled (s : Scaled) (num den mag : ℤ) : Type 0 where
   pub den_is : den ≡ pos s.units.den
   pub mag_is : mag ≡ pos s.units.mag
   pub units : AreUnits s.units
-  pub converts : s.conv ≡ conversion s.units
+  pub converts : AreEqual s.conv (conversion s.units)
 
 pub record KeepsPreamble (s : Scaled) (reading : Reading) : Type 0 where
   pub preamble : Preamble
   pub is : preamble_of reading ≡ Some preamble
   pub scaled : IsScaled s preamble.num preamble.den preamble.mag
-
--- ---- fonts
-
-abbrev pub definition : FontDef → Definition
-definition d = record { number = d.number; check = d.check; size = d.size; design = d.design; area = d.area; name = d.name.now }
 
 -- ---- one command more
 
@@ -117,7 +114,7 @@ pub record Follows (bytes : List ℕ) (p : Progress) (pages : List PageSpan) (fo
   pub at : p.at ≡ end_of reading
   pub stands : p.context ≡ context_after reading
   pub begun : p.begun ≡ pages_begun reading
-  pub few : p.begun ≤ 1000000
+  pub few : p.begun ≤ MOST_PAGES
   pub bop : position_or_none p.bop ≡ last_bop reading
   pub post : p.post ≡ post_at reading
   pub ended : p.is_ended ≡ is_ended reading
@@ -151,10 +148,10 @@ EarlyFault place post at rest f = (is_postpost_at place rest ≡ true) × (postp
 pub record IsIndex (bytes : List ℕ) (units : Units) (conv : Fraction) (reading : Reading) (pages : List PageSpan) (fonts : Fonts) : Type 0 where
   pub fits : length bytes ≤ LONGEST
   pub count : length pages ≡ pages_begun reading
-  pub few : length pages ≤ 1000000
+  pub few : length pages ≤ MOST_PAGES
   pub spans : AreSpans bytes reading pages
   pub keys : (k : ℤ) → get fonts k ≡ font_table reading k
   pub fonts_fit : (k : ℤ) → IfSome (font_table reading k) IsFontKey
   pub of_preamble : document_units units.res reading ≡ Some units
   pub units_fit : AreUnits units
-  pub converts : conv ≡ conversion units
+  pub converts : AreEqual conv (conversion units)

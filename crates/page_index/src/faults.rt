@@ -33,13 +33,13 @@ pub enum DocFault {
     Postamble { field: PostField, at: usize },
     /// A field or a byte behind the postamble is wrong; `at` is its place.
     Trailer { at: usize },
-    /// A size of the definition at this place isn't between 1 and 2^27 - 1.
+    /// A size of the definition at this place isn't above 0 and below [`SIZES`](crate::SIZES).
     FontDef { number: i32, at: usize },
     /// A DVI unit would be more than 512 dots; `at` is the place of num.
     Scale { at: usize },
-    /// The Bop at this place begins the page numbered 1,000,001.
+    /// The Bop at this place begins a page behind the last of [`MOST_PAGES`](crate::MOST_PAGES).
     TooManyPages { at: usize },
-    /// The file has more than 67,108,864 bytes; `at` is that number.
+    /// The file has more than [`LONGEST`](crate::LONGEST) bytes; `at` is that number.
     TooLong { at: usize },
 }
 

@@ -2,12 +2,13 @@
 ghost use Rattle.std.specs.Prelude.{◌≡◌, ◌+◌, ◌<◌, ◌≤◌, IfSome, Some, length, slice_range};
 ghost use Rattle.std.specs.Option.{option_map};
 ghost use Rattle.std.specs.Arc.{arc_value};
-ghost use Rattle.pixel_round.specs.Pixels.{conversion};
 ghost use Rattle.dvi_commands.specs.Reading.{Reads, placed_from};
 ghost use Rattle.dvi_commands.specs.declared.command.Context.TheVariants as context;
-ghost use Rattle.page_index.specs.Document.{LONGEST, font_table, pages_begun};
-ghost use Rattle.page_index.specs.Fonts.{IsFontKey};
-ghost use Rattle.page_index.specs.Pages.{AreUnits, document_units, eop_at, page_commands};
+ghost use Rattle.page_index.specs.Document.{font_table, pages_begun};
+ghost use Rattle.outside.specs.FontKeys.{IsFontKey};
+ghost use Rattle.pixel_round.specs.Preamble.{AreUnits};
+ghost use Rattle.page_index.specs.Limits.{LONGEST, MOST_PAGES};
+ghost use Rattle.page_index.specs.Pages.{IsConversionOf, document_units, eop_at, page_commands};
 
 use crate::fonts::FontTable;
 use crate::progress::PageSpan;
@@ -40,6 +41,7 @@ pub struct Index<'a> {
 }
 
 impl<'a> Model for Index<'a> {
+    ghost use Rattle.page_index.specs.Limits.{LONGEST, MOST_PAGES};
     ghost use Rattle.page_index.specs.Pages.{Indexed, reading_to};
 
     ghost Value = { Indexed };
@@ -66,10 +68,10 @@ fn part<'a>(bytes: &'a [u8], span: PageSpan) -> PageBytes<'a>
 }
 
 impl<'a> Index<'a> {
-    /// How many pages the document has: at most 1,000,000.
+    /// How many pages the document has: at most [`MOST_PAGES`](crate::MOST_PAGES).
     pub fn pages(&self) -> usize
         ensures count { result ≡ pages_begun self.now.reading }
-        ensures few { result ≤ 1000000 }
+        ensures few { result ≤ MOST_PAGES }
     {
         self.pages.len()
     }
@@ -86,7 +88,7 @@ impl<'a> Index<'a> {
     }
 
     /// The key of the font with a number: what a definition anywhere in the document says, the
-    /// postamble included. Both of its sizes are from 1 to 2^27 - 1, and its area lies in its name.
+    /// postamble included. Both of its sizes are above 0 and below 2^27, and its area lies in its name.
     pub fn font(&self, k: i32) -> Option<&Arc<FontKey>>
         ensures key { option_map (λ key. arc_value key.now) result ≡ font_table self.now.reading k }
         ensures fits { IfSome result (λ key. IsFontKey (arc_value key.now)) }
@@ -104,7 +106,7 @@ impl<'a> Index<'a> {
 
     /// The conversion from DVI units to dots that these make.
     pub fn conv(&self) -> Conv
-        ensures { option_map conversion (document_units self.now.res self.now.reading) ≡ Some result }
+        ensures { IsConversionOf (document_units self.now.res self.now.reading) result }
     {
         self.conv
     }

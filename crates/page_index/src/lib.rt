@@ -8,6 +8,7 @@ mod faults;
 mod fonts;
 mod index;
 pub mod laws;
+mod limits;
 mod preamble;
 mod progress;
 mod read;
@@ -18,3 +19,4 @@ mod walk;
 
 pub use faults::{DocFault, IndexStop, PostField};
 pub use index::{Index, PageBytes};
+pub use limits::{LONGEST, MOST_PAGES, SIZES};

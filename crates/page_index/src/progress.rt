@@ -7,11 +7,9 @@ ghost use Rattle.page_index.specs.Walked.{behind_preamble as behind, fault_by, p
 
 use crate::faults::{DocFault, PostField};
 use crate::fonts::{FontTable, fault_of};
+use crate::limits::MOST_PAGES;
 use crate::preamble::Scaled;
 use dvi_commands::{Command, Context};
-
-/// The most pages that a document may have.
-const MOST_PAGES: usize = 1_000_000;
 
 /// Where the commands of a page stand: from the first one to the page's Eop.
 #[derive(Clone, Copy)]

@@ -6,13 +6,11 @@ ghost use Rattle.page_index.specs.Walked.{IsBegun, IsReadTo};
 
 use crate::faults::{DocFault, IndexStop};
 use crate::index::Index;
+use crate::limits::LONGEST;
 use crate::preamble::Scaled;
 use crate::walk::Walk;
 use crate::{preamble, trailer};
 use std::alloc::Global;
-
-/// The most bytes that a document may have.
-const LONGEST: usize = 67_108_864;
 
 // Reads the commands to PostPost.
 fn walked(alloc: Global, bytes: &[u8], first: &Scaled) -> Result<Walk, IndexStop>
@@ -29,7 +27,7 @@ fn walked(alloc: Global, bytes: &[u8], first: &Scaled) -> Result<Walk, IndexStop
 }
 
 impl<'a> Index<'a> {
-    /// Reads a document, for a resolution of 1 to 4800 dots to the inch.
+    /// Reads a document of at most [`LONGEST`] bytes, for a resolution of 1 to 4800 dots to the inch.
     pub fn read(alloc: Global, bytes: &'a [u8], res: u32) -> Result<Index<'a>, IndexStop>
         requires some { 1 ≤ res }
         requires fine { res ≤ 4800 }

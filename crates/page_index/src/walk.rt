@@ -1,9 +1,9 @@
 //! The walk over a document's commands.
 ghost use Rattle.std.specs.Prelude.{◌≡◌, ◌<◌, ◌≤◌, IfErr, OnOk, None, drop, false, length, true};
-ghost use Rattle.dvi_commands.specs.Spelling.{Define, seen};
+ghost use Rattle.dvi_commands.specs.Spelling.{Define, seen, seen_definition};
 ghost use Rattle.page_index.specs.Judged.{postpost_fault};
 ghost use Rattle.page_index.specs.Faults.{IsStopFor, as_doc_fault, is_postpost_at};
-ghost use Rattle.page_index.specs.Walked.{EarlyFault, IsBegun, IsReadTo, definition, fonts_after, pages_after, progress_after};
+ghost use Rattle.page_index.specs.Walked.{EarlyFault, IsBegun, IsReadTo, fonts_after, pages_after, progress_after};
 
 use crate::faults::{DocFault, IndexStop};
 use crate::fonts::{FontTable, key};
@@ -75,7 +75,7 @@ impl Walk {
 
     // Keeps a definition, unless the number has one.
     fn define(&mut self, alloc: Global, def: &FontDef) -> Result<(), NoMemory>
-        ensures fonts { OnOk result (self.new.fonts ≡ fonts_after self.old.fonts (Define (definition def.now))) }
+        ensures fonts { OnOk result (self.new.fonts ≡ fonts_after self.old.fonts (Define (seen_definition def.now))) }
         ensures progress { self.new.progress ≡ self.old.progress }
         ensures pages { self.new.pages ≡ self.old.pages }
     {

@@ -16,7 +16,8 @@ told w h rows width height bytes e f k =
     joined w h rows ∙ ap (λ l. codes "P4\n" ++ l ++ codes " " ++ h ++ codes "\n" ++ rows) (sym e)
     ∙ ap (λ l. codes "P4\n" ++ width ++ codes " " ++ l ++ codes "\n" ++ rows) (sym f) ∙ ap (λ l. codes "P4\n" ++ width ++ codes " " ++ height ++ codes "\n" ++ l) (sym k)
 
-row_length : (row : List Bool) (w : ℕ) → length row ≡ w → length (row_text row) ≡ div_ceil w 8
+-- a row takes as many bytes as its dots
+pub row_length : (row : List Bool) (w : ℕ) → length row ≡ w → length (row_text row) ≡ div_ceil w 8
 row_length row w e = length-from_fn (div_ceil (length row) 8) _ ∙ ap (λ n. div_ceil n 8) e
 
 rows_length : (w : ℕ) (rows : List (List Bool)) → ((k : ℕ) (d : List Bool) → k < length rows → length (get_or rows k d) ≡ w) → length (flat_map row_text rows) ≡ length rows * div_ceil w 8

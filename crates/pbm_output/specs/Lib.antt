@@ -1,1 +1,2 @@
 pub mod Pbm
+pub mod Rows

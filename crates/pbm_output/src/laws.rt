@@ -1,8 +1,20 @@
 //! Laws over the definitions, each the contract of a function without a body.
 
-ghost use Rattle.pbm_output.specs.Pbm.{TextsHaveTheirLength};
+ghost use Rattle.std.specs.Prelude.{◌≡◌, ◌++◌, ◌∷◌, [], codes};
+ghost use Rattle.pbm_output.specs.Pbm.{TextsHaveTheirLength, TextsTellThePage, page_text};
+ghost use Rattle.pbm_output.specs.Rows.{small_page};
 
 /// How long the text of a page is.
 pub fn lengths()
     ensures { TextsHaveTheirLength }
+{}
+
+/// Two pages of the same text are equal.
+pub fn told_pages()
+    ensures { TextsTellThePage }
+{}
+
+/// The text of a page of 10 by 2 dots: a row takes two bytes, and the first dot stands in the high bit.
+pub fn worked_page()
+    ensures { page_text small_page ≡ codes "P4\n10 2\n" ++ 0 ∷ 192 ∷ 0 ∷ 0 ∷ [] }
 {}

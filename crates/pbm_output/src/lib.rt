@@ -6,5 +6,5 @@ mod laws;
 mod tests;
 mod write;
 
-pub use laws::lengths;
+pub use laws::{lengths, told_pages, worked_page};
 pub use write::{WriteFault, write_page};

@@ -7,7 +7,7 @@ ghost use Rattle.pbm_output.specs.Pbm.{page_text};
 use outside::{Failed, Gather, Output};
 use raster_page::Page;
 
-/// The output failed. What it took before is a front of the page's text.
+/// The output failed. What it took before is a front of the page's text, and not all of it.
 #[derive(Clone, Copy, Debug, PartialEq, Eq, thiserror::Error)]
 #[error("the output failed")]
 pub struct WriteFault;
