@@ -1,16 +1,19 @@
 -- File names of a font with a valid name stay in their folder.
-use Rattle.std.proofs.Common.{◌≡◌, ◌≢◌, ℕ, ◌+◌, ◌-◌, ◌%◌, ◌^◌, ◌<◌, ◌≤◌, true, List, [], ◌∷◌, ◌++◌, length, get_or, arith, refl, sym, subst, ◌∙◌, append_assoc, length-append}
-use Rattle.std.specs.Prelude.{◌&&◌, not, ◌==◌, All, slice_index, codes, decimal}
+use Rattle.std.proofs.Common.{◌≡◌, ◌≢◌, ℕ, zero, suc, Bool, ◌+◌, ◌-◌, ◌/◌, ◌%◌, ◌<◌, ◌≤◌, true, false, eqb, List, [], ◌∷◌, ◌++◌, length, get_or, take, arith, refl, sym, subst, ◌∙◌, append_assoc, length-append}
+use Rattle.std.specs.Prelude.{if◌then◌else◌, ◌&&◌, not, ◌==◌, All, slice_index, codes, decimal}
 use Rattle.std.specs.List.{list_all}
 use Rattle.std.specs.Int.{is_in_range}
-use Rattle.std.proofs.lemmas.Bool.{and_parts, leb-true, not-true, eqb-false}
+use Rattle.std.proofs.lemmas.Bool.{and_parts, cond_both, eqb-false, leb-true, lt-ltb, not-true}
 use Rattle.std.proofs.lemmas.List.Folds.{list_all-append}
 use Rattle.std.proofs.lemmas.List.Sums.{AllPass-from_list_all}
-use Rattle.std.proofs.lemmas.List.Elements.{All-cons}
-use Rattle.std.proofs.lemmas.Fmt.{decimal_by_steps}
+use Rattle.std.proofs.lemmas.List.Elements.{All-append, All-cons, All-nil, All-same, All-take}
+use Rattle.std.specs.Fmt.{digit_glyph, digits, digits_onto}
 use Rattle.outside.specs.declared.keys.FontKey.{FontKey}
-use Rattle.font_decode.specs.Names.{is_name_byte, is_valid_name, is_resolution, tfm_name, vf_name, pk_name, dpi}
-use Rattle.font_decode.specs.Laws.{StaysInFolder, NamesStayInFolder}
+use Rattle.pixel_round.specs.declared.units.Units.{Units}
+use Rattle.font_decode.specs.Names.{is_name_byte, is_valid_name, is_resolution, tfm_name, vf_name, pk_name, pk_names, file_names, dpi}
+use Rattle.font_decode.specs.Asked.{choices}
+use Rattle.font_decode.specs.Files.{pk_choices}
+use Rattle.font_decode.specs.Laws.{StaysInFolder, NamesStayInFolder, AskedNamesStayInFolder}
 
 -- texts of such bytes
 abbrev IsPlain : List ℕ → Type 0
@@ -22,12 +25,22 @@ plain_append xs ys p q = rw (list_all-append is_name_byte xs ys, p, q) refl
 digit : (n : ℕ) → n < 10 → is_name_byte (48 + n) ≡ true
 digit n lt = grind arith
 
-plain_decimal : (n : ℕ) → n < 2 ^ 64 → IsPlain (decimal n)
-plain_decimal n lt = decimal_by_steps (λ _ ds. IsPlain ds)
-    (λ k less. let one : is_name_byte (48 + k) ≡ true = digit k less in rw one refl)
-    (λ k ds _ before. let small : k % 10 < 10 = omega arith in let one : is_name_byte (48 + k % 10) ≡ true = digit (k % 10) small in
-    plain_append ds ((48 + k % 10) ∷ []) before (rw one refl))
-    n lt
+plain_onto : (k n : ℕ) (acc : List ℕ) → IsPlain acc → IsPlain (digits_onto k 10 false n acc)
+plain_onto zero n acc h = h
+plain_onto (suc k) n acc h = cond_both (eqb (n / 10) 0) _ _ IsPlain (λ _. one) (λ _. plain_onto k (n / 10) (digit_glyph false (n % 10) ∷ acc) one)
+  where
+    small : n % 10 < 10
+    small = omega arith
+
+    glyph : digit_glyph false (n % 10) ≡ 48 + n % 10
+    glyph = rw (lt-ltb (n % 10) 10 small) refl
+
+    one : IsPlain (digit_glyph false (n % 10) ∷ acc)
+    one = subst (λ (d : ℕ). IsPlain (d ∷ acc)) (sym glyph) (plain_append ((48 + n % 10) ∷ []) acc (rw (digit (n % 10) small) refl) h)
+
+plain_decimal : (n : ℕ) → IsPlain (decimal n)
+unfolding digits
+plain_decimal n = plain_onto 64 n [] refl
 
 slash : (b : ℕ) → is_name_byte b ≡ true → b ≢ 47
 slash b h e = let no : is_name_byte 47 ≡ true = subst (λ (n : ℕ). is_name_byte n ≡ true) e h in absurd (cc)
@@ -65,9 +78,9 @@ with_ending xs ys (some, plain, dot) q = record {
   plain = plain_append xs ys plain q;
 }
 
-packed : (k : FontKey) (n : ℕ) → is_valid_name k ≡ true → n < 2 ^ 64 → StaysInFolder (pk_name k n)
-packed k n h lt =
-    let ending : IsPlain (codes "." ++ (decimal n ++ codes "pk")) = plain_append (codes ".") (decimal n ++ codes "pk") refl (plain_append (decimal n) (codes "pk") (plain_decimal n lt) refl) in
+packed : (k : FontKey) (n : ℕ) → is_valid_name k ≡ true → StaysInFolder (pk_name k n)
+packed k n h =
+    let ending : IsPlain (codes "." ++ (decimal n ++ codes "pk")) = plain_append (codes ".") (decimal n ++ codes "pk") refl (plain_append (decimal n) (codes "pk") (plain_decimal n) refl) in
     subst StaysInFolder (regrouped k.name (codes ".") (decimal n) (codes "pk")) (with_ending k.name (codes "." ++ (decimal n ++ codes "pk")) (valid k h) ending)
   where
     regrouped : (a b c d : List ℕ) → a ++ (b ++ (c ++ d)) ≡ ((a ++ b) ++ c) ++ d
@@ -81,12 +94,30 @@ all_five P a b c d e pa pb pc pd pe =
     none i y lt = absurd (omega (arith, lt))
 
 pub names_stay_in_folder : NamesStayInFolder
-names_stay_in_folder u k h r =
-    let range = resolution_range (dpi u k) r in
+names_stay_in_folder u k h =
     let ok = valid k h in
     all_five StaysInFolder (tfm_name k) (vf_name k) (pk_name k (dpi u k)) (pk_name k (dpi u k + 1)) (pk_name k (dpi u k - 1))
     (with_ending k.name (codes ".tfm") ok refl)
     (with_ending k.name (codes ".vf") ok refl)
-    (packed k (dpi u k) h (omega (arith, range.1)))
-    (packed k (dpi u k + 1) h (omega (arith, range.1)))
-    (packed k (dpi u k - 1) h (omega (arith, range.1)))
+    (packed k (dpi u k) h)
+    (packed k (dpi u k + 1) h)
+    (packed k (dpi u k - 1) h)
+
+-- ---- the names that a fetch may ask for
+
+choices_near : (u : Units) (k : FontKey) → is_valid_name k ≡ true → (r : Bool) → All StaysInFolder (tfm_name k ∷ vf_name k ∷ (if r then pk_names u k else []))
+choices_near u k h true = names_stay_in_folder u k h
+choices_near u k h false = All-take StaysInFolder 2 (file_names u k) (names_stay_in_folder u k h)
+
+choices_stay : (u : Units) (k : FontKey) → All StaysInFolder (choices u k)
+choices_stay u k = by (is_valid_name k) refl
+  where
+    by : (b : Bool) → is_valid_name k ≡ b → All StaysInFolder (if b then tfm_name k ∷ vf_name k ∷ pk_choices u k else [])
+    by true h = choices_near u k h (is_resolution (dpi u k))
+    by false h = All-nil StaysInFolder
+
+pub asked_names_stay_in_folder : AskedNamesStayInFolder
+asked_names_stay_in_folder u k count before after e h =
+    let more = take count (choices u k) in
+    let same : after ≡ before ++ take count (choices u k) = cc in
+    All-same StaysInFolder after (before ++ more) same (All-append StaysInFolder before more h (All-take StaysInFolder count (choices u k) (choices_stay u k)))

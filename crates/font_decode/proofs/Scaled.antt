@@ -51,7 +51,7 @@ rows_right true right cut rest e = cc
 rows_right false false cut rest e = cc
 rows_right false true cut rest e = refl
 
-last_code : (bytes : List ℕ) → tfm_fault bytes ≡ None → bc bytes + codes_of bytes ≤ 256
+pub last_code : (bytes : List ℕ) → tfm_fault bytes ≡ None → bc bytes + codes_of bytes ≤ 256
 last_code bytes sound =
     let right = rows_right (nat_lt (length bytes) 24) (are_right (lf bytes) (lh bytes) (bc bytes) (ec bytes) (nw bytes) (others bytes)) (nat_lt (length bytes) (4 * lf bytes)) (tables_fault bytes) sound in
     let codes = and_parts _ _ (and_parts _ _ (and_parts _ _ right).0).0 in

@@ -11,7 +11,7 @@ use Rattle.outside.specs.Library as library
 use Rattle.outside.specs.declared.keys.FontKey.{FontKey}
 use Rattle.pixel_round.specs.declared.units.Units.{Units}
 use Rattle.font_decode.specs.Names.{is_valid_name, dpi, is_resolution}
-use Rattle.font_decode.specs.Files.{FontFiles, IsFound}
+use Rattle.font_decode.specs.Files.{FontFiles, IsFound, IsInOrder}
 use Rattle.font_decode.specs.Fonts.{FontSeen, width_of, glyph_at}
 use Rattle.font_decode.specs.declared.decoded.Decoded.{Decoded}
 use Rattle.font_decode.specs.declared.decoded.Decoded.TheVariants.{Font, Fault}
@@ -75,9 +75,15 @@ pub record IsFontIn (l : library.Files) (u : Units) (k : FontKey) (d : Decoded) 
   pub found : IsFound l u k files
   pub decoding : IsDecodingOf u k files d
 
--- the same where the library is told, with the units of the document
+-- the font of a key, by some files that may be its own
+pub record IsFontBySome (u : Units) (k : FontKey) (d : Decoded) : Type 0 where
+  pub files : FontFiles
+  pub order : IsInOrder u k files
+  pub decoding : IsDecodingOf u k files d
+
+-- by the files of the library where it is told, and else by some files, with the units of the document
 abbrev pub IsFontOf : Option library.Files → Option Units → FontKey → Decoded → Type 0
-IsFontOf told units k d = IfSome told (λ l. IfSome units (λ u. IsFontIn l u k d))
+IsFontOf told units k d = IfSome units (λ u. MatchOption told (IsFontBySome u k d) (λ l. IsFontIn l u k d))
 
 -- ---- which decodings can't be told apart
 

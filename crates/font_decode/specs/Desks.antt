@@ -1,7 +1,14 @@
--- How the list of the keys asked grows, where it is told.
-use Rattle.std.specs.Prelude.{◌≡◌, ◌⊎◌, List, [], ◌∷◌, ◌++◌, Option}
+-- What a desk tells: how the list of the keys asked grows, and what a seat at a cache did for these keys.
+use Rattle.std.specs.Prelude.{◌≡◌, ◌≢◌, ◌⊎◌, ℕ, ◌+◌, ◌-◌, ◌*◌, ◌^◌, ◌<◌, List, [], ◌∷◌, ◌++◌, Option, Some, None}
 use Rattle.std.specs.Option.{option_map}
 use Rattle.outside.specs.declared.keys.FontKey.{FontKey}
+use Rattle.cache_core.specs.declared.calls.Call.{Call}
+use Rattle.cache_core.specs.declared.calls.Done.{Done}
+use Rattle.cache_core.specs.declared.calls.Done.TheVariants.{Hit, Claimed, Busy, Filled, Released}
+use Rattle.cache_core.specs.Histories.{SeatCalls, AreOf, NoneReleased}
+use Rattle.font_decode.specs.Loads.{RoseUpTo}
+
+-- ---- the keys asked
 
 -- by these keys
 abbrev pub GrewBy : Option (List FontKey) → Option (List FontKey) → List FontKey → Type 0
@@ -10,3 +17,60 @@ GrewBy before now keys = now ≡ option_map (λ asked. asked ++ keys) before
 -- by this key, or not at all
 abbrev pub GrewByAtMost : Option (List FontKey) → Option (List FontKey) → FontKey → Type 0
 GrewByAtMost before now k = (now ≡ before) ⊎ GrewBy before now (k ∷ [])
+
+-- ---- the calls of a seat
+
+-- what a desk with a cache tells of its seat there: its number, how many fonts the cache keeps, its calls, how often the source was asked
+-- for a file, and how many of these loads the desk has counted
+pub record Trail : Type 0 where
+  pub seat : ℕ
+  pub capacity : ℕ
+  pub calls : List Call
+  pub loads : ℕ
+  pub counted : ℕ
+
+-- none but the last gives a claim up
+abbrev pub ReleasedLast : List Call → Type 0
+ReleasedLast [] = Unit {0}
+ReleasedLast (c ∷ calls) = (calls ≡ []) ⊎ ((c.done ≢ Released) × ReleasedLast calls)
+
+-- the looks that found no font in the cache, each of which loads the files anew
+abbrev pub missed : Done → ℕ
+missed Claimed = 1
+missed Busy = 1
+missed Hit = 0
+missed (Filled _) = 0
+missed Released = 0
+
+abbrev pub misses : List Call → ℕ
+misses [] = 0
+misses (c ∷ calls) = missed c.done + misses calls
+
+-- two counts of the same loads: both rose by so many at most, and by the same, unless the first stands at the last number of a `u64`
+pub record Loaded (most before now count count_now : ℕ) : Type 0 where
+  pub loads : RoseUpTo most before now
+  pub counted : RoseUpTo most count count_now
+  pub same : now < 2 ^ 64 - 1 → count_now + before ≡ count + now
+
+-- what the seat did for these keys. A claim is given up at the end alone, and nowhere where the keys were answered
+pub record Went (Answered : Type 0) (keys : List FontKey) (before after : Trail) : Type 0 where
+  pub seat : after.seat ≡ before.seat
+  pub capacity : after.capacity ≡ before.capacity
+  pub calls : List Call
+  pub grew : after.calls ≡ before.calls ++ calls
+  pub own : AreOf before.seat calls
+  pub for_keys : SeatCalls keys calls
+  pub last : ReleasedLast calls
+  pub answered : Answered → NoneReleased calls
+  pub loaded : Loaded (5 * misses calls) before.loads after.loads before.counted after.counted
+
+-- the same with the keys that were asked in the meantime
+pub record WentFor (Answered : Type 0) (asked asked_now : Option (List FontKey)) (before after : Trail) : Type 0 where
+  pub keys : List FontKey
+  pub grew : GrewBy asked asked_now keys
+  pub went : Went Answered keys before after
+
+-- and where a trail is told
+abbrev pub TrailGrew : Type 0 → Option (List FontKey) → Option (List FontKey) → Option Trail → Option Trail → Type 0
+TrailGrew Answered asked asked_now None now = now ≡ None
+TrailGrew Answered asked asked_now (Some before) now = (after : Trail) × (now ≡ Some after) × WentFor Answered asked asked_now before after

@@ -1,11 +1,15 @@
 -- What is true of the names of files, and of what is found.
-use Rattle.std.specs.Prelude.{◌≡◌, ◌≢◌, ℕ, List, length, ◌<◌, ◌≤◌, IsTrue, All, AllPairs, slice_index}
+use Rattle.std.specs.Prelude.{◌≡◌, ◌≢◌, ℕ, List, length, take, ◌<◌, ◌≤◌, Some, IsTrue, IfSome, All, AllPairs, slice_index}
+use Rattle.std.specs.FinMap.{get}
+use Rattle.big_endian.specs.Numbers.{AreBytes}
 use Rattle.std.specs.List.{list_all}
 use Rattle.outside.specs.Library as library
+use Rattle.outside.specs.Library.{Asks}
 use Rattle.outside.specs.declared.keys.FontKey.{FontKey}
 use Rattle.pixel_round.specs.declared.units.Units.{Units}
 use Rattle.font_decode.specs.Names.{is_name_byte, is_valid_name, is_resolution, dpi, file_names}
 use Rattle.font_decode.specs.Files.{FontFiles, IsFound, looked_for}
+use Rattle.font_decode.specs.Asked.{choices}
 use Rattle.font_decode.specs.Decoding.{IsDecodingOf, IsFontIn, AreAlike}
 use Rattle.font_decode.specs.declared.decoded.Decoded.{Decoded}
 
@@ -16,8 +20,14 @@ pub record StaysInFolder (name : List ℕ) : Type 0 where
   pub no_slash : All (λ b. b ≢ 47) name
   pub plain : IsTrue (list_all is_name_byte name)
 
+-- the names of a font with a valid name lead out of no folder, at whatever resolution
 abbrev pub NamesStayInFolder : Type 0
-NamesStayInFolder = (u : Units) (k : FontKey) → IsTrue (is_valid_name k) → IsTrue (is_resolution (dpi u k)) → All StaysInFolder (file_names u k)
+NamesStayInFolder = (u : Units) (k : FontKey) → IsTrue (is_valid_name k) → All StaysInFolder (file_names u k)
+
+-- and so whatever names a fetch asks for, up to any stop: where all that were asked for before it stay in their folder, so do all after it
+abbrev pub AskedNamesStayInFolder : Type 0
+AskedNamesStayInFolder = (u : Units) (k : FontKey) (count : ℕ) (before after : List (List ℕ)) → Asks (Some before) (Some after) (take count (choices u k))
+    → All StaysInFolder before → All StaysInFolder after
 
 -- no two files of a font have the same name
 abbrev pub NamesAreDistinct : Type 0
@@ -37,3 +47,11 @@ OneOfItsFiles = (u : Units) (k : FontKey) (files : FontFiles) (d e : Decoded) �
 -- and so does a key in a library
 abbrev pub OneInALibrary : Type 0
 OneInALibrary = (l : library.Files) (u : Units) (k : FontKey) (d e : Decoded) → IsFontIn l u k d → IsFontIn l u k e → AreAlike d e
+
+-- every file of a library has bytes
+abbrev pub AreByteFiles : library.Files → Type 0
+AreByteFiles l = (name : List ℕ) → IfSome (get l name) AreBytes
+
+-- each key has a decoding in a library
+abbrev pub EachKeyIsDecoded : Type 0
+EachKeyIsDecoded = (l : library.Files) (u : Units) (k : FontKey) → AreByteFiles l → (d : Decoded) × IsFontIn l u k d

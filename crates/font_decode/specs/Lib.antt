@@ -6,3 +6,4 @@ pub mod Decoding
 pub mod Reading
 pub mod Desks
 pub mod Laws
+pub mod Asked

@@ -8,7 +8,7 @@ RoseBy k before now = before < 2 ^ 64 → now ≡ min (before + k) (2 ^ 64 - 1)
 -- it rose by k at most
 pub record RoseUpTo (k before now : ℕ) : Type 0 where
   pub most : now ≤ before + k
-  pub never_falls : before < 2 ^ 64 → before ≤ now
+  pub never_falls : min before (2 ^ 64 - 1) ≤ now
 
 -- it rose by some number from `low` to `high`
 pub record RoseWithin (low high before now : ℕ) : Type 0 where

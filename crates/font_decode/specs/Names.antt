@@ -1,26 +1,11 @@
 -- The names of a font's files: `name.tfm` (Knuth, TFtoPL), `name.vf` (Knuth, VFtoVP), and `name.300pk` for a PK font of 300 dots to the
 -- inch (Rokicki, PKtype; the name is that of dvips). Which names are looked for is this driver's own choice: those that stay in a folder.
-use Rattle.std.specs.Prelude.{ℕ, List, [], ◌∷◌, ◌++◌, ◌+◌, ◌-◌, ◌*◌, ◌^◌, ◌<◌, ◌≤◌, Bool, not, ◌&&◌, ◌||◌, ◌==◌, length, slice_index, codes, decimal}
+use Rattle.std.specs.Prelude.{ℕ, List, [], ◌∷◌, ◌++◌, ◌+◌, ◌-◌, ◌*◌, Bool, not, ◌&&◌, ◌||◌, ◌==◌, length, slice_index, codes, decimal}
 use Rattle.std.specs.List.{list_all}
 use Rattle.std.specs.Int.{is_in_range}
 use Rattle.fix_word.specs.Scale.{half_up}
 use Rattle.outside.specs.declared.keys.FontKey.{FontKey}
 use Rattle.pixel_round.specs.declared.units.Units.{Units}
-
--- ---- what keys and units are given
-
--- the sizes of a key are more than 0, and its area lies in its name
-pub record IsKey (k : FontKey) : Type 0 where
-  pub size : (1 ≤ k.size) × (k.size < 2 ^ 27)
-  pub design : (1 ≤ k.design) × (k.design < 2 ^ 27)
-  pub area : k.area ≤ length k.name
-
--- the numbers of a preamble are more than 0, and the resolution is 1 to 4800
-pub record IsUnits (u : Units) : Type 0 where
-  pub num : (1 ≤ u.num) × (u.num < 2 ^ 31)
-  pub den : (1 ≤ u.den) × (u.den < 2 ^ 31)
-  pub mag : (1 ≤ u.mag) × (u.mag < 2 ^ 31)
-  pub res : (1 ≤ u.res) × (u.res ≤ 4800)
 
 -- ---- the names that are looked for
 

@@ -1,6 +1,7 @@
 //! From files to fonts.
 ghost use Rattle.std.specs.Prelude.{◌≡◌, List, ℕ, IfOk};
-ghost use Rattle.font_decode.specs.Names.{IsKey, IsUnits};
+ghost use Rattle.outside.specs.FontKeys.{IsFontKey};
+ghost use Rattle.pixel_round.specs.Preamble.{AreUnits};
 ghost use Rattle.font_decode.specs.Files.{bytes_of};
 ghost use Rattle.font_decode.specs.Decoding.{is_too_long, DecodesShortPk, DecodesPacked, DecodesSound, DecodesTfm, IsDecodingOf};
 ghost use Rattle.font_decode.specs.Reading.{IsTfmOf};
@@ -36,8 +37,8 @@ pub fn decode(
     files: &Files,
     units: &Units,
 ) -> Result<Decoded, NoMemory>
-    requires units { IsUnits units.now }
-    requires key { IsKey key.now }
+    requires units { AreUnits units.now }
+    requires key { IsFontKey key.now }
     ensures { IfOk result (IsDecodingOf units.now key.now (bytes_of files.now)) }
 {
     if !is_valid_name(key) {
@@ -57,8 +58,8 @@ fn decode_tfm(
     files: &Files,
     units: &Units,
 ) -> Result<Decoded, NoMemory>
-    requires units { IsUnits units.now }
-    requires key { IsKey key.now }
+    requires units { AreUnits units.now }
+    requires key { IsFontKey key.now }
     ensures { IfOk result (DecodesTfm units.now key.now tfm.now (bytes_of files.now)) }
 {
     if is_too_long(tfm) {
@@ -79,8 +80,8 @@ fn decode_sound(
     files: &Files,
     units: &Units,
 ) -> Result<Decoded, NoMemory>
-    requires units { IsUnits units.now }
-    requires key { IsKey key.now }
+    requires units { AreUnits units.now }
+    requires key { IsFontKey key.now }
     ensures { IfOk result (λ d. (bytes : List ℕ) → IsTfmOf bytes tfm.now →
         DecodesSound units.now key.now bytes (bytes_of files.now) d) }
 {
@@ -98,8 +99,8 @@ fn decode_packed(
     files: &Files,
     units: &Units,
 ) -> Result<Decoded, NoMemory>
-    requires units { IsUnits units.now }
-    requires key { IsKey key.now }
+    requires units { AreUnits units.now }
+    requires key { IsFontKey key.now }
     ensures { IfOk result (λ d. (bytes : List ℕ) → IsTfmOf bytes tfm.now →
         DecodesPacked units.now key.now bytes (bytes_of files.now).pk d) }
 {
@@ -114,7 +115,7 @@ fn decode_packed(
 
 // Judges the PK file, and makes the font.
 fn decode_pk(alloc: Global, key: &FontKey, tfm: &Tfm, pk: &[u8]) -> Result<Decoded, NoMemory>
-    requires key { IsKey key.now }
+    requires key { IsFontKey key.now }
     ensures { IfOk result (λ d. (bytes : List ℕ) → IsTfmOf bytes tfm.now →
         DecodesShortPk key.now bytes pk.now d) }
 {

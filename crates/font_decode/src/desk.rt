@@ -1,13 +1,13 @@
 //! Where a page asks for its fonts.
-ghost use Rattle.std.specs.Prelude.{◌≡◌, ◌+◌, ◌≤◌, ◌∷◌, [], ℕ, List, Option, None, IfOk, IsErrOf, IsSome, OnErr, OnOk};
+ghost use Rattle.std.specs.Prelude.{◌≡◌, ◌+◌, ◌≤◌, ◌∷◌, [], ℕ, List, Option, None, IfOk, IsErrOf, IsOk, IsSome, OnErr, OnOk};
 ghost use Rattle.std.specs.Arc.{arc_value};
 ghost use Rattle.outside.specs.Counts.{HasCause};
 ghost use Rattle.outside.specs.Library as library;
 ghost use Rattle.outside.specs.declared.keys.FontKey.{FontKey};
 ghost use Rattle.pixel_round.specs.declared.units.Units.{Units};
-ghost use Rattle.font_decode.specs.Names.{IsKey};
+ghost use Rattle.outside.specs.FontKeys.{IsFontKey};
 ghost use Rattle.font_decode.specs.Decoding.{IsFontOf};
-ghost use Rattle.font_decode.specs.Desks.{GrewBy, GrewByAtMost};
+ghost use Rattle.font_decode.specs.Desks.{GrewBy, GrewByAtMost, Trail, TrailGrew};
 
 use crate::Decoded;
 use outside::FontKey;
@@ -43,6 +43,9 @@ pub trait Desk: Drop {
     /// The keys asked, in order, where they are told.
     ghost asked: { Self → Option (List FontKey) } = { λ _. None };
 
+    /// The desk's seat at a cache, the calls of that seat, and the loads of its source, where they are told.
+    ghost trail: { Self → Option Trail } = { λ _. None };
+
     /// How many more fonts may be asked for.
     ghost room: { Self → ℕ };
 
@@ -56,7 +59,7 @@ pub trait Desk: Drop {
     ) -> Result<Arc<Decoded>, DeskStop>
         requires fits { fits self.old shared.now }
         requires room { 1 ≤ room self.old }
-        requires key { IsKey (arc_value key.now) }
+        requires key { IsFontKey (arc_value key.now) }
 
         // Where the library is told: the answer is the key's font there.
         ensures found { IfOk result (λ font.
@@ -70,8 +73,12 @@ pub trait Desk: Drop {
         ensures cause { HasCause (faults self.old) (faults self.new)
             (IsErrOf result DeskStop.SourceFault) }
         ensures asked { OnOk result (GrewBy (asked self.old) (asked self.new) (arc_value key.now ∷ [])) }
-        ensures refused { OnErr result (GrewByAtMost (asked self.old) (asked self.new) (arc_value key.now)) };
+        ensures refused { OnErr result (GrewByAtMost (asked self.old) (asked self.new) (arc_value key.now)) }
+        ensures trail { TrailGrew (IsOk result) (asked self.old) (asked self.new) (trail self.old) (trail self.new) };
 
     /// The units are told wherever the library is.
     ghost told: { (d : Self) → IsSome (library d) → IsSome (units d) };
+
+    /// The keys asked are told wherever the trail is.
+    ghost asks: { (d : Self) → IsSome (trail d) → IsSome (asked d) };
 }

@@ -1,9 +1,11 @@
 //! What is true of the names of a font's files, and of what is found.
-ghost use Rattle.font_decode.specs.Laws.{NamesStayInFolder, NamesAreDistinct, OneIsFound, FiveAtMost, OneOfItsFiles, OneInALibrary};
+ghost use Rattle.font_decode.specs.Laws.{NamesStayInFolder, AskedNamesStayInFolder, NamesAreDistinct, OneIsFound, FiveAtMost, OneOfItsFiles, OneInALibrary, EachKeyIsDecoded};
 
-/// The names of a font's files lead out of no folder, and no two of them are the same.
+/// The names of a font's files lead out of no folder, so that none of those asked for does, whatever
+/// the key; and no two of them are the same.
 pub fn names()
     ensures folder { NamesStayInFolder }
+    ensures asked { AskedNamesStayInFolder }
     ensures distinct { NamesAreDistinct }
 {}
 
@@ -18,4 +20,5 @@ pub fn answers()
 pub fn decodings()
     ensures files { OneOfItsFiles }
     ensures library { OneInALibrary }
+    ensures each { EachKeyIsDecoded }
 {}

@@ -1,10 +1,14 @@
 //! Which of a font's files are there.
-ghost use Rattle.std.specs.Prelude.{◌≡◌, ◌<◌, ◌≤◌, ℕ, List, [], length, Option, Some, None, slice_index_or, IsTrue, IfOk, OnOk, IfSome, IsErrOf, IsSome, IsFalse, is_some, if◌then◌else◌};
+ghost use Rattle.std.specs.Prelude.{◌≡◌, ◌<◌, ◌≤◌, ℕ, List, [], ◌∷◌, length, Option, Some, None, slice_index_or, IsTrue, IfOk, OnErr, OnOk, IfSome, IsErrOf, IsSome, IsFalse, is_some, if◌then◌else◌};
 ghost use Rattle.std.specs.Option.{option_map};
 ghost use Rattle.std.specs.FinMap.{get};
 ghost use Rattle.outside.specs.Counts.{HasCause};
-ghost use Rattle.font_decode.specs.Names.{IsKey, IsUnits, is_valid_name, dpi, is_resolution, file_names, pk_names};
+ghost use Rattle.outside.specs.FontKeys.{IsFontKey};
+ghost use Rattle.pixel_round.specs.Preamble.{AreUnits};
+ghost use Rattle.font_decode.specs.Names.{is_valid_name, dpi, is_resolution, file_names, pk_names};
 ghost use Rattle.font_decode.specs.Files.{bytes_of, first_there, up_to_there, pk_choices, IsFound, looked_for, IsInOrder, fewest_loads, most_loads, fewest_pk, most_pk};
+ghost use Rattle.outside.specs.Library.{Asks};
+ghost use Rattle.font_decode.specs.Asked.{AskedFirst, AskedUntil, choices};
 ghost use Rattle.font_decode.specs.Loads.{RoseBy, RoseUpTo, RoseWithin};
 
 use crate::files::Files;
@@ -21,8 +25,8 @@ fn load_file<F: FontSource>(
     units: &Units,
     which: usize,
 ) -> Result<Option<Vec<u8>>, LoadStop>
-    requires units { IsUnits units.now }
-    requires key { IsKey key.now }
+    requires units { AreUnits units.now }
+    requires key { IsFontKey key.now }
     requires valid { IsTrue (is_valid_name key.now) }
     requires which { which < 5 }
     requires resolution { 2 ≤ which → IsTrue (is_resolution (dpi units.now key.now)) }
@@ -33,6 +37,10 @@ fn load_file<F: FontSource>(
         (IsErrOf result LoadStop.Failed) }
     ensures counted { OnOk result (RoseBy 1 (F.loads source.old) (F.loads source.new)) }
     ensures most { RoseUpTo 1 (F.loads source.old) (F.loads source.new) }
+    ensures asked { OnOk result (Asks (F.asked source.old) (F.asked source.new)
+        (slice_index_or (file_names units.now key.now) which [] ∷ [])) }
+    ensures stopped { OnErr result (AskedUntil (F.asked source.old) (F.asked source.new)
+        (slice_index_or (file_names units.now key.now) which [] ∷ [])) }
 {
     let name = file_name(alloc, key, units, which)?;
     source.load(&name)
@@ -45,8 +53,8 @@ fn load_nearest<F: FontSource>(
     key: &FontKey,
     units: &Units,
 ) -> Result<Option<Vec<u8>>, LoadStop>
-    requires units { IsUnits units.now }
-    requires key { IsKey key.now }
+    requires units { AreUnits units.now }
+    requires key { IsFontKey key.now }
     requires valid { IsTrue (is_valid_name key.now) }
     requires resolution { IsTrue (is_resolution (dpi units.now key.now)) }
     ensures file { IfOk result (λ found. IfSome (F.library source.old) (λ l.
@@ -62,6 +70,16 @@ fn load_nearest<F: FontSource>(
     ensures no_more { IfSome (F.library source.old) (λ l.
         RoseUpTo (length (up_to_there l (pk_names units.now key.now))) (F.loads source.old)
         (F.loads source.new)) }
+    ensures asked { IfOk result (λ found. AskedFirst (if is_some found then 1 else 3) 3
+        (F.asked source.old) (F.asked source.new) (pk_names units.now key.now)) }
+    ensures stopped { OnErr result (AskedUntil (F.asked source.old) (F.asked source.new)
+        (pk_names units.now key.now)) }
+    ensures named { OnOk result (IfSome (F.library source.old) (λ l.
+        Asks (F.asked source.old) (F.asked source.new)
+        (up_to_there l (pk_names units.now key.now)))) }
+    ensures named_until { OnErr result (IfSome (F.library source.old) (λ l.
+        AskedUntil (F.asked source.old) (F.asked source.new)
+        (up_to_there l (pk_names units.now key.now)))) }
     ensures most { RoseUpTo 3 (F.loads source.old) (F.loads source.new) }
 {
     let exact = load_file(alloc, source, key, units, 2)?;
@@ -82,8 +100,8 @@ fn load_packed<F: FontSource>(
     key: &FontKey,
     units: &Units,
 ) -> Result<Option<Vec<u8>>, LoadStop>
-    requires units { IsUnits units.now }
-    requires key { IsKey key.now }
+    requires units { AreUnits units.now }
+    requires key { IsFontKey key.now }
     requires valid { IsTrue (is_valid_name key.now) }
     ensures file { IfOk result (λ found. IfSome (F.library source.old) (λ l.
         option_map (λ v. v.items) found ≡ first_there l (pk_choices units.now key.now))) }
@@ -100,6 +118,17 @@ fn load_packed<F: FontSource>(
     ensures no_more { IfSome (F.library source.old) (λ l.
         RoseUpTo (length (up_to_there l (pk_choices units.now key.now))) (F.loads source.old)
         (F.loads source.new)) }
+    ensures asked { IfOk result (λ found. AskedFirst (fewest_pk units.now key.now (is_some found))
+        (most_pk units.now key.now) (F.asked source.old) (F.asked source.new)
+        (pk_choices units.now key.now)) }
+    ensures stopped { OnErr result (AskedUntil (F.asked source.old) (F.asked source.new)
+        (pk_choices units.now key.now)) }
+    ensures named { OnOk result (IfSome (F.library source.old) (λ l.
+        Asks (F.asked source.old) (F.asked source.new)
+        (up_to_there l (pk_choices units.now key.now)))) }
+    ensures named_until { OnErr result (IfSome (F.library source.old) (λ l.
+        AskedUntil (F.asked source.old) (F.asked source.new)
+        (up_to_there l (pk_choices units.now key.now)))) }
     ensures most { RoseUpTo 3 (F.loads source.old) (F.loads source.new) }
 {
     if is_resolution(dpi(units, key)) {
@@ -124,8 +153,8 @@ pub fn fetch<F: FontSource>(
     key: &FontKey,
     units: &Units,
 ) -> Result<Files, LoadStop>
-    requires units { IsUnits units.now }
-    requires key { IsKey key.now }
+    requires units { AreUnits units.now }
+    requires key { IsFontKey key.now }
 
     // Where the library is told: which files these are, and how many were looked for.
     ensures files { IfOk result (λ files. IfSome (F.library source.old) (λ l.
@@ -137,11 +166,24 @@ pub fn fetch<F: FontSource>(
         RoseUpTo (length (looked_for l units.now key.now)) (F.loads source.old)
         (F.loads source.new)) }
 
+    // And, where the names asked for are told too: they grew by exactly these, up to the stop.
+    ensures named { OnOk result (IfSome (F.library source.old) (λ l.
+        Asks (F.asked source.old) (F.asked source.new) (looked_for l units.now key.now))) }
+    ensures named_until { OnErr result (IfSome (F.library source.old) (λ l.
+        AskedUntil (F.asked source.old) (F.asked source.new) (looked_for l units.now key.now))) }
+
     // Whatever the source.
     ensures order { IfOk result (λ files. IsInOrder units.now key.now (bytes_of files)) }
     ensures looked { IfOk result (λ files. let f = bytes_of files in
         RoseWithin (fewest_loads units.now key.now f) (most_loads units.now key.now f)
         (F.loads source.old) (F.loads source.new)) }
+    // The names asked for, where they are told: those of the format in their order, as many as the
+    // files found say, and up to the stop.
+    ensures asked { IfOk result (λ files. let f = bytes_of files in
+        AskedFirst (fewest_loads units.now key.now f) (most_loads units.now key.now f)
+        (F.asked source.old) (F.asked source.new) (choices units.now key.now)) }
+    ensures stopped { OnErr result (AskedUntil (F.asked source.old) (F.asked source.new)
+        (choices units.now key.now)) }
     ensures invalid { IsFalse (is_valid_name key.now) → F.loads source.new ≡ F.loads source.old }
     ensures most { RoseUpTo 5 (F.loads source.old) (F.loads source.new) }
     ensures library { F.library source.new ≡ F.library source.old }

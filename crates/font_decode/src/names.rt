@@ -1,7 +1,9 @@
 //! The names of a font's files.
 ghost use Rattle.std.specs.Prelude.{◌≡◌, ◌<◌, ◌≤◌, ◌++◌, ◌+◌, ◌*◌, ◌^◌, IsTrue, IfOk, Some, slice_get};
 ghost use Rattle.std.specs.List.{list_all};
-ghost use Rattle.font_decode.specs.Names.{IsKey, IsUnits, is_name_byte, is_valid_name, dpi, is_resolution, pk_name, file_names};
+ghost use Rattle.outside.specs.FontKeys.{IsFontKey};
+ghost use Rattle.pixel_round.specs.Preamble.{AreUnits};
+ghost use Rattle.font_decode.specs.Names.{is_name_byte, is_valid_name, dpi, is_resolution, pk_name, file_names};
 
 use itoa::Buffer;
 use outside::{FileName, FontKey};
@@ -34,8 +36,8 @@ pub fn is_valid_name(key: &FontKey) -> bool
 /// The resolution of a font's PK file, in dots to the inch: `res * mag * size / (1000 * design)` to the
 /// nearest whole number, halves up.
 pub fn dpi(units: &Units, key: &FontKey) -> u128
-    requires units { IsUnits units.now }
-    requires key { IsKey key.now }
+    requires units { AreUnits units.now }
+    requires key { IsFontKey key.now }
     ensures { result ≡ dpi units.now key.now }
 {
     let top = u128::from(units.res) * u128::from(units.mag) * u128::from(key.size);
@@ -78,8 +80,8 @@ pub fn file_name(
     units: &Units,
     which: usize,
 ) -> Result<FileName, NoMemory>
-    requires units { IsUnits units.now }
-    requires key { IsKey key.now }
+    requires units { AreUnits units.now }
+    requires key { IsFontKey key.now }
     requires valid { IsTrue (is_valid_name key.now) }
     requires which { which < 5 }
     requires resolution { 2 ≤ which → IsTrue (is_resolution (dpi units.now key.now)) }

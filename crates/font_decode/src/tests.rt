@@ -1,7 +1,8 @@
 //! Fonts by hand, each file of which holds its own name.
 ghost use Rattle.std.specs.Prelude.{◌≡◌, ◌<◌, ◌≤◌, ◌^◌, IfOk};
-ghost use Rattle.font_decode.specs.Names.{IsKey};
+ghost use Rattle.outside.specs.FontKeys.{IsFontKey};
 
+mod asking;
 mod decodings;
 
 use crate::names::is_resolution;
@@ -23,7 +24,7 @@ const UNITS: Units = Units {
 // A font of a design size of 128 units.
 fn key(rt: &HostRuntime, name: &[u8], size: u32) -> Result<FontKey, Fail>
     requires { (1 ≤ size) × (size < 2 ^ 27) }
-    ensures { IfOk result IsKey }
+    ensures { IfOk result IsFontKey }
 {
     Ok(FontKey {
         area: 0,
@@ -63,7 +64,7 @@ fn is_file(file: &Option<Vec<u8>>, bytes: &[u8]) -> bool {
 
 // Whether these three files are found by so many loads: the next load is the one that fails.
 fn finds(rt: &HostRuntime, key: &FontKey, loads: u64, files: [&[u8]; 3]) -> Result<bool, Fail>
-    requires { IsKey key.now }
+    requires { IsFontKey key.now }
 {
     let fails = vec![in rt.alloc(); loads.saturating_add(1)]?;
     let mut source = MemFonts::new(library(rt)?, fails);
@@ -184,12 +185,15 @@ struct Wanting {
     alloc: Global,
     fails: u64,
     loads: u64,
+    ghost loads_fit: { loads < 2 ^ 64 },
 }
 
 impl FontSource for Wanting {
     ghost faults = { λ _. 0 };
 
     ghost loads = { λ s. s.loads };
+
+    ghost loads_fit = { λ s. s.loads_fit };
 
     fn load(&mut self, _name: &FileName) -> Result<Option<Vec<u8>>, LoadStop> {
         self.loads = self.loads.saturating_add(1);
@@ -229,12 +233,15 @@ struct Listening {
     pk_at: u64,
     loads: u64,
     in_order: bool,
+    ghost loads_fit: { loads < 2 ^ 64 },
 }
 
 impl FontSource for Listening {
     ghost faults = { λ _. 0 };
 
     ghost loads = { λ s. s.loads };
+
+    ghost loads_fit = { λ s. s.loads_fit };
 
     fn load(&mut self, name: &FileName) -> Result<Option<Vec<u8>>, LoadStop> {
         let order: [&[u8]; 5] = [

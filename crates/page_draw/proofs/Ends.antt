@@ -1,40 +1,33 @@
 -- How a page ends that was drawn so far.
-use Rattle.std.proofs.Common.{◌≡◌, ◌≢◌, ◌⊎◌, ◌≤◌, inl, inr, ap₂, arith, IfOk, IfErr, ℕ, List, [], ◌∷◌, ◌++◌, refl, sym, ap, subst, Option, Some, None, Result, Ok, Err}
-use Rattle.std.specs.Option.{option_map}
+use Rattle.std.proofs.Common.{◌≡◌, ◌≢◌, ◌⊎◌, ◌≤◌, inl, inr, ap₂, arith, IfOk, IfErr, ℕ, List, [], ◌∷◌, ◌++◌, refl, sym, ap, subst, ◌∙◌, Option, Some, None, Result, Ok, Err}
 use Rattle.outside.specs.declared.keys.FontKey.{FontKey}
 use Rattle.pixel_round.specs.Pixels.{conversion, Fraction}
-use Rattle.pixel_round.specs.declared.units.Units.{Units}
 use Rattle.outside.specs.Counts.{Rose}
 use Rattle.drift_rules.specs.Position.{FlatCommand, State, after, at_origin}
 use Rattle.drift_rules.specs.declared.faults.PenFault.TheVariants.{StackLeft}
 use Rattle.drift_rules.specs.declared.flat.Registers.{Registers}
 use Rattle.packed_rows.specs.Bitmap.{Bitmap}
-use Rattle.page_index.specs.Pages.{Indexed, document_units}
+use Rattle.page_index.specs.Pages.{Indexed, IsConversionOf, document_units}
 use Rattle.font_decode.specs.Desks.{GrewBy, GrewByAtMost}
 use Rattle.font_decode.specs.declared.decoded.Decoded.{Decoded}
 use Rattle.pk_runs.specs.declared.glyph.Glyph.{Glyph}
 use Rattle.vf_expand.specs.Course.{Course, Gives, Asks, Ends, Stops, course_of}
 use Rattle.vf_expand.specs.Faults.{Pen, seen_fault}
 use Rattle.vf_expand.specs.declared.faults.PageFault.{PageFault}
-use Rattle.page_draw.specs.Members.{Finding, last_state, looks_of}
+use Rattle.page_draw.specs.Members.{Finding, looks_of}
 use Rattle.page_draw.specs.Values.{EndsIn, HasValue, PageValue, ended_with, fault_at}
 use Rattle.page_draw.specs.Drawn.{IsBroken, IsDrawn, IsLeft, IsPenStop, IsStop}
 use Rattle.page_draw.specs.declared.stop.PageStop.{PageStop}
 use Rattle.page_draw.specs.declared.stop.PageStop.TheVariants as stop
 use Rattle.page_draw.specs.declared.sheet.Sheet.{Sheet}
+use Rattle.page_draw.proofs.EqualFractions.{states_alike, value_alike}
 use Rattle.page_draw.proofs.Lists.{IsSoFar, grew_more, grew_none}
-
--- the units whose conversion this is
-units_from : (o : Option Units) (c : Fraction) → option_map conversion o ≡ Some c → (u : Units) × (o ≡ Some u) × (c ≡ conversion u)
-units_from None c e = absurd cc
-units_from (Some u) c e = let same : c ≡ conversion u = cc in (u, refl, same)
 
 module _ (Finds : Finding) (c : Fraction) (sheet : Sheet) (indexed : Indexed) (i : ℕ) (to : Course) (s : State) (page : Bitmap) (old new : Option (List FontKey))
     (so_far : IsSoFar Finds c sheet (course_of indexed.reading i) to s page old new)
-    (conv : option_map conversion (document_units indexed.res indexed.reading) ≡ Some c) where
+    (conv : IsConversionOf (document_units indexed.res indexed.reading) c) where
   pub drawn_so_far : (value : PageValue) → EndsIn c s page to value → IsDrawn Finds indexed sheet i value old new
   drawn_so_far value ends =
-      let units = units_from (document_units indexed.res indexed.reading) c conv in
       let members = so_far.members in
       let own : HasValue Finds c sheet (course_of indexed.reading i) value (looks_of members) = record {
         members = members;
@@ -46,21 +39,20 @@ module _ (Finds : Finding) (c : Fraction) (sheet : Sheet) (indexed : Indexed) (i
         looked = refl;
       } in (
         looks_of members,
-        record { units = units.0; of_document = units.1; has = subst (λ (x : Fraction). HasValue Finds x sheet (course_of indexed.reading i) value (looks_of members)) units.2 own },
+        record { units = conv.0; of_document = conv.1; has = value_alike Finds c (conversion conv.0) sheet (course_of indexed.reading i) value (looks_of members) conv.2 own },
         so_far.asked,
       )
 
   pub broken_so_far : IsBroken Finds indexed i old new
   broken_so_far =
-      let units = units_from (document_units indexed.res indexed.reading) c conv in
       record {
         members = so_far.members;
         to = to;
-        units = units.0;
+        units = conv.0;
         state = s;
-        of_document = units.1;
+        of_document = conv.1;
         leads = so_far.leads;
-        moved = subst (λ (x : Fraction). last_state x at_origin so_far.members ≡ Ok s) units.2 so_far.moved;
+        moved = sym (states_alike c (conversion conv.0) conv.2 at_origin so_far.members) ∙ so_far.moved;
         asked = inl so_far.asked;
       }
 
@@ -73,15 +65,14 @@ module _ (Finds : Finding) (c : Fraction) (sheet : Sheet) (indexed : Indexed) (i
   pub broken_at_look : (k : FontKey) (at : ℕ) (rest : Decoded → Course) (now : Option (List FontKey)) → to ≡ Asks k at rest → GrewByAtMost new now k
       → IsBroken Finds indexed i old now
   broken_at_look k at rest now asks grew =
-      let units = units_from (document_units indexed.res indexed.reading) c conv in
       record {
         members = so_far.members;
         to = to;
-        units = units.0;
+        units = conv.0;
         state = s;
-        of_document = units.1;
+        of_document = conv.1;
         leads = so_far.leads;
-        moved = subst (λ (x : Fraction). last_state x at_origin so_far.members ≡ Ok s) units.2 so_far.moved;
+        moved = sym (states_alike c (conversion conv.0) conv.2 at_origin so_far.members) ∙ so_far.moved;
         asked = asked_at_most k at rest now asks grew;
       }
 
@@ -121,15 +112,14 @@ module _ (Finds : Finding) (c : Fraction) (sheet : Sheet) (indexed : Indexed) (i
 
 -- a page's course leads to itself before anything was done
 pub broken_at_first : (Finds : Finding) (indexed : Indexed) (i : ℕ) (c : Fraction) (old : Option (List FontKey))
-    → option_map conversion (document_units indexed.res indexed.reading) ≡ Some c → IsBroken Finds indexed i old old
+    → IsConversionOf (document_units indexed.res indexed.reading) c → IsBroken Finds indexed i old old
 broken_at_first Finds indexed i c old conv =
-    let units = units_from (document_units indexed.res indexed.reading) c conv in
     record {
       members = [];
       to = course_of indexed.reading i;
-      units = units.0;
+      units = conv.0;
       state = at_origin;
-      of_document = units.1;
+      of_document = conv.1;
       leads = refl;
       moved = refl;
       asked = inl (grew_none old);

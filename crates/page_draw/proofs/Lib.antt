@@ -1,6 +1,9 @@
+pub mod EqualFractions
 pub mod Lists
 pub mod Found
 pub mod Inks
 pub mod Ends
-pub mod Alike
 pub mod OneValue
+pub mod Alone
+pub mod SomeValue
+pub mod Begun

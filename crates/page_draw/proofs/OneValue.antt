@@ -18,16 +18,16 @@ use Rattle.page_draw.proofs.Lists.{apart}
 use Rattle.vf_expand.specs.Doing.{answered}
 use Rattle.font_decode.proofs.Alike.{one_in_a_library}
 use Rattle.page_draw.specs.Laws.{PagesHaveOneValue}
-use Rattle.page_draw.proofs.Alike.{Respects, course_respects}
+use Rattle.vf_expand.proofs.Alike.{Respects, course_respects}
 
 -- the page can't go on from here: no look-up stands next, and a flat command that does has no next state
-abbrev IsAtEnd : Fraction → State → Course → Type 0
+abbrev pub IsAtEnd : Fraction → State → Course → Type 0
 IsAtEnd c s (Gives f g at rest) = (fault : PenFault) × (after c s f ≡ Err fault)
 IsAtEnd c s (Asks k at rest) = ⊥
 IsAtEnd c s (Ends at) = Unit {0}
 IsAtEnd c s (Stops fault at) = Unit {0}
 
-at_end : (c : Fraction) (s : State) (page : Bitmap) (to : Course) (value : PageValue) → EndsIn c s page to value → IsAtEnd c s to
+pub at_end : (c : Fraction) (s : State) (page : Bitmap) (to : Course) (value : PageValue) → EndsIn c s page to value → IsAtEnd c s to
 at_end c s page (Gives f g at rest) value ends = (ends.0, ends.1)
 at_end c s page (Asks k at rest) value ends = absurd ends
 at_end c s page (Ends at) value ends = tt
@@ -35,26 +35,26 @@ at_end c s page (Stops fault at) value ends = tt
 
 -- ---- what equal courses have in common
 
-abbrev next_member : Course → Member → Member
+abbrev pub next_member : Course → Member → Member
 next_member (Gives f g at rest) other = Flat f g at
 next_member (Asks k at rest) other = Look k at
 next_member (Ends at) other = other
 next_member (Stops fault at) other = other
 
-abbrev flat_in : Course → FlatCommand → FlatCommand
+abbrev pub flat_in : Course → FlatCommand → FlatCommand
 flat_in (Gives f g at rest) other = f
 flat_in _ other = other
 
-abbrev rest_in : Course → Course
+abbrev pub rest_in : Course → Course
 rest_in (Gives f g at rest) = rest
 rest_in other = other
 
-abbrev key_in : Course → FontKey → FontKey
+abbrev pub key_in : Course → FontKey → FontKey
 key_in (Asks k at rest) other = k
 key_in _ other = other
 
 -- a flat command that has a next state doesn't end the page
-goes_on : (c : Fraction) (s u : State) (f : FlatCommand) (g : Option Glyph) (at : ℕ) (rest : Course) → after c s f ≡ Ok u → IsAtEnd c s (Gives f g at rest) → ⊥
+pub goes_on : (c : Fraction) (s u : State) (f : FlatCommand) (g : Option Glyph) (at : ℕ) (rest : Course) → after c s f ≡ Ok u → IsAtEnd c s (Gives f g at rest) → ⊥
 goes_on c s u f g at rest moved ends = let bad : Ok u ≡ Err ends.0 = sym moved ∙ ends.1 in absurd cc
 
 module _ (Finds : Finding) (c : Fraction) (alike : (k : FontKey) (d e : Decoded) → Finds k d → Finds k e → AreAlike d e) where

@@ -44,6 +44,16 @@ IsStop Finds indexed sheet i (stop.Fault fault at) old new = IsDrawn Finds index
 IsStop Finds indexed sheet i stop.SourceFault old new = IsBroken Finds indexed i old new
 IsStop Finds indexed sheet i stop.NoMemory old new = IsBroken Finds indexed i old new
 
+-- a page that came to its value, and wasn't broken off
+abbrev pub IsOwnStop : PageStop → Type 0
+IsOwnStop (stop.Fault fault at) = Unit {0}
+IsOwnStop stop.SourceFault = ⊥
+IsOwnStop stop.NoMemory = ⊥
+
+abbrev pub IsWhole : {A : Type 0} → Result A PageStop → Type 0
+IsWhole (Ok page) = Unit {0}
+IsWhole (Err reason) = IsOwnStop reason
+
 -- ---- the parts of a drawing
 
 -- why a flat command, whose next state is given, stops the page at a position

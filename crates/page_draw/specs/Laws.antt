@@ -1,15 +1,36 @@
 -- What is true of the values of pages.
-use Rattle.std.specs.Prelude.{◌≡◌, ℕ, List}
+use Rattle.std.specs.Prelude.{◌≡◌, ℕ, List, ◌++◌, Option, Some}
 use Rattle.outside.specs.Library as library
 use Rattle.outside.specs.declared.keys.FontKey.{FontKey}
 use Rattle.pixel_round.specs.declared.units.Units.{Units}
-use Rattle.page_index.specs.Pages.{Indexed}
+use Rattle.page_index.specs.Pages.{Indexed, document_units}
 use Rattle.font_decode.specs.Decoding.{IsFontIn}
+use Rattle.font_decode.specs.Laws.{AreByteFiles}
+use Rattle.font_decode.specs.Desks.{GrewBy}
+use Rattle.page_draw.specs.Members.{Finding}
 use Rattle.page_draw.specs.Values.{PageValue}
-use Rattle.page_draw.specs.Drawn.{IsPageValue}
+use Rattle.page_draw.specs.Drawn.{IsBroken, IsPageValue}
 use Rattle.page_draw.specs.declared.sheet.Sheet.{Sheet}
 
--- over a library a page has one value, and its keys are looked up in one order
+-- over a library a page has no two values, and its keys are looked up in one order
 abbrev pub PagesHaveOneValue : Type 0
 PagesHaveOneValue = (l : library.Files) (u : Units) (indexed : Indexed) (sheet : Sheet) (i : ℕ) (v w : PageValue) (looks others : List FontKey)
     → IsPageValue (IsFontIn l u) indexed sheet i v looks → IsPageValue (IsFontIn l u) indexed sheet i w others → (v ≡ w) × (looks ≡ others)
+
+-- a page has a value and no other, and its keys are looked up in one order
+pub record HasOneValue (Finds : Finding) (indexed : Indexed) (sheet : Sheet) (i : ℕ) : Type 0 where
+  pub value : PageValue
+  pub looks : List FontKey
+  pub has : IsPageValue Finds indexed sheet i value looks
+  pub only : (other : PageValue) (others : List FontKey) → IsPageValue Finds indexed sheet i other others → (other ≡ value) × (others ≡ looks)
+
+-- each page of a document has exactly one value over a library of byte files
+abbrev pub EachPageHasOneValue : Type 0
+EachPageHasOneValue = (l : library.Files) (u : Units) (indexed : Indexed) (sheet : Sheet) (i : ℕ) → AreByteFiles l → document_units indexed.res indexed.reading ≡ Some u
+    → HasOneValue (IsFontIn l u) indexed sheet i
+
+-- the keys asked for of a page that was broken off are the first of the page's look-ups
+abbrev pub BrokenPagesBegin : Type 0
+BrokenPagesBegin = (l : library.Files) (u : Units) (indexed : Indexed) (sheet : Sheet) (i : ℕ) (value : PageValue) (looks : List FontKey) (old new : Option (List FontKey))
+    → IsPageValue (IsFontIn l u) indexed sheet i value looks → IsBroken (IsFontIn l u) indexed i old new
+    → (asked : List FontKey) × (later : List FontKey) × (looks ≡ asked ++ later) × GrewBy old new asked

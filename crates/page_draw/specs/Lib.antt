@@ -4,3 +4,4 @@ pub mod Values
 pub mod Drawn
 pub mod PlainDesks
 pub mod Laws
+pub mod SoloDesks

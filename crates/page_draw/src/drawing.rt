@@ -12,7 +12,8 @@ ghost use Rattle.font_decode.specs.Decoding.{IsFontOf};
 ghost use Rattle.vf_expand.specs.Doing.{glyph_for};
 ghost use Rattle.page_draw.specs.Sheets.{IsDrawable, inks_of};
 ghost use Rattle.page_draw.specs.Values.{ended_with};
-ghost use Rattle.page_draw.specs.Drawn.{IsDrawn, IsLeft, IsPenStop, IsStop};
+ghost use Rattle.font_decode.specs.Desks.{TrailGrew};
+ghost use Rattle.page_draw.specs.Drawn.{IsDrawn, IsLeft, IsPenStop, IsStop, IsWhole};
 
 use crate::sheet::Sheet;
 use crate::stop::PageStop;
@@ -153,6 +154,9 @@ pub fn draw<R: Wait, D: Desk>(
         (Ok page) (D.asked desk.old) (D.asked desk.new)) }
     ensures stop { IfErr result (λ stop. IsStop (IsFontOf (D.library desk.old) (D.units desk.old)) index.now sheet.now i
         stop (D.asked desk.old) (D.asked desk.new)) }
+
+    // What the desk's seat did for these keys.
+    ensures trail { TrailGrew (IsWhole result) (D.asked desk.old) (D.asked desk.new) (D.trail desk.old) (D.trail desk.new) }
 {
     let mut pen = Pen::new(alloc, index.conv());
     let Ok(mut page) = Page::blank(alloc, sheet.width, sheet.height) else {

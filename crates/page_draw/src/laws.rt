@@ -1,7 +1,10 @@
 //! What is true of the values of pages.
-ghost use Rattle.page_draw.specs.Laws.{PagesHaveOneValue};
+ghost use Rattle.page_draw.specs.Laws.{PagesHaveOneValue, EachPageHasOneValue, BrokenPagesBegin};
 
-/// Over a library a page has one value, and its keys are looked up in one order.
+/// Over a library a page has exactly one value, and its keys are looked up in one order; a page that
+/// was broken off asked for the first of them.
 pub fn values()
-    ensures { PagesHaveOneValue }
+    ensures one { PagesHaveOneValue }
+    ensures exactly { EachPageHasOneValue }
+    ensures begun { BrokenPagesBegin }
 {}

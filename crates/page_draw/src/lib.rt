@@ -1,14 +1,21 @@
 //! One page over any desk of fonts: the expander's flat commands move the pen, and its marks are set on
-//! the sheet. `PlainDesk` is a desk that loads and decodes a font each time it is asked for one.
+//! the sheet. `PlainDesk` is a desk that loads and decodes a font each time it is asked for one, and
+//! `SoloDesk` keeps fonts in a cache.
 #![tactic(auto)]
 
 mod drawing;
+mod keeping;
 pub mod laws;
+mod loading;
 mod plain_desk;
 mod sheet;
+mod solo_desk;
 mod stop;
+#[cfg(test)]
+mod tests;
 
 pub use drawing::draw;
 pub use plain_desk::PlainDesk;
 pub use sheet::Sheet;
+pub use solo_desk::SoloDesk;
 pub use stop::PageStop;

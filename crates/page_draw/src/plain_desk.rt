@@ -1,9 +1,10 @@
 //! A desk without a cache.
 ghost use Rattle.std.specs.Prelude.{◌≡◌, ◌^◌, Some, refl};
-ghost use Rattle.font_decode.specs.Names.{IsUnits};
+ghost use Rattle.pixel_round.specs.Preamble.{AreUnits};
 
-use font_decode::{Decoded, Desk, DeskStop, decode, fetch};
-use outside::{FontKey, FontSource, LoadStop};
+use crate::loading::load;
+use font_decode::{Decoded, Desk, DeskStop};
+use outside::{FontKey, FontSource};
 use pixel_round::Units;
 use std::alloc::Global;
 use std::marker::Model;
@@ -18,20 +19,20 @@ pub struct PlainDesk<F: FontSource> {
 }
 
 impl<F: FontSource> Model for PlainDesk<F> {
-    ghost use Rattle.font_decode.specs.Names.{IsUnits};
+    ghost use Rattle.pixel_round.specs.Preamble.{AreUnits};
     ghost use Rattle.page_draw.specs.PlainDesks.{PlainView};
 
     ghost Value = { PlainView F };
 
     ghost view = { λ d. record { source = d.source; units = d.units } };
 
-    ghost invariant = { λ d. IsUnits d.units };
+    ghost invariant = { λ d. AreUnits d.units };
 }
 
 impl<F: FontSource> PlainDesk<F> {
     /// A desk over a source, for the units of a document.
     pub fn new(source: F, units: Units) -> PlainDesk<F>
-        requires { IsUnits units }
+        requires { AreUnits units }
         ensures { result ≡ record { source = source; units = units } }
     {
         PlainDesk { source, units }
@@ -60,6 +61,8 @@ impl<F: FontSource> Desk for PlainDesk<F> {
 
     ghost told = { λ d some. refl };
 
+    ghost asks = { λ d some. some };
+
     fn font<R: Wait>(
         &mut self,
         _rt: &R,
@@ -67,17 +70,6 @@ impl<F: FontSource> Desk for PlainDesk<F> {
         _shared: &(),
         key: &Arc<FontKey>,
     ) -> Result<Arc<Decoded>, DeskStop> {
-        let files = match fetch(alloc, &mut self.source, key, &self.units) {
-            Ok(files) => files,
-            Err(LoadStop::Failed) => return Err(DeskStop::SourceFault),
-            Err(LoadStop::NoMemory) => return Err(DeskStop::NoMemory),
-        };
-        let Ok(decoded) = decode(alloc, key, &files, &self.units) else {
-            return Err(DeskStop::NoMemory);
-        };
-        match Arc::new(alloc, decoded) {
-            Ok(font) => Ok(font),
-            Err(_) => Err(DeskStop::NoMemory),
-        }
+        load(alloc, &mut self.source, key, &self.units)
     }
 }

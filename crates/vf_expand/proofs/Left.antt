@@ -1,6 +1,6 @@
 -- What is left of a page, by its first command.
 use Rattle.std.proofs.Common.{◌≡◌, ℕ, zero, suc, ◌+◌, ◌-◌, ◌<◌, ◌≤◌, ℤ, Bool, true, false, List, [], ◌∷◌, length, drop, refl, sym, ap, subst, ◌∙◌, arith, Some, None, Option, length-drop}
-use Rattle.std.specs.Prelude.{slice_range, unwrap_or, IsTrue, IsFalse, IsSome, if◌then◌else◌}
+use Rattle.std.specs.Prelude.{slice_range, unwrap_or, IsTrue, IsSome, if◌then◌else◌}
 use Rattle.std.specs.Arc.{arc_value}
 use Rattle.dvi_commands.specs.declared.command.Context.{Context}
 use Rattle.dvi_commands.specs.declared.command.Context.TheVariants.{Page}
@@ -20,7 +20,7 @@ use Rattle.font_decode.specs.declared.decoded.Decoded.TheVariants as decoded
 use Rattle.vf_expand.specs.Faults.{seen_fault, TooLong}
 use Rattle.vf_expand.specs.Course.{Course, Gives, Asks, Ends, Stops, plain, Current, NoFont, Chosen, Known, expand_one, page_from, course_of, MOST, cut, character, found, with_width, with_glyph, changed_to, number_of}
 use Rattle.vf_expand.specs.Acts.{Acts}
-use Rattle.vf_expand.specs.Doing.{asks_left, course_left, answered, Doing, font_of, glyph_for, glyph_in, left, IsAsking}
+use Rattle.vf_expand.specs.Doing.{IsAtLook, asks_from, asks_left, course_left, answered, Doing, font_of, glyph_for, glyph_in, left, marked_font, place_of}
 use Rattle.vf_expand.specs.Steps.{AsksOne, GivesOne, Stays}
 use Rattle.vf_expand.specs.declared.act.Act.TheVariants as act
 
@@ -147,12 +147,6 @@ late_left reading eop b current bytes start at none inside reads =
     ap (course_left reading eop b current) there.3 ∙ ap (λ (n : ℕ). course_left reading eop n current (there.0 ∷ there.1)) none
     ∙ too_long reading eop current there.0 there.1 ∙ ap (Stops TooLong) there.2
 
-pub asking_left : (v : Doing) (p : Placed) (commands : List Placed) (key : _) → v.commands ≡ p ∷ commands → 0 < v.budget → Acts v.reading v.current p.command (act.Ask key) → IsAsking v
-asking_left v p commands key c h acts =
-    let here : left v ≡ Asks (arc_value key) p.at (λ d. course_left v.reading v.eop v.budget (Known (arc_value key) d) (p ∷ commands)) =
-    ap (course_left v.reading v.eop v.budget v.current) c ∙ ask_left v.reading v.eop v.budget v.current p commands key h acts in
-    (arc_value key, acts.0, λ d. ap (course_left v.reading v.eop v.budget (Known (arc_value key) d)) c ∙ sym (ap (λ x. answered x d) here))
-
 -- as a page begins
 pub new_left : (reading : Reading) (i start : ℕ) (bytes : List ℕ) → placed_from start bytes ≡ page_commands i reading → eop_at i reading ≡ Some (start + length bytes)
     → course_left reading (start + length bytes) 16777216 NoFont (placed_from (start + 0) (drop 0 bytes)) ≡ course_of reading i
@@ -163,33 +157,72 @@ new_left reading i start bytes commands ends =
     ∙ ap (λ (placed : List Placed). cut MOST (page_from reading (start + length bytes) NoFont placed)) commands
     ∙ sym (ap (λ (o : Option ℕ). cut MOST (page_from reading (unwrap_or o 0) NoFont (page_commands i reading))) ends)
 
+-- the place of what stands next
+place_cut : (n : ℕ) (x : Course) → place_of (cut n x) ≡ place_of x
+place_cut zero (Gives f g at rest) = refl
+place_cut zero (Asks k at rest) = refl
+place_cut zero (Ends at) = refl
+place_cut zero (Stops fault at) = refl
+place_cut (suc n) (Gives f g at rest) = refl
+place_cut (suc n) (Asks k at rest) = refl
+place_cut (suc n) (Ends at) = refl
+place_cut (suc n) (Stops fault at) = refl
+
+place_left : (reading : Reading) (eop b : ℕ) (current : Current) (p : Placed) (commands : List Placed) → place_of (course_left reading eop b current (p ∷ commands)) ≡ p.at
+unfolding course_left
+place_left reading eop b current p commands =
+    let x = page_from reading eop current (p ∷ commands) in
+    place_cut b x ∙ sym (place_cut 0 x) ∙ ap place_of (late reading p.at current p.command (λ next. page_from reading eop next commands))
+
+pub new_place : (reading : Reading) (b start : ℕ) (current : Current) (bytes : List ℕ) → Reads Page bytes
+    → start ≡ place_of (course_left reading (start + length bytes) b current (placed_from (start + 0) (drop 0 bytes)))
+new_place reading b start current [] reads =
+    let sum : start ≡ start + 0 = omega arith in
+    sum ∙ sym (ap place_of (end_left reading b current [] start 0 refl))
+new_place reading b start current (byte ∷ bytes) reads =
+    let all = byte ∷ bytes in
+    let there = some_placed Page reads.commands all (start + 0) (omega arith) reads.are in
+    let sum : start ≡ start + 0 = omega arith in
+    sum ∙ sym there.2 ∙ sym (ap (λ (placed : List Placed). place_of (course_left reading (start + length all) b current placed)) there.3
+    ∙ place_left reading (start + length all) b current there.0 there.1)
+
 asks_again : (x : Course) (k : FontKey) (at : ℕ) (rest : Decoded → Course) → x ≡ Asks k at rest → x ≡ Asks k at (answered x)
 asks_again x k at rest e = e ∙ ap (λ (y : Course). Asks k at (answered y)) (sym e)
 
 -- ---- how many look-ups may still come
 
--- a font that waits to be looked up isn't fresh
-not_fresh : (fresh : Bool) (current : Current) (k : FontKey) → current ≡ Chosen k → (IsTrue fresh → IsSome (font_of current)) → fresh ≡ false
-not_fresh true current k e h = let bad : IsSome (font_of (Chosen k)) = subst (λ (x : Current). IsSome (font_of x)) e (h refl) in absurd cc
-not_fresh false current k e h = refl
-
-pub asks_before : (v : Doing) (k : FontKey) → v.current ≡ Chosen k → (IsTrue v.fresh → IsSome (font_of v.current)) → asks_left v ≡ v.budget
-asks_before v k e h = ap (λ (b : Bool). if b then v.budget - 1 else v.budget) (not_fresh v.fresh v.current k e h)
+-- a font that waits to be looked up is that of no character
+not_marked : (marked : Bool) (current : Current) (k : FontKey) → current ≡ Chosen k → (IsTrue marked → IsSome (font_of current)) → marked ≡ false
+not_marked true current k e h = let bad : IsSome (font_of (Chosen k)) = subst (λ (x : Current). IsSome (font_of x)) e (h refl) in absurd cc
+not_marked false current k e h = refl
 
 -- a flat command lowers both counts
-falls : (fresh : Bool) (b : ℕ) → b - 1 ≤ (if fresh then b - 1 else b)
-falls true b = omega arith
-falls false b = omega arith
+falls : (b : ℕ) (current : Current) → asks_from (b - 1) current ≤ asks_from b current
+falls b NoFont = omega arith
+falls b (Chosen k) = omega arith
+falls b (Known k d) = omega arith
 
-pub fewer : (fresh : Bool) (b : ℕ) → 0 < b → (b - 1) + (b - 1) < b + (if fresh then b - 1 else b)
-fewer true b h = omega arith
-fewer false b h = omega arith
+fewer : (b : ℕ) (current : Current) → 0 < b → (b - 1) + asks_from (b - 1) current < b + asks_from b current
+fewer b NoFont h = omega arith
+fewer b (Chosen k) h = omega arith
+fewer b (Known k d) h = omega arith
+
+-- so does a change of the font
+falls_anew : (b : ℕ) (current : Current) → b - 1 ≤ asks_from b current
+falls_anew b NoFont = omega arith
+falls_anew b (Chosen k) = omega arith
+falls_anew b (Known k d) = omega arith
+
+fewer_anew : (b : ℕ) (current : Current) → 0 < b → (b - 1) + (b - 1) < b + asks_from b current
+fewer_anew b NoFont h = omega arith
+fewer_anew b (Chosen k) h = omega arith
+fewer_anew b (Known k d) h = omega arith
 
 -- ---- the steps
 
--- behind a command that gave a flat command
+-- after a command that gave a flat command
 abbrev pub given : Doing → ℕ → Bool → List Placed → Doing
-given v at marked commands = record v { at = at; budget = v.budget - 1; waiting = false; fresh = false; marked = marked; commands = commands }
+given v at marked commands = record v { at = at; budget = v.budget - 1; marked = marked; commands = commands }
 
 -- where the last step gave no character no flat command has a glyph
 no_glyph : (v : Doing) (at : ℕ) (commands : List Placed) (f : FlatCommand) → glyph_for (given v at false commands) f ≡ None
@@ -206,9 +239,8 @@ module _ (v : Doing) (p : Placed) (commands : List Placed) (stands : v.commands 
       record {
         given = here ∙ flat_left v.reading v.eop v.budget v.current p commands f room acts
             ∙ ap (λ (o : Option Glyph). Gives (seen_flat f) o p.at (left new)) (sym (no_glyph v p.at commands (seen_flat f)));
-        unasked = refl;
-        asks = falls v.fresh v.budget;
-        fewer = fewer v.fresh v.budget room;
+        asks = falls v.budget v.current;
+        fewer = fewer v.budget v.current room;
       }
 
   pub mark_step : (f : Flat) → Acts v.reading v.current p.command (act.Mark f) → GivesOne v (given v p.at true commands) (seen_flat f)
@@ -219,46 +251,138 @@ module _ (v : Doing) (p : Placed) (commands : List Placed) (stands : v.commands 
       record {
         given = here ∙ mark_left v.reading v.eop v.budget v.current p commands f room acts
             ∙ ap (λ (o : Option Glyph). Gives (seen_flat f) o p.at (left new)) (sym glyph);
-        unasked = refl;
-        asks = falls v.fresh v.budget;
-        fewer = fewer v.fresh v.budget room;
+        asks = falls v.budget v.current;
+        fewer = fewer v.budget v.current room;
       }
 
   pub change_step : (key : _) → Acts v.reading v.current p.command (act.Change key)
       → GivesOne v (record (given v p.at false commands) { current = Chosen (arc_value key) }) flat.Skip
   change_step key acts = record {
     given = here ∙ change_left v.reading v.eop v.budget v.current p commands key room acts;
-    unasked = refl;
-    asks = falls v.fresh v.budget;
-    fewer = fewer v.fresh v.budget room;
+    asks = falls_anew v.budget v.current;
+    fewer = fewer_anew v.budget v.current room;
   }
 
-  pub asks_step : (key : _) → (IsTrue v.fresh → IsSome (font_of v.current)) → Acts v.reading v.current p.command (act.Ask key)
-      → AsksOne v (record v { at = p.at; waiting = true; marked = false }) (arc_value key)
-  asks_step key fresh acts = record {
-    asked = asks_again (left v) (arc_value key) p.at _ (here ∙ ask_left v.reading v.eop v.budget v.current p commands key room acts);
-    left = refl;
-    waits = refl;
-    unmarked = refl;
-    some = subst (λ (n : ℕ). 0 < n) (sym (asks_before v (arc_value key) acts.0 fresh)) room;
-    asks = refl;
-    steps = refl;
-  }
+  pub asks_step : (key : _) → Acts v.reading v.current p.command (act.Ask key) → AsksOne v (record v { at = p.at; marked = false }) (arc_value key)
+  asks_step key acts =
+      let asked = here ∙ ask_left v.reading v.eop v.budget v.current p commands key room acts in
+      record {
+        asked = asks_again (left v) (arc_value key) p.at _ asked;
+        look = subst IsAtLook (sym asked) tt;
+        left = refl;
+        unmarked = refl;
+        some = subst (λ (x : Current). 0 < asks_from v.budget x) (sym acts.0) room;
+        asks = refl;
+        steps = refl;
+      }
 
-  pub stop_step : (fault : _) → IsFalse v.waiting → Acts v.reading v.current p.command (act.Stop fault)
+  pub stop_step : (fault : _) → Acts v.reading v.current p.command (act.Stop fault)
       → (left v ≡ Stops (seen_fault fault) p.at) × Stays v (record v { at = p.at; marked = false })
-  stop_step fault idle acts =
-      (here ∙ stop_left v.reading v.eop v.budget v.current p commands fault room acts, record { left = refl; unmarked = refl; unasked = idle; asks = refl })
+  stop_step fault acts =
+      (here ∙ stop_left v.reading v.eop v.budget v.current p commands fault room acts, record { left = refl; unmarked = refl; asks = refl })
 
 -- ---- an answer
 
-pub answered_asks : (v : Doing) (k : FontKey) → v.current ≡ Chosen k → (IsTrue v.fresh → IsSome (font_of v.current)) → 0 < v.budget → (v.budget - 1) + 1 ≡ asks_left v
-answered_asks v k chosen fresh some =
-    let sum : (v.budget - 1) + 1 ≡ v.budget = omega (arith, some) in
-    sum ∙ sym (asks_before v k chosen fresh)
+-- where a look-up stands next, the font that it is for waits for it, and takes what is found
+abbrev Waits : Current → (Current → Course) → Type 0
+Waits current part = (k : FontKey) × (current ≡ Chosen k) × ((d : Decoded) → part (Known k d) ≡ answered (part current) d)
 
-pub answered_fewer : (v : Doing) (k : FontKey) → v.current ≡ Chosen k → (IsTrue v.fresh → IsSome (font_of v.current)) → 0 < v.budget
-    → v.budget + (v.budget - 1) < v.budget + asks_left v
-answered_fewer v k chosen fresh some =
-    let less : v.budget + (v.budget - 1) < v.budget + v.budget = omega (arith, some) in
-    subst (λ (n : ℕ). v.budget + (v.budget - 1) < v.budget + n) (sym (asks_before v k chosen fresh)) less
+no_look_in_glyph : (at : ℕ) (k : FontKey) (c width : ℤ) (put : Bool) (glyph : Option Glyph) (rest : Course) → IsAtLook (with_glyph at k c width put glyph rest) → ⊥
+no_look_in_glyph at k c width put None rest look = look
+no_look_in_glyph at k c width put (Some g) rest look = look
+
+no_look_in_width : (at : ℕ) (k : FontKey) (f : FontSeen) (c : ℤ) (put : Bool) (width : Option ℤ) (rest : Course) → IsAtLook (with_width at k f c put width rest) → ⊥
+no_look_in_width at k f c put None rest look = look
+no_look_in_width at k f c put (Some width) rest look = no_look_in_glyph at k c width put (glyph_at f (number_of c)) rest look
+
+no_look_in_found : (at : ℕ) (k : FontKey) (d : Decoded) (c : ℤ) (put : Bool) (rest : Course) → IsAtLook (found at k d c put rest) → ⊥
+no_look_in_found at k (decoded.Fault fault) c put rest look = look
+no_look_in_found at k (decoded.Font f) c put rest look = no_look_in_width at k f c put (width_of f c) rest look
+
+look_in_character : (at : ℕ) (current : Current) (c : ℤ) (put : Bool) (others : Current → Course) → IsAtLook (character at current c put others)
+    → Waits current (λ now. character at now c put others)
+look_in_character at NoFont c put others look = absurd look
+look_in_character at (Chosen k) c put others look = (k, refl, λ d. refl)
+look_in_character at (Known k d) c put others look = absurd (no_look_in_found at k d c put (others (Known k d)) look)
+
+no_look_in_change : (k : Option FontKey) (at : ℕ) (n : ℤ) (others : Current → Course) → IsAtLook (changed_to k at n others) → ⊥
+no_look_in_change None at n others look = look
+no_look_in_change (Some k) at n others look = look
+
+look_in_one : (reading : Reading) (at : ℕ) (current : Current) (c : DviCommand) (others : Current → Course) → IsAtLook (expand_one reading at current c others)
+    → Waits current (λ now. expand_one reading at now c others)
+look_in_one reading at current (Set c) others look = look_in_character at current c false others look
+look_in_one reading at current (Put c) others look = look_in_character at current c true others look
+look_in_one reading at current (Font n) others look = absurd (no_look_in_change (font_table reading n) at n others look)
+look_in_one reading at current (SetRule a b) others look = absurd look
+look_in_one reading at current (PutRule a b) others look = absurd look
+look_in_one reading at current (Right b) others look = absurd look
+look_in_one reading at current (W b) others look = absurd look
+look_in_one reading at current (X b) others look = absurd look
+look_in_one reading at current (Down b) others look = absurd look
+look_in_one reading at current (Y b) others look = absurd look
+look_in_one reading at current (Z b) others look = absurd look
+look_in_one reading at current W0 others look = absurd look
+look_in_one reading at current X0 others look = absurd look
+look_in_one reading at current Y0 others look = absurd look
+look_in_one reading at current Z0 others look = absurd look
+look_in_one reading at current Push others look = absurd look
+look_in_one reading at current Pop others look = absurd look
+look_in_one reading at current _ others look = absurd look
+
+look_in_cut : (n : ℕ) (x : Course) → IsAtLook (cut n x) → IsAtLook x × (0 < n) × ((d : Decoded) → answered (cut n x) d ≡ cut n (answered x d))
+look_in_cut zero (Gives f g at rest) look = absurd look
+look_in_cut zero (Asks k at rest) look = absurd look
+look_in_cut zero (Ends at) look = absurd look
+look_in_cut zero (Stops fault at) look = absurd look
+look_in_cut (suc n) (Gives f g at rest) look = absurd look
+look_in_cut (suc n) (Asks k at rest) look = (tt, omega arith, λ d. refl)
+look_in_cut (suc n) (Ends at) look = absurd look
+look_in_cut (suc n) (Stops fault at) look = absurd look
+
+-- the font that a page's next look-up is for
+record Wanted (reading : Reading) (eop b : ℕ) (current : Current) (commands : List Placed) : Type 0 where
+  pub key : FontKey
+  pub chosen : current ≡ Chosen key
+  pub room : 0 < b
+  pub rest : (d : Decoded) → course_left reading eop b (Known key d) commands ≡ answered (course_left reading eop b current commands) d
+
+wanted : (reading : Reading) (eop b : ℕ) (current : Current) (commands : List Placed) → IsAtLook (course_left reading eop b current commands)
+    → Wanted reading eop b current commands
+unfolding course_left
+wanted reading eop b current [] look = absurd (look_in_cut b (page_from reading eop current []) look).0
+wanted reading eop b current (p ∷ commands) look =
+    let others : Current → Course = λ next. page_from reading eop next commands in
+    let inside = look_in_cut b (page_from reading eop current (p ∷ commands)) look in
+    let waits = look_in_one reading p.at current p.command others inside.0 in
+    record { key = waits.0; chosen = waits.1; room = inside.1; rest = λ d. ap (cut b) (waits.2 d) ∙ sym (inside.2 d) }
+
+-- the key that a page waits for
+pub key_wanted : (v : Doing) → IsAtLook (left v) → (k : FontKey) × (v.current ≡ Chosen k)
+key_wanted v look = let w = wanted v.reading v.eop v.budget v.current v.commands look in (w.key, w.chosen)
+
+module _ (v : Doing) (k : FontKey) (chosen : v.current ≡ Chosen k) (look : IsAtLook (left v)) where
+  pub answered_rest : (d : Decoded) → left (record v { current = Known k d }) ≡ answered (left v) d
+  answered_rest d =
+      let w = wanted v.reading v.eop v.budget v.current v.commands look in
+      let both : Chosen k ≡ Chosen w.key = sym chosen ∙ w.chosen in
+      let same : k ≡ w.key = cc in
+      ap (λ (key : FontKey). course_left v.reading v.eop v.budget (Known key d) v.commands) same ∙ w.rest d
+
+  pub answered_asks : (v.budget - 1) + 1 ≡ asks_left v
+  answered_asks =
+      let w = wanted v.reading v.eop v.budget v.current v.commands look in
+      let room : 0 < v.budget = w.room in
+      let sum : (v.budget - 1) + 1 ≡ v.budget = omega (arith, room) in
+      sum ∙ ap (asks_from v.budget) (sym chosen)
+
+  pub answered_fewer : v.budget + (v.budget - 1) < v.budget + asks_left v
+  answered_fewer =
+      let w = wanted v.reading v.eop v.budget v.current v.commands look in
+      let room : 0 < v.budget = w.room in
+      let less : v.budget + (v.budget - 1) < v.budget + v.budget = omega (arith, room) in
+      subst (λ (x : Current). v.budget + (v.budget - 1) < v.budget + asks_from v.budget x) (sym chosen) less
+
+  pub answered_unmarked : (d : Decoded) → (IsTrue v.marked → IsSome (font_of v.current)) → marked_font (record v { current = Known k d }) ≡ None
+  answered_unmarked d marks =
+      ap (λ (b : Bool). if b then Some d else None) (not_marked v.marked v.current k chosen marks)

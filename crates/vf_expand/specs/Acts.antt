@@ -7,7 +7,7 @@ use Rattle.drift_rules.specs.Position.{FlatCommand, Char, seen_flat}
 use Rattle.drift_rules.specs.Position as flat
 use Rattle.drift_rules.specs.Bounds.{IsInReach}
 use Rattle.page_index.specs.Document.{Reading, font_table}
-use Rattle.font_decode.specs.Names.{IsKey}
+use Rattle.outside.specs.FontKeys.{IsFontKey}
 use Rattle.pk_runs.specs.declared.glyph.Glyph.{Glyph}
 use Rattle.font_decode.specs.declared.decoded.Decoded.{Decoded}
 use Rattle.vf_expand.specs.Faults.{seen_fault}
@@ -27,8 +27,8 @@ seen_current (code.Known key font) = course.Known (arc_value key) (arc_value fon
 -- the current font's key is one of a document
 abbrev pub HasKey : course.Current → Type 0
 HasKey course.NoFont = Unit {0}
-HasKey (course.Chosen k) = IsKey k
-HasKey (course.Known k d) = IsKey k
+HasKey (course.Chosen k) = IsFontKey k
+HasKey (course.Known k d) = IsFontKey k
 
 -- what a command makes of the current font, its position and what stands behind it
 abbrev pub Part : Type 0
@@ -73,6 +73,6 @@ ChangeActs reading current n act = IsPart (λ now at others. changed_to (font_ta
 abbrev pub FitsAct : Act → Type 0
 FitsAct (Flat f) = IsInReach (seen_flat f) × IsPlain (seen_flat f)
 FitsAct (Mark f) = IsInReach (seen_flat f)
-FitsAct (Change key) = IsKey (arc_value key)
-FitsAct (Ask key) = IsKey (arc_value key)
+FitsAct (Change key) = IsFontKey (arc_value key)
+FitsAct (Ask key) = IsFontKey (arc_value key)
 FitsAct (Stop fault) = Unit {0}

@@ -4,3 +4,6 @@ pub mod Doing
 pub mod Steps
 pub mod Acts
 pub mod View
+pub mod Members
+pub mod PageLists
+pub mod Laws

@@ -1,35 +1,33 @@
 -- A step is what the course has next, and leaves what stands behind it.
-use Rattle.std.specs.Prelude.{◌≡◌, ◌<◌, ◌≤◌, IsTrue, IsFalse, IsSome, None}
+use Rattle.std.specs.Prelude.{◌≡◌, ◌<◌, ◌≤◌, IsSome, None}
 use Rattle.std.specs.Arc.{arc_value}
 use Rattle.outside.specs.declared.keys.FontKey.{FontKey}
 use Rattle.drift_rules.specs.Position.{FlatCommand, Char, seen_flat}
 use Rattle.drift_rules.specs.Bounds.{IsInReach}
-use Rattle.font_decode.specs.Names.{IsKey}
+use Rattle.outside.specs.FontKeys.{IsFontKey}
 use Rattle.vf_expand.specs.Faults.{seen_fault}
 use Rattle.vf_expand.specs.Course.{Gives, Asks, Ends, Stops}
-use Rattle.vf_expand.specs.Doing.{Doing, left, answered, glyph_for, marked_font, asks_left, steps_left}
+use Rattle.vf_expand.specs.Doing.{Doing, IsAtLook, left, answered, glyph_for, marked_font, asks_left, steps_left}
 use Rattle.vf_expand.specs.declared.step.Step.{Step}
 use Rattle.vf_expand.specs.declared.step.Step.TheVariants.{Flat, Ask, End, Stop}
 
--- nothing waits for an answer, and the same comes again
+-- the same comes again
 pub record Stays (old new : Doing) : Type 0 where
   pub left : left new ≡ left old
   pub unmarked : marked_font new ≡ None
-  pub unasked : IsFalse new.waiting
   pub asks : asks_left new ≡ asks_left old
 
 -- a flat command, a character with its glyph, and fewer steps than before
 pub record GivesOne (old new : Doing) (f : FlatCommand) : Type 0 where
   pub given : left old ≡ Gives f (glyph_for new f) new.at (left new)
-  pub unasked : IsFalse new.waiting
   pub asks : asks_left new ≤ asks_left old
   pub fewer : steps_left new < steps_left old
 
--- the key of a look-up, which waits for its answer
+-- the key of a look-up, which still stands next
 pub record AsksOne (old new : Doing) (k : FontKey) : Type 0 where
   pub asked : left old ≡ Asks k new.at (answered (left old))
+  pub look : IsAtLook (left new)
   pub left : left new ≡ left old
-  pub waits : IsTrue new.waiting
   pub unmarked : marked_font new ≡ None
   pub some : 0 < asks_left old
   pub asks : asks_left new ≡ asks_left old
@@ -49,6 +47,6 @@ HasItsGlyph v f = Unit {0}
 -- a flat command may be handed to a pen, and a key to a decoder
 abbrev pub Fits : Step → Doing → Type 0
 Fits (Flat f) new = IsInReach (seen_flat f) × HasItsGlyph new (seen_flat f)
-Fits (Ask key) new = IsKey (arc_value key)
+Fits (Ask key) new = IsFontKey (arc_value key)
 Fits End new = Unit {0}
 Fits (Stop fault) new = Unit {0}

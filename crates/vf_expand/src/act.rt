@@ -4,7 +4,7 @@ ghost use Rattle.std.specs.Arc.{arc_value};
 ghost use Rattle.dvi_commands.specs.Spelling.{seen};
 ghost use Rattle.drift_rules.specs.Position.{Rule, seen_flat};
 ghost use Rattle.drift_rules.specs.Bounds.{IsSpace};
-ghost use Rattle.font_decode.specs.Names.{IsKey};
+ghost use Rattle.outside.specs.FontKeys.{IsFontKey};
 ghost use Rattle.font_decode.specs.declared.decoded.Decoded.TheVariants as decoded;
 ghost use Rattle.vf_expand.specs.Course.{space};
 ghost use Rattle.vf_expand.specs.Course as course;

@@ -1,9 +1,9 @@
 //! The page that is being expanded.
-ghost use Rattle.std.specs.Prelude.{◌≡◌, ◌<◌, ◌+◌, suc, Some, None, IfOk, OnErr, IsTrue, IsFalse, MatchOption};
+ghost use Rattle.std.specs.Prelude.{◌≡◌, ◌<◌, ◌+◌, Some, None, IfOk, OnErr, MatchOption};
 ghost use Rattle.std.specs.Arc.{arc_value};
 ghost use Rattle.page_index.specs.Document.{pages_begun};
 ghost use Rattle.vf_expand.specs.Course.{course_of, MOST as THE_MOST};
-ghost use Rattle.vf_expand.specs.Doing.{answered, asks_left, left, marked_font, steps_left};
+ghost use Rattle.vf_expand.specs.Doing.{IsAtLook, answered, asks_left, left, marked_font, place_of, steps_left};
 ghost use Rattle.vf_expand.specs.Steps.{Fits, Steps};
 
 use crate::act::{Act, Current, expanded};
@@ -47,7 +47,8 @@ impl<'a> Expander<'a> {
     pub fn new(alloc: Global, index: &'a Index<'a>, i: usize) -> Result<Expander<'a>, NoMemory>
         requires { i < pages_begun index.now.reading }
         ensures page { IfOk result (λ e. left e ≡ course_of index.now.reading i) }
-        ensures unasked { IfOk result (λ e. IsFalse e.waiting) }
+        ensures place { IfOk result (λ e. e.at ≡ place_of (left e)) }
+        ensures unmarked { IfOk result (λ e. marked_font e ≡ None) }
         ensures asks { IfOk result (λ e. asks_left e ≡ THE_MOST) }
     {
         let page = index.page(i);
@@ -61,10 +62,11 @@ impl<'a> Expander<'a> {
         })
     }
 
-    /// The next step of the page, where no look-up waits for its answer.
+    /// The next step of the page.
     ///
     /// Each command gives one flat command; a nop, a special, a font definition and a font change give
-    /// one that does nothing. A font is asked for once at the first character behind the change to it.
+    /// one that does nothing. A font is asked for at the first character after the change to it, and
+    /// again until it is handed in.
     /// The page stops at a change to a font that isn't defined, at a character where no font is current,
     /// whose font has a fault, no width or no glyph for it, and, where 2^24 flat commands were given, in
     /// front of anything but its end. `End` and `Stop` come again and again. Where memory is wanting
@@ -72,7 +74,6 @@ impl<'a> Expander<'a> {
     ///
     /// Knuth, DVItype, "Translation to symbolic form".
     pub fn next(&mut self) -> Result<Step, NoMemory>
-        requires { IsFalse self.old.waiting }
         ensures step { IfOk result (λ step. Steps self.old step self.new) }
         ensures fits { IfOk result (λ step. Fits step self.new) }
         ensures err { OnErr result (self.new ≡ self.old) }
@@ -103,7 +104,7 @@ impl<'a> Expander<'a> {
                 Ok(Step::Flat(Flat::Skip))
             }
             Act::Ask(key) => {
-                self.progress = self.progress.asked(place);
+                self.progress = self.progress.stopped(place);
                 Ok(Step::Ask(key))
             }
             Act::Stop(fault) => {
@@ -113,16 +114,17 @@ impl<'a> Expander<'a> {
         }
     }
 
-    /// Hands in what was found for the key that the last step asked for.
+    /// Hands in what was found for the key of the look-up that stands next. The place stays that of the
+    /// last step, which gave no character.
     pub fn answer(&mut self, font: Arc<Decoded>)
-        requires { IsTrue self.old.waiting }
+        requires { IsAtLook (left self.old) }
         ensures rest { left self.new ≡ answered (left self.old) (arc_value font) }
-        ensures unasked { IsFalse self.new.waiting }
+        ensures place { self.new.at ≡ self.old.at }
+        ensures unmarked { marked_font self.new ≡ None }
         ensures asks { asks_left self.new + 1 ≡ asks_left self.old }
         ensures fewer { steps_left self.new < steps_left self.old }
     {
         let current = mem::replace(&mut self.current, Current::NoFont);
-        self.progress = self.progress.answered();
         self.current = match current {
             Current::Chosen(key) => Current::Known(key, font),
             _ => unreachable!(),
@@ -142,8 +144,8 @@ impl<'a> Expander<'a> {
         }
     }
 
-    /// The position, in the document, of the page's command that the last step comes from; at the
-    /// page's end that of its Eop.
+    /// The position, in the document, of the page's command that the last step comes from; before the
+    /// first step that of the page's first command, and at the page's end that of its Eop.
     pub fn at(&self) -> usize
         ensures { result ≡ self.now.at }
     {

@@ -6,6 +6,7 @@
 mod act;
 mod expander;
 mod faults;
+pub mod laws;
 mod progress;
 mod step;
 

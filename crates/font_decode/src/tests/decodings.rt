@@ -1,6 +1,6 @@
 //! Fonts by their files, and what is wrong with changed ones.
 ghost use Rattle.std.specs.Prelude.{◌<◌, ◌≤◌, ◌^◌};
-ghost use Rattle.font_decode.specs.Names.{IsKey};
+ghost use Rattle.outside.specs.FontKeys.{IsFontKey};
 
 use super::{UNITS, key};
 use crate::{Decoded, FileKind, Files, FontFault, decode, laws};
@@ -43,7 +43,7 @@ fn decoded(
     vf: &[u8],
     pk: &[u8],
 ) -> Result<Decoded, Fail>
-    requires { IsKey key.now }
+    requires { IsFontKey key.now }
 {
     let files = Files {
         tfm: file(rt, tfm)?,
@@ -61,7 +61,7 @@ fn fault(
     vf: &[u8],
     pk: &[u8],
 ) -> Result<Option<FontFault>, Fail>
-    requires { IsKey key.now }
+    requires { IsFontKey key.now }
 {
     match decoded(rt, key, tfm, vf, pk)? {
         Decoded::Font(_) => Ok(None),

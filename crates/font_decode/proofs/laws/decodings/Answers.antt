@@ -1,4 +1,5 @@
 use Rattle.font_decode.proofs.Alike.{one_of_its_files, one_in_a_library}
+use Rattle.font_decode.proofs.Total.{each_key_is_decoded}
 use Rattle.font_decode.proofs.laws.decodings.Goals as goal
 
 pub returns-clause-files : goal.returns-clause-files
@@ -6,3 +7,6 @@ returns-clause-files c = one_of_its_files
 
 pub returns-clause-library : goal.returns-clause-library
 returns-clause-library c = one_in_a_library
+
+pub returns-clause-each : goal.returns-clause-each
+returns-clause-each c = each_key_is_decoded

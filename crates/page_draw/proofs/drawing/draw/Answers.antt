@@ -1,9 +1,11 @@
-use Rattle.std.proofs.Common.{◌≡◌, Some, refl, sym, ap, subst, ◌∙◌, arith}
+use Rattle.std.proofs.Common.{◌≡◌, refl, sym, ap, subst, ◌∙◌, arith}
 use Rattle.std.proofs.lemmas.Result.{err_from_is_err_and}
 use Rattle.std.specs.Arc.{arc_value}
 use Rattle.pixel_round.specs.Pixels.{Fraction}
 use Rattle.drift_rules.specs.Position.{seen_flat}
+use Rattle.page_index.specs.Pages.{IsConversionOf, document_units}
 use Rattle.font_decode.specs.Decoding.{IsFontOf}
+use Rattle.font_decode.proofs.Trails.{trail_none, trail_more, trail_as}
 use Rattle.vf_expand.specs.Course.{Course, Ends, course_of}
 use Rattle.vf_expand.specs.Doing.{answered, glyph_for, left}
 use Rattle.page_draw.proofs.Lists.{IsSoFar, so_far_flat, so_far_look, so_far_none, so_far_same}
@@ -21,13 +23,13 @@ steps-init g c =
     let desk = g.D.Desk in
     let conv : c.new-pen.result.conv ≡ c.conv.result = ap (λ p. p.conv) c.new-pen.ensures in
     record {
-      unasked = c.in-Ok-new.ensures.unasked;
-      conv = c.conv.ensures ∙ ap Some (sym conv);
+      conv = subst (λ (x : Fraction). IsConversionOf (document_units c.args.index.now.res c.args.index.now.reading) x) (sym conv) c.conv.ensures;
       fits = c.requires.fits;
       room = omega (arith, c.in-Ok-new.ensures.asks);
       library = refl;
       units = refl;
       faults = omega arith;
+      trail = trail_none (Unit {0}) (desk.asked c.args.desk.now) (desk.trail c.args.desk.now);
       so_far = so_far_none _ c.new-pen.result.conv c.args.sheet.now (course_of c.args.index.now.reading c.args.i) (left c.in-Ok-new.expander) c.new-pen.result.state
           c.in-Ok.page (desk.asked c.args.desk.now) c.in-Ok-new.ensures.page (ap (λ p. p.state) c.new-pen.ensures) c.in-Ok.ensures.white;
     }
@@ -56,13 +58,13 @@ steps-preserved-in_ok-draw_one-in-Flat g c =
     let flat = seen_flat c.in-Flat.flat in
     let new = c.next.new.self in
     record {
-      unasked = step.unasked;
-      conv = i.conv ∙ ap Some (sym conv);
+      conv = subst (λ (x : Fraction). IsConversionOf (document_units c.args.index.now.res c.args.index.now.reading) x) (sym conv) i.conv;
       fits = i.fits;
       room = omega (arith, i.room, step.asks);
       library = i.library;
       units = i.units;
       faults = i.faults;
+      trail = i.trail;
       so_far = subst (λ (x : Fraction). IsSoFar (IsFontOf (desk.library c.args.desk.now) (desk.units c.args.desk.now)) x c.args.sheet.now
           (course_of c.args.index.now.reading c.args.i) (left new) c.draw_one.new.pen.state c.draw_one.new.page (desk.asked c.args.desk.now) (desk.asked c.steps.desk)) (sym conv)
           (so_far_flat _ c.steps.pen.conv c.args.sheet.now _ (left c.steps.expander) c.steps.pen.state c.steps.page _ _ i.so_far
@@ -79,13 +81,13 @@ steps-preserved-in_ok-draw_one-in-Flat-2 g c =
     let flat = seen_flat c.in-Flat.flat in
     let new = c.next.new.self in
     record {
-      unasked = step.unasked;
-      conv = i.conv ∙ ap Some (sym conv);
+      conv = subst (λ (x : Fraction). IsConversionOf (document_units c.args.index.now.res c.args.index.now.reading) x) (sym conv) i.conv;
       fits = i.fits;
       room = omega (arith, i.room, step.asks);
       library = i.library;
       units = i.units;
       faults = i.faults;
+      trail = i.trail;
       so_far = subst (λ (x : Fraction). IsSoFar (IsFontOf (desk.library c.args.desk.now) (desk.units c.args.desk.now)) x c.args.sheet.now
           (course_of c.args.index.now.reading c.args.i) (left new) c.draw_one.new.pen.state c.draw_one.new.page (desk.asked c.args.desk.now) (desk.asked c.steps.desk)) (sym conv)
           (so_far_flat _ c.steps.pen.conv c.args.sheet.now _ (left c.steps.expander) c.steps.pen.state c.steps.page _ _ i.so_far
@@ -117,13 +119,15 @@ steps-preserved g c =
     let d = arc_value c.in-Ok-font.font in
     let rest : left c.answer.new.self ≡ answered (left c.steps.expander) d = c.answer.ensures.rest ∙ ap (λ (x : Course). answered x d) step.left in
     record {
-      unasked = c.answer.ensures.unasked;
       conv = i.conv;
       fits = font.still_fits;
       room = omega (arith, i.room, font.room, c.answer.ensures.asks, step.asks);
       library = font.same_library ∙ i.library;
       units = font.same_units ∙ i.units;
       faults = omega (arith, i.faults, font.cause.never_falls);
+      trail = trail_more (Unit {0}) (desk.asked c.args.desk.now) (desk.asked c.steps.desk) (desk.asked c.font.new.self)
+          (desk.trail c.args.desk.now) (desk.trail c.steps.desk) (desk.trail c.font.new.self) i.trail
+          (trail_as (Unit {0}) _ (desk.asked c.steps.desk) (desk.asked c.font.new.self) (desk.trail c.steps.desk) (desk.trail c.font.new.self) (λ w. refl) font.trail);
       so_far = so_far_same _ _ _ _ _ _ _ _ _
           (so_far_look _ c.steps.pen.conv c.args.sheet.now _ (left c.steps.expander) c.steps.pen.state c.steps.page _ _ i.so_far _ _ _ d _ step.asked found font.asked)
           (left c.answer.new.self) rest;
@@ -149,3 +153,43 @@ returns-in-Stop-clause-stop g c =
     let step = rw c.in-Stop.is at c.in-Ok-next.ensures.step in
     stop_drawn _ c.steps.pen.conv c.args.sheet.now c.args.index.now c.args.i (left c.steps.expander) c.steps.pen.state c.steps.page _ _ i.so_far i.conv
     c.in-Stop.fault c.next.new.self.at c.at-in-Stop.result step.0 c.at-in-Stop.ensures
+
+pub returns-in_default-clause-trail : goal.returns-in_default-clause-trail
+returns-in_default-clause-trail g c = trail_none _ (g.D.Desk.asked c.args.desk.now) (g.D.Desk.trail c.args.desk.now)
+
+pub returns-in_default-new-clause-trail : goal.returns-in_default-new-clause-trail
+returns-in_default-new-clause-trail g c = trail_none _ (g.D.Desk.asked c.args.desk.now) (g.D.Desk.trail c.args.desk.now)
+
+pub returns-in_default-next-clause-trail : goal.returns-in_default-next-clause-trail
+returns-in_default-next-clause-trail g c =
+    let desk = g.D.Desk in
+    trail_as _ (Unit {0}) (desk.asked c.args.desk.now) (desk.asked c.steps.desk) (desk.trail c.args.desk.now) (desk.trail c.steps.desk) (λ w. tt) c.steps.invariant.trail
+
+pub returns-in_err-draw_one-in-Flat-clause-trail : goal.returns-in_err-draw_one-in-Flat-clause-trail
+returns-in_err-draw_one-in-Flat-clause-trail g c =
+    let desk = g.D.Desk in
+    trail_as _ (Unit {0}) (desk.asked c.args.desk.now) (desk.asked c.steps.desk) (desk.trail c.args.desk.now) (desk.trail c.steps.desk) (λ w. tt) c.steps.invariant.trail
+
+pub returns-in-End-clause-trail : goal.returns-in-End-clause-trail
+returns-in-End-clause-trail g c =
+    let desk = g.D.Desk in
+    trail_as _ (Unit {0}) (desk.asked c.args.desk.now) (desk.asked c.steps.desk) (desk.trail c.args.desk.now) (desk.trail c.steps.desk) (λ w. tt) c.steps.invariant.trail
+
+pub returns-in-Stop-clause-trail : goal.returns-in-Stop-clause-trail
+returns-in-Stop-clause-trail g c =
+    let desk = g.D.Desk in
+    trail_as _ (Unit {0}) (desk.asked c.args.desk.now) (desk.asked c.steps.desk) (desk.trail c.args.desk.now) (desk.trail c.steps.desk) (λ w. tt) c.steps.invariant.trail
+
+pub returns-in-Err-SourceFault-clause-trail : goal.returns-in-Err-SourceFault-clause-trail
+returns-in-Err-SourceFault-clause-trail g c =
+    let desk = g.D.Desk in
+    trail_more ⊥ (desk.asked c.args.desk.now) (desk.asked c.steps.desk) (desk.asked c.font.new.self)
+    (desk.trail c.args.desk.now) (desk.trail c.steps.desk) (desk.trail c.font.new.self) c.steps.invariant.trail
+    (trail_as ⊥ _ (desk.asked c.steps.desk) (desk.asked c.font.new.self) (desk.trail c.steps.desk) (desk.trail c.font.new.self) (λ w. absurd w) c.in-Err-SourceFault.ensures.trail)
+
+pub returns-in-Err-NoMemory-clause-trail : goal.returns-in-Err-NoMemory-clause-trail
+returns-in-Err-NoMemory-clause-trail g c =
+    let desk = g.D.Desk in
+    trail_more ⊥ (desk.asked c.args.desk.now) (desk.asked c.steps.desk) (desk.asked c.font.new.self)
+    (desk.trail c.args.desk.now) (desk.trail c.steps.desk) (desk.trail c.font.new.self) c.steps.invariant.trail
+    (trail_as ⊥ _ (desk.asked c.steps.desk) (desk.asked c.font.new.self) (desk.trail c.steps.desk) (desk.trail c.font.new.self) (λ w. absurd w) c.in-Err-NoMemory.ensures.trail)

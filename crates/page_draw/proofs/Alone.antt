@@ -1,0 +1,156 @@
+-- What the only seat of a cache did for a key, and that it is still alone.
+use Rattle.std.proofs.Common.{◌≡◌, inl, inr, ℕ, ◌*◌, nat_eq, List, [], ◌∷◌, ◌++◌, Option, Some, None, refl, sym, ap, subst, ◌∙◌, arith, append_assoc, append-nil}
+use Rattle.std.specs.Prelude.{Result, Ok, Err, IfOk, IsOk, OnOk, OnErr}
+use Rattle.std.specs.Map.{remove_entry}
+use Rattle.outside.specs.Library.{Files}
+use Rattle.outside.specs.declared.keys.FontKey.{FontKey}
+use Rattle.pixel_round.specs.declared.units.Units.{Units}
+use Rattle.cache_core.specs.declared.calls.Call.{Call}
+use Rattle.cache_core.specs.declared.calls.Done.{Done}
+use Rattle.cache_core.specs.declared.calls.Done.TheVariants.{Hit, Claimed, Busy, Filled, Released}
+use Rattle.cache_core.specs.Machine.{claim_of, Legal}
+use Rattle.cache_core.specs.Histories.{AreOf, NoneReleased, NoneBusy, SeatCalls, look_of, looks}
+use Rattle.cache_core.specs.States.{Cache, IsReached, StateStands, call}
+use Rattle.font_decode.specs.Desks.{GrewBy, ReleasedLast, misses, Loaded, TrailGrew}
+use Rattle.font_decode.specs.Loads.{RoseUpTo}
+use Rattle.font_decode.specs.declared.decoded.Decoded.{Decoded}
+use Rattle.page_draw.specs.SoloDesks.{IsAlone, asked_by, part_of, stands_so, trail_by}
+
+looks-append : (xs ys : List Call) → looks (xs ++ ys) ≡ looks xs ++ looks ys
+looks-append [] ys = refl
+looks-append (c ∷ xs) ys = ap (λ (l : List FontKey). look_of c.key c.done ++ l) (looks-append xs ys) ∙ sym (append_assoc (look_of c.key c.done) (looks xs) (looks ys))
+
+of_more : (seat : ℕ) (xs ys : List Call) → AreOf seat xs → AreOf seat ys → AreOf seat (xs ++ ys)
+of_more seat [] ys p q = q
+of_more seat (c ∷ xs) ys p q = (p.0, of_more seat xs ys p.1 q)
+
+-- ---- the calls by which the history grew
+
+module _ (c d : Cache Decoded) (calls : List Call) (grew : d.history ≡ c.history ++ calls) (same : d.capacity ≡ c.capacity) where
+  pub asked_grew : (keys : List FontKey) → looks calls ≡ keys → GrewBy (asked_by c) (asked_by d) keys
+  asked_grew keys e = ap Some (ap looks grew ∙ looks-append c.history calls ∙ ap (λ (l : List FontKey). looks c.history ++ l) e)
+
+  trail_grew : (W : Type 0) (keys : List FontKey) (l m : ℕ) → looks calls ≡ keys → AreOf 1 calls → SeatCalls keys calls → ReleasedLast calls
+      → (W → NoneReleased calls) → Loaded (5 * misses calls) l m l m → TrailGrew W (asked_by c) (asked_by d) (trail_by l c) (trail_by m d)
+  trail_grew W keys l m looked mine for_keys last answered loaded = (
+    record { seat = 1; capacity = d.capacity; calls = d.history; loads = m; counted = m },
+    refl,
+    record {
+      keys = keys;
+      grew = asked_grew keys looked;
+      went = record { seat = refl; capacity = same; calls = calls; grew = grew; own = mine; for_keys = for_keys; last = last; answered = answered; loaded = loaded };
+    },
+  )
+
+  -- the seat is alone afterwards
+  pub alone_later : (l m : Option Files) (u : Units) → IsAlone l u c → m ≡ l → claim_of 1 d.claims ≡ None → AreOf 1 calls
+      → (StateStands stands_so c (part_of l u c.capacity) → StateStands stands_so d (part_of l u c.capacity)) → IsAlone m u d
+  alone_later l m u h told free mine stands = record {
+    units = h.units;
+    free = free;
+    own = subst (AreOf 1) (sym grew) (of_more 1 c.history calls h.own mine);
+    stands = subst (λ (o : Option Files). StateStands stands_so d (part_of o u d.capacity)) (sym told)
+        (subst (λ (n : ℕ). StateStands stands_so d (part_of l u n)) (sym same) (stands h.stands));
+  }
+
+-- a count that is both
+both_loaded : (most l m : ℕ) → RoseUpTo most l m → Loaded most l m l m
+both_loaded most l m r = record { loads = r; counted = r; same = λ low. omega arith }
+
+nothing_loaded : (l : ℕ) → Loaded 0 l l l l
+nothing_loaded l = both_loaded 0 l l (record { most = omega arith; never_falls = omega arith })
+
+-- ---- one key
+
+module _ (W : Type 0) (k : FontKey) (c d : Cache Decoded) (l m : ℕ) (capacity : d.capacity ≡ c.capacity) where
+  abbrev Tells : Type 0
+  Tells = TrailGrew W (asked_by c) (asked_by d) (trail_by l c) (trail_by m d)
+
+  -- the look was refused
+  pub refused_trail : d.history ≡ c.history → m ≡ l → Tells
+  refused_trail same loads =
+      trail_grew c d [] (same ∙ sym (append-nil c.history)) capacity W [] l m refl tt refl tt (λ w. tt) (subst (λ (x : ℕ). Loaded 0 l x l x) (sym loads) (nothing_loaded l))
+
+  pub hit_trail : d.history ≡ c.history ++ call 1 k Hit ∷ [] → m ≡ l → Tells
+  hit_trail grew loads =
+      trail_grew c d (call 1 k Hit ∷ []) grew capacity W (k ∷ []) l m refl (refl, tt)
+      (call 1 k Hit ∷ [], [], refl, inl (call 1 k Hit, refl, refl, inl refl), refl) (inl refl) (λ w. ((λ e. cc), tt)) (subst (λ (x : ℕ). Loaded 0 l x l x) (sym loads) (nothing_loaded l))
+
+-- the claim's call, and the one that ends it
+pub two_calls : (k : FontKey) (done : Done) (c u d : Cache Decoded) → u.history ≡ c.history ++ call 1 k Claimed ∷ [] → d.history ≡ u.history ++ call 1 k done ∷ []
+    → d.history ≡ c.history ++ call 1 k Claimed ∷ call 1 k done ∷ []
+two_calls k done c u d first second =
+    second ∙ ap (λ (l : List Call). l ++ call 1 k done ∷ []) first ∙ append_assoc c.history (call 1 k Claimed ∷ []) (call 1 k done ∷ [])
+
+module _ (W : Type 0) (k : FontKey) (c u d : Cache Decoded) (l m : ℕ) (claimed : u.history ≡ c.history ++ call 1 k Claimed ∷ []) (capacity : d.capacity ≡ c.capacity) (loads : RoseUpTo 5 l m) where
+  pub filled_trail : (gone : Option FontKey) → d.history ≡ u.history ++ call 1 k (Filled gone) ∷ [] → TrailGrew W (asked_by c) (asked_by d) (trail_by l c) (trail_by m d)
+  filled_trail gone filled =
+      let f = call 1 k Claimed in
+      let s = call 1 k (Filled gone) in
+      trail_grew c d (f ∷ s ∷ []) (two_calls k (Filled gone) c u d claimed filled) capacity W (k ∷ []) l m refl (refl, (refl, tt))
+      (f ∷ s ∷ [], [], refl, inr (f, s, refl, refl, refl, refl, inl (gone, refl)), refl) (inr ((λ e. cc), inl refl)) (λ w. ((λ e. cc), ((λ e. cc), tt))) (both_loaded 5 l m loads)
+
+  pub released_trail : (W → ⊥) → d.history ≡ u.history ++ call 1 k Released ∷ [] → TrailGrew W (asked_by c) (asked_by d) (trail_by l c) (trail_by m d)
+  released_trail never released =
+      let f = call 1 k Claimed in
+      let s = call 1 k Released in
+      trail_grew c d (f ∷ s ∷ []) (two_calls k Released c u d claimed released) capacity W (k ∷ []) l m refl (refl, (refl, tt))
+      (f ∷ s ∷ [], [], refl, inr (f, s, refl, refl, refl, refl, inr refl), refl) (inr ((λ e. cc), inl refl)) (λ w. absurd (never w)) (both_loaded 5 l m loads)
+
+-- ---- however a claim was ended
+
+module _ (k : FontKey) (c u d : Cache Decoded) (claimed : u.history ≡ c.history ++ call 1 k Claimed ∷ []) (capacity : d.capacity ≡ c.capacity) where
+  pub ended_asked : (done : Done) → look_of k done ≡ [] → d.history ≡ u.history ++ call 1 k done ∷ [] → GrewBy (asked_by c) (asked_by d) (k ∷ [])
+  ended_asked done none ended =
+      asked_grew c d (call 1 k Claimed ∷ call 1 k done ∷ []) (two_calls k done c u d claimed ended) capacity (k ∷ []) (ap (λ (l : List FontKey). k ∷ (l ++ [])) none)
+
+  pub ended_alone : (done : Done) (l m : Option Files) (v : Units) → IsAlone l v c → m ≡ l
+      → u.claims ≡ (1, k) ∷ c.claims → d.claims ≡ remove_entry (nat_eq 1) u.claims → d.history ≡ u.history ++ call 1 k done ∷ []
+      → (StateStands stands_so c (part_of l v c.capacity) → StateStands stands_so d (part_of l v c.capacity)) → IsAlone m v d
+  ended_alone done l m v h same taken freed ended stands =
+      alone_later c d (call 1 k Claimed ∷ call 1 k done ∷ []) (two_calls k done c u d claimed ended) capacity l m v h same
+      (ap (claim_of 1) (freed ∙ ap (remove_entry (nat_eq 1)) taken) ∙ h.free) (refl, (refl, tt)) stands
+
+  module _ {A E : Type 0} (result : Result A E)
+      (filled : IfOk result (λ _. (gone : Option FontKey) × (d.history ≡ u.history ++ call 1 k (Filled gone) ∷ [])))
+      (released : OnErr result (d.history ≡ u.history ++ call 1 k Released ∷ [])) where
+    abbrev Ended : Type 0
+    Ended = (done : Done) × (look_of k done ≡ []) × (d.history ≡ u.history ++ call 1 k done ∷ [])
+
+    pub which : Ended
+    which =
+        elim result as (λ (r : Result A E). IfOk r (λ _. (gone : Option FontKey) × (d.history ≡ u.history ++ call 1 k (Filled gone) ∷ []))
+        → OnErr r (d.history ≡ u.history ++ call 1 k Released ∷ []) → Ended) [
+          | Ok x ↦ λ f r. (Filled f.0, refl, f.1)
+          | Err e ↦ λ f r. (Released, refl, r)
+        ] filled released
+
+    pub kept_trail : (l m : ℕ) → RoseUpTo 5 l m → TrailGrew (IsOk result) (asked_by c) (asked_by d) (trail_by l c) (trail_by m d)
+    kept_trail l m loads =
+        elim result as (λ (r : Result A E). IfOk r (λ _. (gone : Option FontKey) × (d.history ≡ u.history ++ call 1 k (Filled gone) ∷ []))
+        → OnErr r (d.history ≡ u.history ++ call 1 k Released ∷ []) → TrailGrew (IsOk r) (asked_by c) (asked_by d) (trail_by l c) (trail_by m d)) [
+          | Ok x ↦ λ f r. filled_trail _ k c u d l m claimed capacity loads f.0 f.1
+          | Err e ↦ λ f r. released_trail _ k c u d l m claimed capacity loads (λ w. cc) r
+        ] filled released
+
+-- what is so is so of either answer
+pub on_ok : {A E : Type 0} (P : Type 0) (r : Result A E) → P → OnOk r P
+on_ok P (Ok x) p = p
+on_ok P (Err e) p = tt
+
+pub on_err : {A E : Type 0} (P : Type 0) (r : Result A E) → P → OnErr r P
+on_err P (Ok x) p = tt
+on_err P (Err e) p = p
+
+-- ---- no look is busy
+
+last_busy : (xs : List Call) (k : FontKey) → NoneBusy (xs ++ call 1 k Busy ∷ []) → ⊥
+last_busy [] k h = h.0 refl
+last_busy (c ∷ xs) k h = last_busy xs k h.1
+
+pub never_busy : (c d : Cache Decoded) (k : FontKey) → AreOf 1 c.history → d.history ≡ c.history ++ call 1 k Busy ∷ [] → IsReached d
+    → ((capacity seat : ℕ) (history : List Call) → Legal capacity history → AreOf seat history → NoneBusy history) → ⊥
+never_busy c d k own grew reached law =
+    let legal : Legal d.capacity d.history = rw reached refl in
+    let mine : AreOf 1 d.history = subst (AreOf 1) (sym grew) (of_more 1 c.history (call 1 k Busy ∷ []) own (refl, tt)) in
+    last_busy c.history k (subst NoneBusy grew (law d.capacity 1 d.history legal mine))

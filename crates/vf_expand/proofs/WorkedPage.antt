@@ -1,0 +1,80 @@
+-- The worked page, from the definition.
+use Rattle.std.proofs.Common.{◌≡◌, ℕ, ◌/◌, pos, Bool, true, false, List, [], ◌∷◌, refl, ap, ◌∙◌, Option, Some, None}
+use Rattle.outside.specs.declared.keys.FontKey.{FontKey}
+use Rattle.dvi_commands.specs.Spelling.{Font, Put, Right, Set}
+use Rattle.dvi_commands.specs.Reading.{Placed, placed}
+use Rattle.drift_rules.specs.Position as flat
+use Rattle.page_index.specs.Document.{Reading, font_table}
+use Rattle.pk_runs.specs.declared.glyph.Glyph.{Glyph}
+use Rattle.font_decode.specs.Fonts.{FontSeen, width_of, glyph_at}
+use Rattle.font_decode.specs.declared.decoded.Decoded.{Decoded}
+use Rattle.font_decode.specs.declared.decoded.Decoded.TheVariants as decoded
+use Rattle.vf_expand.specs.Course.{Current, Known, NoFont, Chosen}
+use Rattle.vf_expand.specs.Members.{Member, Flat, Look}
+use Rattle.vf_expand.specs.PageLists.{AtEnd, Fonts, Outcome, Goes, PageList, after_look, before, full_list, joined, limited, no_more, of_change, of_command, of_found, of_glyph, of_width}
+use Rattle.vf_expand.specs.Laws.{IsWorked, ThePageIsWorked, worked}
+
+-- the character of the font
+char_at : ℕ → FontKey → Glyph → Bool → Member
+char_at at k g put = Flat (flat.Char k 65 (pos 8) put) (Some g) at
+
+gives : (at : ℕ) (k : FontKey) (f : FontSeen) (g : Glyph) (put : Bool) → width_of f (pos 65) ≡ Some (pos 8) → glyph_at f 65 ≡ Some g
+    → of_found at k (decoded.Font f) (pos 65) put ≡ Goes (char_at at k g put ∷ []) (Known k (decoded.Font f))
+unfolding char_at
+gives at k f g put width glyph = ap (of_width at k f (pos 65) put) width ∙ ap (of_glyph at k (decoded.Font f) (pos 65) (pos 8) put) glyph
+
+module _ (fonts : Fonts) (reading : Reading) where
+  -- one command more
+  goes : (p : Placed) (commands : List Placed) (current next : Current) (members : List Member) (list : PageList)
+      → of_command fonts reading p.at current p.command ≡ Goes members next → full_list fonts reading 68 next commands ≡ list
+      → full_list fonts reading 68 current (p ∷ commands) ≡ before members list
+  goes p commands current next members list e rest =
+      ap (λ (o : Outcome). joined p.at o (λ now. full_list fonts reading 68 now commands)) e ∙ ap (before members) rest
+
+  module _ (k : FontKey) (f : FontSeen) (g : Glyph) (table : font_table reading (pos 7) ≡ Some k) (found : fonts k ≡ decoded.Font f)
+      (width : width_of f (pos 65) ≡ Some (pos 8)) (glyph : glyph_at f 65 ≡ Some g) where
+    abbrev known : Current
+    known = Known k (decoded.Font f)
+
+    -- a change to the font, and the look-up that stands before the character
+    changes : (at : ℕ) → of_change at (pos 7) (font_table reading (pos 7)) ≡ Goes (Flat flat.Skip None at ∷ []) (Chosen k)
+    changes at = ap (of_change at (pos 7)) table
+
+    looks : (at : ℕ) → after_look (Look k at) (of_found at k (fonts k) (pos 65) false) ≡ Goes (Look k at ∷ char_at at k g false ∷ []) known
+    looks at =
+        ap (λ (d : Decoded). after_look (Look k at) (of_found at k d (pos 65) false)) found ∙ ap (after_look (Look k at)) (gives at k f g false width glyph)
+
+    abbrev last : List Placed
+    last = placed 67 (Set (pos 65)) (65 ∷ []) ∷ []
+
+    abbrev from_66 : List Placed
+    from_66 = placed 66 (Font (pos 7)) (178 ∷ []) ∷ last
+
+    abbrev from_64 : List Placed
+    from_64 = placed 64 (Right (pos 9)) (143 ∷ 9 ∷ []) ∷ from_66
+
+    abbrev from_62 : List Placed
+    from_62 = placed 62 (Put (pos 65)) (133 ∷ 65 ∷ []) ∷ from_64
+
+    abbrev from_61 : List Placed
+    from_61 = placed 61 (Set (pos 65)) (65 ∷ []) ∷ from_62
+
+    abbrev list_66 : PageList
+    list_66 = before (Flat flat.Skip None 66 ∷ []) (before (Look k 67 ∷ char_at 67 k g false ∷ []) (no_more (AtEnd 68)))
+
+    from_font : full_list fonts reading 68 known from_66 ≡ list_66
+    from_font = goes (placed 66 (Font (pos 7)) (178 ∷ [])) last known (Chosen k) (Flat flat.Skip None 66 ∷ []) _ (changes 66)
+        (goes (placed 67 (Set (pos 65)) (65 ∷ [])) [] (Chosen k) known (Look k 67 ∷ char_at 67 k g false ∷ []) _ (looks 67) refl)
+
+    all_of_it : full_list fonts reading 68 NoFont worked ≡ before (Flat flat.Skip None 60 ∷ []) (before (Look k 61 ∷ char_at 61 k g false ∷ [])
+        (before (char_at 62 k g true ∷ []) (before (Flat (flat.Right (pos 9) (pos (k.size / 6))) None 64 ∷ []) list_66)))
+    all_of_it = goes (placed 60 (Font (pos 7)) (178 ∷ [])) from_61 NoFont (Chosen k) (Flat flat.Skip None 60 ∷ []) _ (changes 60)
+        (goes (placed 61 (Set (pos 65)) (65 ∷ [])) from_62 (Chosen k) known (Look k 61 ∷ char_at 61 k g false ∷ []) _ (looks 61)
+        (goes (placed 62 (Put (pos 65)) (133 ∷ 65 ∷ [])) from_64 known known (char_at 62 k g true ∷ []) _ (gives 62 k f g true width glyph)
+        (goes (placed 64 (Right (pos 9)) (143 ∷ 9 ∷ [])) from_66 known known (Flat (flat.Right (pos 9) (pos (k.size / 6))) None 64 ∷ []) _ refl from_font)))
+
+pub the_page_is_worked : ThePageIsWorked
+unfolding char_at
+the_page_is_worked fonts reading k f g table found width glyph =
+    let whole = all_of_it fonts reading k f g table found width glyph in
+    record { whole = whole; cut = ap (λ (list : PageList). limited 5 list.members list.ending) whole }

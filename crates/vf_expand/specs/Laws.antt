@@ -1,0 +1,72 @@
+-- What is true of a page's course and its list.
+use Rattle.std.specs.Prelude.{◌≡◌, ℕ, ◌/◌, pos, true, false, List, [], ◌∷◌, ◌++◌, Some, None}
+use Rattle.outside.specs.Library as library
+use Rattle.outside.specs.declared.keys.FontKey.{FontKey}
+use Rattle.pixel_round.specs.declared.units.Units.{Units}
+use Rattle.dvi_commands.specs.Spelling.{Font, Put, Right, Set}
+use Rattle.dvi_commands.specs.Reading.{Placed, placed}
+use Rattle.drift_rules.specs.Position as flat
+use Rattle.page_index.specs.Document.{Reading, font_table}
+use Rattle.pk_runs.specs.declared.glyph.Glyph.{Glyph}
+use Rattle.font_decode.specs.Decoding.{IsFontIn}
+use Rattle.font_decode.specs.Fonts.{FontSeen, width_of, glyph_at}
+use Rattle.font_decode.specs.declared.decoded.Decoded.TheVariants as decoded
+use Rattle.font_decode.specs.Laws.{AreByteFiles}
+use Rattle.vf_expand.specs.Faults.{TooLong}
+use Rattle.vf_expand.specs.Course.{Course, NoFont, course_of}
+use Rattle.vf_expand.specs.Members.{Member, Flat, Look, Leads, looks_of}
+use Rattle.vf_expand.specs.PageLists.{AtEnd, AtFault, Fonts, before, full_list, limited, list_from, list_of, no_more}
+
+-- whatever the fonts are, the course of a page comes to its list
+abbrev pub CoursesAreLists : Type 0
+CoursesAreLists = (fonts : Fonts) (reading : Reading) (i : ℕ) → list_from fonts (course_of reading i) ≡ list_of fonts reading i
+
+-- the fonts of a library
+abbrev pub AreFontsIn : library.Files → Units → Fonts → Type 0
+AreFontsIn l u fonts = (k : FontKey) → IsFontIn l u k (fonts k)
+
+abbrev pub LibrariesHaveFonts : Type 0
+LibrariesHaveFonts = (l : library.Files) (u : Units) → AreByteFiles l → (fonts : Fonts) × AreFontsIn l u fonts
+
+-- members that are followed over a library are the first of the page's list, and what is left of the course is the rest of it
+abbrev pub MembersAreTheList : Type 0
+MembersAreTheList = (l : library.Files) (u : Units) (fonts : Fonts) (reading : Reading) (i : ℕ) (members : List Member) (to : Course) → AreFontsIn l u fonts
+    → Leads (IsFontIn l u) (course_of reading i) members to → list_of fonts reading i ≡ before members (list_from fonts to)
+
+-- so the look-ups of a page that was broken off are the first of the page's look-ups
+abbrev pub LooksAreThePages : Type 0
+LooksAreThePages = (l : library.Files) (u : Units) (fonts : Fonts) (reading : Reading) (i : ℕ) (members : List Member) (to : Course) → AreFontsIn l u fonts
+    → Leads (IsFontIn l u) (course_of reading i) members to
+    → looks_of (list_of fonts reading i).members ≡ looks_of members ++ looks_of (list_from fonts to).members
+
+-- and a page can be followed to the end of its list
+abbrev pub ListsAreFollowed : Type 0
+ListsAreFollowed = (l : library.Files) (u : Units) (fonts : Fonts) (reading : Reading) (i : ℕ) → AreFontsIn l u fonts
+    → (to : Course) × Leads (IsFontIn l u) (course_of reading i) (list_of fonts reading i).members to
+    × (list_from fonts to ≡ no_more (list_of fonts reading i).ending)
+
+-- ---- a worked page
+
+-- font 7, the character 65 set and put, a motion, font 7 again, and the character once more; each with its position, and Eop at 68
+abbrev pub worked : List Placed
+worked =
+    placed 60 (Font (pos 7)) (178 ∷ []) ∷ placed 61 (Set (pos 65)) (65 ∷ []) ∷ placed 62 (Put (pos 65)) (133 ∷ 65 ∷ []) ∷ placed 64 (Right (pos 9)) (143 ∷ 9 ∷ [])
+    ∷ placed 66 (Font (pos 7)) (178 ∷ []) ∷ placed 67 (Set (pos 65)) (65 ∷ []) ∷ []
+
+-- it looks its font up twice, and gives a flat command for each command; where five may be given it is too long at the second look-up
+pub record IsWorked (fonts : Fonts) (reading : Reading) (k : FontKey) (g : Glyph) : Type 0 where
+  pub whole : full_list fonts reading 68 NoFont worked ≡ record {
+    members = Flat flat.Skip None 60 ∷ Look k 61 ∷ Flat (flat.Char k 65 (pos 8) false) (Some g) 61 ∷ Flat (flat.Char k 65 (pos 8) true) (Some g) 62
+        ∷ Flat (flat.Right (pos 9) (pos (k.size / 6))) None 64 ∷ Flat flat.Skip None 66 ∷ Look k 67 ∷ Flat (flat.Char k 65 (pos 8) false) (Some g) 67 ∷ [];
+    ending = AtEnd 68;
+  }
+  pub cut : limited 5 (full_list fonts reading 68 NoFont worked).members (full_list fonts reading 68 NoFont worked).ending ≡ record {
+    members = Flat flat.Skip None 60 ∷ Look k 61 ∷ Flat (flat.Char k 65 (pos 8) false) (Some g) 61 ∷ Flat (flat.Char k 65 (pos 8) true) (Some g) 62
+        ∷ Flat (flat.Right (pos 9) (pos (k.size / 6))) None 64 ∷ Flat flat.Skip None 66 ∷ [];
+    ending = AtFault TooLong 67;
+  }
+
+-- where font 7 has the key k, whose font has a width of 8 and a glyph for 65
+abbrev pub ThePageIsWorked : Type 0
+ThePageIsWorked = (fonts : Fonts) (reading : Reading) (k : FontKey) (f : FontSeen) (g : Glyph) → font_table reading (pos 7) ≡ Some k → fonts k ≡ decoded.Font f
+    → width_of f (pos 65) ≡ Some (pos 8) → glyph_at f 65 ≡ Some g → IsWorked fonts reading k g
