@@ -1,0 +1,147 @@
+-- What a seat did for a key, by its own calls.
+use Rattle.std.proofs.Common.{◌≡◌, inl, inr, ℕ, ◌*◌, List, [], ◌∷◌, ◌++◌, Option, Some, refl, sym, ap, subst, ◌∙◌, arith, append_assoc, append-nil}
+use Rattle.std.specs.Prelude.{Result, Ok, Err, IfOk, IsOk, OnOk, OnErr}
+use Rattle.outside.specs.declared.keys.FontKey.{FontKey}
+use Rattle.cache_core.specs.declared.calls.Call.{Call}
+use Rattle.cache_core.specs.declared.common.Common.{Common}
+use Rattle.cache_core.specs.declared.calls.Done.{Done}
+use Rattle.cache_core.specs.declared.calls.Done.TheVariants.{Hit, Claimed, Busy, Filled, Released}
+use Rattle.cache_core.specs.Histories.{own, SeatCalls, AreOf, NoneReleased, look_of, looks}
+use Rattle.cache_core.specs.States.{call}
+use Rattle.turn_lock.specs.Seats.{SeatView}
+use Rattle.font_decode.specs.Desks.{GrewBy, ReleasedLast, misses, Loaded, TrailGrew}
+use Rattle.page_workers.specs.Seats.{own_calls, asked_at, trail_at}
+
+looks-append : (xs ys : List Call) → looks (xs ++ ys) ≡ looks xs ++ looks ys
+looks-append [] ys = refl
+looks-append (c ∷ xs) ys = ap (λ (l : List FontKey). look_of c.key c.done ++ l) (looks-append xs ys) ∙ sym (append_assoc (look_of c.key c.done) (looks xs) (looks ys))
+
+-- the calls by which a seat's own calls grew
+pub record Grew (s t : SeatView) (calls : List Call) : Type 0 where
+  pub number : t.view.number ≡ s.view.number
+  pub capacity : t.view.part.capacity ≡ s.view.part.capacity
+  pub own : own s.view.number t.view.seen ≡ own s.view.number s.view.seen ++ calls
+
+module _ (s t : SeatView) (calls : List Call) (grew : Grew s t calls) where
+  own_grew : own_calls t ≡ own_calls s ++ calls
+  own_grew = ap (λ (n : ℕ). own n t.view.seen) grew.number ∙ grew.own
+
+  pub asked_grew : (keys : List FontKey) → looks calls ≡ keys → GrewBy (asked_at (Some s)) (asked_at (Some t)) keys
+  asked_grew keys e = ap Some (ap looks own_grew ∙ looks-append (own_calls s) calls ∙ ap (λ (l : List FontKey). looks (own_calls s) ++ l) e)
+
+  pub trail_grew : (W : Type 0) (keys : List FontKey) (l m c d : ℕ) → looks calls ≡ keys → AreOf s.view.number calls → SeatCalls keys calls → ReleasedLast calls
+      → (W → NoneReleased calls) → Loaded (5 * misses calls) l m c d → TrailGrew W (asked_at (Some s)) (asked_at (Some t)) (trail_at l c (Some s)) (trail_at m d (Some t))
+  trail_grew W keys l m c d looked mine for_keys last answered loaded = (
+    record { seat = t.view.number; capacity = t.view.part.capacity; calls = own_calls t; loads = m; counted = d },
+    refl,
+    record {
+      keys = keys;
+      grew = asked_grew keys looked;
+      went = record { seat = grew.number; capacity = grew.capacity; calls = calls; grew = own_grew; own = mine; for_keys = for_keys; last = last; answered = answered; loaded = loaded };
+    },
+  )
+
+-- no load at all
+pub nothing_loaded : (l c : ℕ) → Loaded 0 l l c c
+nothing_loaded l c = record {
+  loads = record { most = omega arith; never_falls = omega arith };
+  counted = record { most = omega arith; never_falls = omega arith };
+  same = λ low. omega arith;
+}
+
+-- ---- one key
+
+module _ (W : Type 0) (k : FontKey) (s t : SeatView) (l m c d : ℕ) where
+  abbrev Tells : Type 0
+  Tells = TrailGrew W (asked_at (Some s)) (asked_at (Some t)) (trail_at l c (Some s)) (trail_at m d (Some t))
+
+  -- the look was refused
+  pub refused_grew : Grew s t [] → m ≡ l → d ≡ c → Tells
+  refused_grew grew same counted =
+      trail_grew s t [] grew W [] l m c d refl tt refl tt (λ w. tt)
+      (subst (λ (x : ℕ). Loaded 0 l x c d) (sym same) (subst (λ (x : ℕ). Loaded 0 l l c x) (sym counted) (nothing_loaded l c)))
+
+  pub hit_grew : Grew s t (call s.view.number k Hit ∷ []) → m ≡ l → d ≡ c → Tells
+  hit_grew grew same counted =
+      trail_grew s t (call s.view.number k Hit ∷ []) grew W (k ∷ []) l m c d refl (refl, tt)
+      (call s.view.number k Hit ∷ [], [], refl, inl (call s.view.number k Hit, refl, refl, inl refl), refl) (inl refl) (λ w. ((λ e. cc), tt))
+      (subst (λ (x : ℕ). Loaded 0 l x c d) (sym same) (subst (λ (x : ℕ). Loaded 0 l l c x) (sym counted) (nothing_loaded l c)))
+
+  pub busy_grew : Grew s t (call s.view.number k Busy ∷ []) → Loaded 5 l m c d → Tells
+  busy_grew grew loaded =
+      trail_grew s t (call s.view.number k Busy ∷ []) grew W (k ∷ []) l m c d refl (refl, tt)
+      (call s.view.number k Busy ∷ [], [], refl, inl (call s.view.number k Busy, refl, refl, inr refl), refl) (inl refl) (λ w. ((λ e. cc), tt)) loaded
+
+  pub filled_grew : (gone : Option FontKey) → Grew s t (call s.view.number k Claimed ∷ call s.view.number k (Filled gone) ∷ []) → Loaded 5 l m c d → Tells
+  filled_grew gone grew loaded =
+      let first = call s.view.number k Claimed in
+      let second = call s.view.number k (Filled gone) in
+      trail_grew s t (first ∷ second ∷ []) grew W (k ∷ []) l m c d refl (refl, (refl, tt))
+      (first ∷ second ∷ [], [], refl, inr (first, second, refl, refl, refl, refl, inl (gone, refl)), refl) (inr ((λ e. cc), inl refl)) (λ w. ((λ e. cc), ((λ e. cc), tt))) loaded
+
+  pub released_grew : (W → ⊥) → Grew s t (call s.view.number k Claimed ∷ call s.view.number k Released ∷ []) → Loaded 5 l m c d → Tells
+  released_grew never grew loaded =
+      let first = call s.view.number k Claimed in
+      let second = call s.view.number k Released in
+      trail_grew s t (first ∷ second ∷ []) grew W (k ∷ []) l m c d refl (refl, (refl, tt))
+      (first ∷ second ∷ [], [], refl, inr (first, second, refl, refl, refl, refl, inr refl), refl) (inr ((λ e. cc), inl refl)) (λ w. absurd (never w)) loaded
+
+-- ---- a look, and what ended the claim
+
+-- what is so is so of either answer
+pub on_ok : {A E : Type 0} (P : Type 0) (r : Result A E) → P → OnOk r P
+on_ok P (Ok x) p = p
+on_ok P (Err e) p = tt
+
+pub on_err : {A E : Type 0} (P : Type 0) (r : Result A E) → P → OnErr r P
+on_err P (Ok x) p = tt
+on_err P (Err e) p = p
+
+pub one_call : (s t : SeatView) (c : Call) → t.view.number ≡ s.view.number → t.view.part ≡ s.view.part → own s.view.number t.view.seen ≡ own s.view.number s.view.seen ++ c ∷ [] → Grew s t (c ∷ [])
+one_call s t c number part more = record { number = number; capacity = ap (λ (p : Common). p.capacity) part; own = more }
+
+pub no_call : (s t : SeatView) → t.view.number ≡ s.view.number → t.view.part ≡ s.view.part → own s.view.number t.view.seen ≡ own s.view.number s.view.seen → Grew s t []
+no_call s t number part same = record { number = number; capacity = ap (λ (p : Common). p.capacity) part; own = same ∙ sym (append-nil (own s.view.number s.view.seen)) }
+
+module _ (k : FontKey) (s u t : SeatView) (first : Grew s u (call s.view.number k Claimed ∷ [])) (number : t.view.number ≡ u.view.number) (part : t.view.part ≡ u.view.part) where
+  pub two_calls : (d : Done) → own u.view.number t.view.seen ≡ own u.view.number u.view.seen ++ call u.view.number k d ∷ []
+      → Grew s t (call s.view.number k Claimed ∷ call s.view.number k d ∷ [])
+  two_calls d more =
+      let n = s.view.number in
+      let here : own n t.view.seen ≡ own n u.view.seen ++ call n k d ∷ [] =
+      subst (λ (j : ℕ). own j t.view.seen ≡ own j u.view.seen ++ call j k d ∷ []) first.number more in
+      record {
+        number = number ∙ first.number;
+        capacity = ap (λ (p : Common). p.capacity) part ∙ first.capacity;
+        own = here ∙ ap (λ (l : List Call). l ++ call n k d ∷ []) first.own ∙ append_assoc (own n s.view.seen) (call n k Claimed ∷ []) (call n k d ∷ []);
+      }
+
+  -- the key was asked, however its claim ended
+  pub ended_asked : (d : Done) → look_of k d ≡ [] → own u.view.number t.view.seen ≡ own u.view.number u.view.seen ++ call u.view.number k d ∷ []
+      → GrewBy (asked_at (Some s)) (asked_at (Some t)) (k ∷ [])
+  ended_asked d none more =
+      asked_grew s t (call s.view.number k Claimed ∷ call s.view.number k d ∷ []) (two_calls d more) (k ∷ [])
+      (ap (λ (l : List FontKey). k ∷ (l ++ [])) none)
+
+  module _ {A E : Type 0} (result : Result A E) where
+    pub kept_asked : IfOk result (λ _. (gone : Option FontKey) × (own u.view.number t.view.seen ≡ own u.view.number u.view.seen ++ call u.view.number k (Filled gone) ∷ []))
+        → OnErr result (own u.view.number t.view.seen ≡ own u.view.number u.view.seen ++ call u.view.number k Released ∷ [])
+        → GrewBy (asked_at (Some s)) (asked_at (Some t)) (k ∷ [])
+    kept_asked filled released =
+        elim result as (λ (r : Result A E). IfOk r (λ _. (gone : Option FontKey) × (own u.view.number t.view.seen ≡ own u.view.number u.view.seen ++ call u.view.number k (Filled gone) ∷ []))
+        → OnErr r (own u.view.number t.view.seen ≡ own u.view.number u.view.seen ++ call u.view.number k Released ∷ []) → GrewBy (asked_at (Some s)) (asked_at (Some t)) (k ∷ [])) [
+          | Ok x ↦ λ f r. ended_asked (Filled f.0) refl f.1
+          | Err e ↦ λ f r. ended_asked Released refl r
+        ] filled released
+
+    pub kept_trail : (l m c d : ℕ)
+        → IfOk result (λ _. (gone : Option FontKey) × (own u.view.number t.view.seen ≡ own u.view.number u.view.seen ++ call u.view.number k (Filled gone) ∷ []))
+        → OnErr result (own u.view.number t.view.seen ≡ own u.view.number u.view.seen ++ call u.view.number k Released ∷ []) → Loaded 5 l m c d
+        → TrailGrew (IsOk result) (asked_at (Some s)) (asked_at (Some t)) (trail_at l c (Some s)) (trail_at m d (Some t))
+    kept_trail l m c d filled released loaded =
+        elim result as (λ (r : Result A E). IfOk r (λ _. (gone : Option FontKey) × (own u.view.number t.view.seen ≡ own u.view.number u.view.seen ++ call u.view.number k (Filled gone) ∷ []))
+        → OnErr r (own u.view.number t.view.seen ≡ own u.view.number u.view.seen ++ call u.view.number k Released ∷ [])
+        → TrailGrew (IsOk r) (asked_at (Some s)) (asked_at (Some t)) (trail_at l c (Some s)) (trail_at m d (Some t))) [
+          | Ok x ↦ λ f r. filled_grew _ k s t l m c d f.0 (two_calls (Filled f.0) f.1) loaded
+          | Err e ↦ λ f r. released_grew _ k s t l m c d (λ w. cc) (two_calls Released r) loaded
+        ] filled released

@@ -1,0 +1,64 @@
+-- The font of a key's files is the key's font.
+use Rattle.std.proofs.Common.{◌≡◌, List, [], Bool, true, false, Option, Some, None, Result, Ok, Err, IfOk, refl, sym, ap, subst, ◌∙◌}
+use Rattle.std.specs.Prelude.{IfSome, IsNone, IsSome, ◌&&◌, is_some, is_none, if◌then◌else◌, ℕ}
+use Rattle.std.specs.FinMap.{get}
+use Rattle.outside.specs.Library as library
+use Rattle.outside.specs.declared.keys.FontKey.{FontKey}
+use Rattle.pixel_round.specs.declared.units.Units.{Units}
+use Rattle.font_decode.specs.Names.{is_valid_name, dpi, is_resolution, tfm_name, vf_name, pk_names}
+use Rattle.font_decode.specs.Files.{FontFiles, IsFound, IsInOrder, first_there, pk_choices}
+use Rattle.font_decode.specs.Decoding.{IsDecodingOf, IsFontOf, IsFontBySome, IsFontIn}
+use Rattle.font_decode.specs.declared.decoded.Decoded.{Decoded}
+
+pub found_in : (told : Option library.Files) (u : Units) (k : FontKey) (files : FontFiles) (d : Decoded) → IfSome told (λ l. IsFound l u k files) → IsInOrder u k files → IsDecodingOf u k files d
+    → IsFontOf told (Some u) k d
+found_in None u k files d found order decoding = record { files = files; order = order; decoding = decoding }
+found_in (Some l) u k files d found order decoding = record { files = files; found = found; decoding = decoding }
+
+-- ---- files that are found in a library are found in their order
+
+only_where : (b : Bool) (o x : Option (List ℕ)) → o ≡ (if b then x else None) → IsSome o → b ≡ true
+only_where true o x e some = refl
+only_where false o x e some = let none : Option (List ℕ) = None in let bad : is_some none ≡ true = subst IsSome e some in absurd cc
+
+both : (a b : Bool) → (a && b) ≡ true → (a ≡ true) × (b ≡ true)
+both true true e = (refl, refl)
+both true false e = absurd cc
+both false b e = absurd cc
+
+only_near : (l : library.Files) (b : Bool) (names : List (List ℕ)) (o : Option (List ℕ)) → o ≡ first_there l (if b then names else []) → IsSome o → b ≡ true
+only_near l true names o e some = refl
+only_near l false names o e some = let none : Option (List ℕ) = None in let bad : is_some none ≡ true = subst IsSome e some in absurd cc
+
+none_of : (o : Option (List ℕ)) → is_none o ≡ true → IsNone o
+none_of None e = refl
+none_of (Some x) e = absurd cc
+
+in_order : (l : library.Files) (u : Units) (k : FontKey) (f : FontFiles) → IsFound l u k f → IsInOrder u k f
+in_order l u k f found = record {
+  tfm = only_where (is_valid_name k) f.tfm (get l (tfm_name k)) found.tfm;
+  vf = only_where (is_some f.tfm) f.vf (get l (vf_name k)) found.vf;
+  pk = λ some.
+      let asked = only_where (is_some f.tfm && is_none f.vf) f.pk (first_there l (pk_choices u k)) found.pk some in
+      let parts = both (is_some f.tfm) (is_none f.vf) asked in
+      let pk = found.pk ∙ ap (λ (b : Bool). if b then first_there l (pk_choices u k) else None) asked in
+      (parts.0, none_of f.vf parts.1, only_near l (is_resolution (dpi u k)) (pk_names u k) f.pk pk some);
+}
+
+-- a font of a library is one by some files
+by_some : (told : Option library.Files) (u : Units) (k : FontKey) (d : Decoded) → IsFontOf told (Some u) k d → IsFontBySome u k d
+by_some None u k d font = font
+by_some (Some l) u k d font = record { files = font.files; order = in_order l u k font.files font.found; decoding = font.decoding }
+
+-- a font by what the source tells is one by what the common part tells, where the source tells as much
+pub as_told : (common told : Option library.Files) (u v : Units) (k : FontKey) (d : Decoded) → IfSome common (λ l. told ≡ Some l) → u ≡ v → IsFontOf told (Some u) k d
+    → IsFontOf common (Some v) k d
+as_told None told u v k d tells same font = subst (λ (w : Units). IsFontBySome w k d) same (by_some told u k d font)
+as_told (Some l) told u v k d tells same font =
+    subst (λ (w : Units). IsFontOf (Some l) (Some w) k d) same (subst (λ (o : Option library.Files). IsFontOf o (Some u) k d) tells font)
+
+-- ---- of a result
+
+pub of_ok : {A E : Type 0} (P Q : A → Type 0) (r : Result A E) → ((a : A) → P a → Q a) → IfOk r P → IfOk r Q
+of_ok P Q (Ok a) f h = f a h
+of_ok P Q (Err e) f h = tt

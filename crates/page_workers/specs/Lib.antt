@@ -1,0 +1,4 @@
+pub mod Counts
+pub mod Seats
+pub mod Rounds
+pub mod Seating

@@ -1,0 +1,73 @@
+-- What a worker tells of its seat at a cache, and when a bench is its own.
+use Rattle.std.specs.Prelude.{◌≡◌, ℕ, ◌-◌, ◌/◌, ◌^◌, min, List, Option, Some, None, IfSome, IsSome, refl}
+use Rattle.outside.specs.Library.{Files}
+use Rattle.outside.specs.declared.keys.FontKey.{FontKey}
+use Rattle.pixel_round.specs.declared.units.Units.{Units}
+use Rattle.cache_core.specs.declared.calls.Call.{Call}
+use Rattle.cache_core.specs.Histories.{own, open_claim, looks}
+use Rattle.turn_lock.specs.Seats.{SeatView}
+use Rattle.turn_lock.specs.declared.view.Stage.TheVariants.{Idle}
+use Rattle.pixel_round.specs.Preamble.{AreUnits}
+use Rattle.font_decode.specs.Desks.{Trail}
+use Rattle.page_workers.specs.declared.bench.Bench.{Bench}
+
+-- ---- what is told of a seat
+
+abbrev pub own_calls : SeatView → List Call
+own_calls s = own s.view.number s.view.seen
+
+abbrev pub library_at : Option SeatView → Option Files
+library_at None = None
+library_at (Some s) = s.view.part.library
+
+abbrev pub units_at : Option SeatView → Option Units
+units_at None = None
+units_at (Some s) = Some s.view.part.units
+
+abbrev pub asked_at : Option SeatView → Option (List FontKey)
+asked_at None = None
+asked_at (Some s) = Some (looks (own_calls s))
+
+-- with the loads that its source counts, and those that the worker has counted
+abbrev pub trail_at : ℕ → ℕ → Option SeatView → Option Trail
+trail_at loads counted None = None
+trail_at loads counted (Some s) =
+    Some (record {
+      seat = s.view.number;
+      capacity = s.view.part.capacity;
+      calls = own_calls s;
+      loads = loads;
+      counted = counted;
+    })
+
+-- how many look-ups there is room for: each takes three turns at most, and eight loads at most
+abbrev pub room_at : ℕ → Option SeatView → ℕ
+room_at counted None = 0
+room_at counted (Some s) = min ((2 ^ 48 - s.view.drawn) / 3) ((2 ^ 62 - counted) / 8)
+
+-- ---- a bench and a seat
+
+-- the seat is of the bench's cache and has neither the turn nor a claim, and the units are those of
+-- its common part. Where that tells a library, the worker's source tells it too
+pub record IsAt (told : Option Files) (bench : Bench) (s : SeatView) : Type 0 where
+  pub lock : s.lock ≡ bench.cache
+  pub idle : s.view.stage ≡ Idle
+  pub free : open_claim (own_calls s) ≡ None
+  pub units : bench.units ≡ s.view.part.units
+  pub sound : AreUnits bench.units
+  pub tells : IfSome s.view.part.library (λ l. told ≡ Some l)
+
+abbrev pub Fits : Option Files → Bench → Option SeatView → Type 0
+Fits told bench None = ⊥
+Fits told bench (Some s) = IsAt told bench s
+
+-- ---- what is told goes together
+
+pub units_told : (seat : Option SeatView) → IsSome (library_at seat) → IsSome (units_at seat)
+units_told None some = some
+units_told (Some s) some = refl
+
+pub asked_told : (loads counted : ℕ) (seat : Option SeatView) → IsSome (trail_at loads counted seat)
+    → IsSome (asked_at seat)
+asked_told loads counted None some = some
+asked_told loads counted (Some s) some = refl

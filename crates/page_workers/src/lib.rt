@@ -1,0 +1,16 @@
+//! Workers that draw pages at once, over one cache of fonts. A worker with a seat at the cache is a
+//! desk: it answers each look from the cache, or loads the font from its own source of font files.
+#![tactic(auto)]
+
+mod bench;
+mod counting;
+mod keeping;
+mod loading;
+mod round;
+mod seating;
+mod worker;
+
+pub use bench::Bench;
+pub use round::{MOST_WORKERS, draw_round};
+pub use seating::{join_all, seat_all};
+pub use worker::{PageResult, Worker};

@@ -1,0 +1,150 @@
+//! A worker, and how it is asked for a font.
+ghost use Rattle.std.specs.Prelude.{◌≡◌, ◌+◌, ◌≤◌, [], ◌∷◌, Some, None, IfOk, IsErrOf, IsOk, OnErr, OnOk};
+ghost use Rattle.std.specs.Arc.{arc_value};
+ghost use Rattle.outside.specs.Counts.{HasCause};
+ghost use Rattle.outside.specs.FontKeys.{IsFontKey};
+ghost use Rattle.font_decode.specs.Decoding.{IsFontOf};
+ghost use Rattle.font_decode.specs.Desks.{GrewBy, GrewByAtMost, TrailGrew};
+ghost use Rattle.page_workers.specs.Seats.{IsAt, asked_at, room_at, trail_at};
+
+use crate::Bench;
+use crate::keeping::keep;
+use crate::loading::load;
+use cache_core::Look;
+use font_cache::CacheSeat;
+use font_decode::{Decoded, Desk, DeskStop};
+use outside::{FontKey, FontSource};
+use page_draw::PageStop;
+use raster_page::Page;
+use std::alloc::Global;
+use std::sync::{Arc, Wait};
+
+/// What came of a page: its number, counted from 0, and its bitmap or why there is none.
+#[derive(Drop)]
+pub struct PageResult {
+    pub page: usize,
+    pub outcome: Result<Page, PageStop>,
+}
+
+/// Who draws pages, by a source of font files of its own and a seat at the shared cache of fonts.
+#[derive(Drop)]
+pub struct Worker<F: FontSource> {
+    pub source: F,
+    /// Its seat, while a run lasts.
+    pub seat: Option<CacheSeat<Decoded>>,
+    /// The result of the page of this round, until it is written.
+    pub results: Vec<PageResult>,
+    /// How many loads the worker asked of its source.
+    pub loads: u64,
+    /// The pages that the worker drew, counted from 0, in the order in which it drew them.
+    pub pages: Vec<usize>,
+}
+
+impl<F: FontSource> Worker<F> {
+    /// A worker without seat, results and pages, and with no loads. It takes no memory.
+    pub fn new(alloc: Global, source: F) -> Worker<F>
+        ensures source { result.source ≡ source }
+        ensures seat { result.seat ≡ None }
+        ensures results { result.results.items ≡ [] }
+        ensures loads { result.loads ≡ 0 }
+        ensures pages { result.pages.items ≡ [] }
+    {
+        Worker {
+            source,
+            seat: None,
+            results: Vec::new(alloc),
+            loads: 0,
+            pages: Vec::new(alloc),
+        }
+    }
+}
+
+impl<F: FontSource> Desk for Worker<F> {
+    ghost use Rattle.page_workers.specs.Seats.{Fits, library_at, units_at, asked_at, trail_at, room_at, units_told, asked_told};
+
+    type Shared = Bench;
+
+    ghost library = { λ w. library_at w.seat };
+
+    ghost units = { λ w. units_at w.seat };
+
+    ghost fits = { λ w bench. Fits (F.library w.source) bench w.seat };
+
+    ghost faults = { λ w. F.faults w.source };
+
+    ghost asked = { λ w. asked_at w.seat };
+
+    ghost trail = { λ w. trail_at (F.loads w.source) w.loads w.seat };
+
+    ghost room = { λ w. room_at w.loads w.seat };
+
+    ghost told = { λ w some. units_told w.seat some };
+
+    ghost asks = { λ w some. asked_told (F.loads w.source) w.loads w.seat some };
+
+    fn font<R: Wait>(
+        &mut self,
+        rt: &R,
+        alloc: Global,
+        shared: &Bench,
+        key: &Arc<FontKey>,
+    ) -> Result<Arc<Decoded>, DeskStop> {
+        let Some(seat) = &mut self.seat else {
+            unreachable!()
+        };
+        ask(
+            rt,
+            alloc,
+            shared,
+            seat,
+            &mut self.source,
+            &mut self.loads,
+            key,
+        )
+    }
+}
+
+// The font of a key, from the cache or from its files. A seat that claimed the key fills it, or
+// releases it where the load was refused; one that found it busy loads the font for itself alone.
+fn ask<R: Wait, F: FontSource>(
+    rt: &R,
+    alloc: Global,
+    bench: &Bench,
+    seat: &mut CacheSeat<Decoded>,
+    source: &mut F,
+    loads: &mut u64,
+    key: &Arc<FontKey>,
+) -> Result<Arc<Decoded>, DeskStop>
+    requires fits { IsAt (F.library source.old) bench.now seat.old }
+    requires room { 1 ≤ room_at loads.old (Some seat.old) }
+    requires key { IsFontKey (arc_value key.now) }
+    ensures found { IfOk result (λ font. IsFontOf seat.old.view.part.library
+        (Some seat.old.view.part.units) (arc_value key.now) (arc_value font)) }
+    ensures part { seat.new.view.part ≡ seat.old.view.part }
+    ensures fits { IsAt (F.library source.new) bench.now seat.new }
+    ensures room { room_at loads.old (Some seat.old) ≤ room_at loads.new (Some seat.new) + 1 }
+    ensures cause { HasCause (F.faults source.old) (F.faults source.new)
+        (IsErrOf result DeskStop.SourceFault) }
+    ensures asked { OnOk result (GrewBy (asked_at (Some seat.old)) (asked_at (Some seat.new))
+        (arc_value key.now ∷ [])) }
+    ensures refused { OnErr result (GrewByAtMost (asked_at (Some seat.old))
+        (asked_at (Some seat.new)) (arc_value key.now)) }
+    ensures trail { TrailGrew (IsOk result) (asked_at (Some seat.old)) (asked_at (Some seat.new))
+        (trail_at (F.loads source.old) loads.old (Some seat.old))
+        (trail_at (F.loads source.new) loads.new (Some seat.new)) }
+{
+    let Ok(look) = bench.cache.look(rt, seat, key) else {
+        return Err(DeskStop::NoMemory);
+    };
+    match look {
+        Look::Hit(font) => Ok(font),
+        Look::Busy => load(alloc, source, loads, key, &bench.units),
+        Look::Claimed => match load(alloc, source, loads, key, &bench.units) {
+            Ok(font) => keep(rt, &bench.cache, seat, key, font),
+            Err(stop) => {
+                bench.cache.release(rt, seat, key);
+                Err(stop)
+            }
+        },
+    }
+}
