@@ -10,10 +10,11 @@ use Rattle.page_draw.specs.Values.{PageValue}
 use Rattle.dvi_run.specs.Reading.{IsAllRead, OfRead}
 use Rattle.dvi_run.specs.Pages.{FailingPage, Given, IsRun, IsWholeRun, run_fault}
 use Rattle.dvi_run.specs.Endings.{EndingSeen, Written, Usage, Document, Page, Source, Input, Output, Memory, IsAmong, IsEnding, IsPlaced, OfRun, Stopped, Wrote, WroteBefore, WroteFront, WroteSome, page_status, status_of, statuses}
+use Rattle.dvi_run.specs.Promises.{GoodRunIsWhole}
 use Rattle.dvi_run.specs.Laws.{OneReading, OneRun, RunsHaveNoFault}
 use Rattle.dvi_run.proofs.OneRun.{all_good, ends_once}
 
-of_each : (P Q : List ℕ → Type 0) (old : Option (List ℕ)) → ((bytes : List ℕ) → P bytes → Q bytes) → OfRead old P → OfRead old Q
+pub of_each : (P Q : List ℕ → Type 0) (old : Option (List ℕ)) → ((bytes : List ℕ) → P bytes → Q bytes) → OfRead old P → OfRead old Q
 of_each P Q None f p = tt
 of_each P Q (Some bytes) f p = f _ p
 
@@ -121,24 +122,23 @@ module _ (old new : Option (List ℕ)) (OutputFailed SourceFailed OutputKept Inp
       stopped_by Memory h = of_all (IsStopped Memory) left (λ bytes r values page run is. inr (inr (inr (inr (inl refl)))))
 
       abbrev IsComplete : EndingSeen → List ℕ → Type 0
-      IsComplete e bytes = (r : Reading) (values : List PageValue) → IsWholeRun g bytes r values → run_fault values ≡ None
-          → (InputFailed → ⊥) → (SourceFailed → ⊥) → (OutputFailed → ⊥) → IsAmong (status_of e) (0 ∷ 9 ∷ [])
+      IsComplete e = GoodRunIsWhole g (status_of e)
 
-      pub complete_by : (e : EndingSeen) → Ends e → OfRead left (IsComplete e)
-      complete_by Usage h = absurd h
-      complete_by (Document fault) h =
+      pub complete_by : (InputFailed → ⊥) → (SourceFailed → ⊥) → (OutputFailed → ⊥) → (e : EndingSeen) → Ends e → OfRead left (IsComplete e)
+      complete_by i s o Usage h = absurd h
+      complete_by i s o (Document fault) h =
           of_each (λ bytes. IsFirstFault g.res bytes fault) (IsComplete (Document fault)) left
-          (λ bytes first r values whole is i s o. absurd (no_fault g bytes r values fault whole.run first)) h.1
-      complete_by (Page own) h =
+          (λ bytes first r values whole is. absurd (no_fault g bytes r values fault whole.run first)) h.1
+      complete_by i s o (Page own) h =
           of_each (λ bytes. OfRun g bytes (λ _. Stopped old new own)) (IsComplete (Page own)) left
-          (λ bytes run r values whole is i s o.
+          (λ bytes run r values whole is.
           let none : run_fault run.1 ≡ None = all_good reading one_run g files told bytes r run.0 values run.1 whole is run.2 in
           let bad : Some own ≡ None = sym run.3.fails ∙ none in absurd cc) h.1
-      complete_by (Source n) h = of_all (IsComplete (Source n)) left (λ bytes r values whole is i s o. absurd (s h.2))
-      complete_by Input h = of_all (IsComplete Input) left (λ bytes r values whole is i s o. absurd (i h.0))
-      complete_by (Output n) h = of_all (IsComplete (Output n)) left (λ bytes r values whole is i s o. absurd (o h.2))
-      complete_by Written h = of_all (IsComplete Written) left (λ bytes r values whole is i s o. inl refl)
-      complete_by Memory h = of_all (IsComplete Memory) left (λ bytes r values whole is i s o. inr (inl refl))
+      complete_by i s o (Source n) h = of_all (IsComplete (Source n)) left (λ bytes r values whole is. absurd (s h.2))
+      complete_by i s o Input h = of_all (IsComplete Input) left (λ bytes r values whole is. absurd (i h.0))
+      complete_by i s o (Output n) h = of_all (IsComplete (Output n)) left (λ bytes r values whole is. absurd (o h.2))
+      complete_by i s o Written h = of_all (IsComplete Written) left (λ bytes r values whole is. inl refl)
+      complete_by i s o Memory h = of_all (IsComplete Memory) left (λ bytes r values whole is. inr (inl refl))
 
   -- ---- what a status has
 

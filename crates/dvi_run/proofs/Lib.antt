@@ -6,3 +6,10 @@ pub mod OneRun
 pub mod Written
 pub mod Outcomes
 pub mod Clauses
+pub mod Looks
+pub mod Standing
+pub mod Seated
+pub mod OneSeat
+pub mod Promised
+pub mod OneWorker
+pub mod Shares

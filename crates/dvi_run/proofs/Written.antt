@@ -37,20 +37,20 @@ pub record IsWrittenTo (g : Given) (r : Reading) (old now : Option (List ℕ)) (
   pub values : HaveValues g r 0 (map good pages)
   pub grew : Appends old now (flat_map page_text pages)
 
-pub written_none : (g : Given) (r : Reading) (old : Option (List ℕ)) → IsWrittenTo g r old old 0
+unfoldable pub written_none : (g : Given) (r : Reading) (old : Option (List ℕ)) → IsWrittenTo g r old old 0
 written_none g r old = record { pages = []; count = refl; values = tt; grew = grown_none old }
 
 module _ (g : Given) (r : Reading) (old now : Option (List ℕ)) (i : ℕ) (w : IsWrittenTo g r old now i) where
-  size : length (map good w.pages) ≡ i
+  pub size : length (map good w.pages) ≡ i
   size = length-map w.pages good ∙ w.count
 
-  one_more : (v : PageValue) → IsValueOf g r i v → HaveValues g r 0 (map good w.pages ++ v ∷ [])
+  pub one_more : (v : PageValue) → IsValueOf g r i v → HaveValues g r 0 (map good w.pages ++ v ∷ [])
   one_more v value = let size = size in values_more g r 0 i (map good w.pages) v w.values (omega (arith, size)) value
 
-  texts : (page : Bitmap) → flat_map page_text w.pages ++ page_text page ≡ flat_map page_text (w.pages ++ page ∷ [])
+  pub texts : (page : Bitmap) → flat_map page_text w.pages ++ page_text page ≡ flat_map page_text (w.pages ++ page ∷ [])
   texts page = ap (λ (t : List ℕ). flat_map page_text w.pages ++ t) (sym (append-nil (page_text page))) ∙ sym (flat_map-append page_text w.pages (page ∷ []))
 
-  pub written_more : (new : Option (List ℕ)) (page : Bitmap) → IsValueOf g r i (Ok page) → Appends now new (page_text page) → IsWrittenTo g r old new (suc i)
+  unfoldable pub written_more : (new : Option (List ℕ)) (page : Bitmap) → IsValueOf g r i (Ok page) → Appends now new (page_text page) → IsWrittenTo g r old new (suc i)
   written_more new page value more = record {
     pages = w.pages ++ page ∷ [];
     count = let count = w.count in let size = length-append w.pages (page ∷ []) in omega (arith, count, size);
@@ -79,29 +79,30 @@ module _ (g : Given) (r : Reading) (old now : Option (List ℕ)) (i : ℕ) (w : 
   Ends OutputFailed SourceFailed new e = (values : List PageValue) × AreValues g r values × EndsPages old new OutputFailed SourceFailed e r values
 
   -- with all pages
-  pub ends_written : i ≡ pages_begun r → (values : List PageValue) × AreValues g r values × Wrote old now r values
+  pub ends_written : i ≡ pages_begun r → AreValues g r (map good w.pages) × Wrote old now r (map good w.pages)
   ends_written all = (
-    map good w.pages,
     before (omega (arith, all)),
     record { all = size ∙ all; good = (runs_of_good_pages w.pages).1; grew = grew_so },
   )
 
+  -- the values of those that were written and of one more
+  abbrev pub with_one : PageValue → List PageValue
+  with_one v = map good w.pages ++ v ∷ []
+
   module _ (new : Option (List ℕ)) (page : ℕ) (number : page ≡ suc i) (below : i < pages_begun r) where
-    stops : (f : PlacedFault) → IsValueOf g r i (Err f) → new ≡ now → (values : List PageValue) × AreValues g r values × Stopped old new (failing_page page f) values
+    pub stops : (f : PlacedFault) → IsValueOf g r i (Err f) → new ≡ now → AreValues g r (with_one (Err f)) × Stopped old new (failing_page page f) (with_one (Err f))
     stops f value same =
         let runs = runs_end w.pages f [] in
         let numbered : suc (length w.pages) ≡ page = ap suc w.count ∙ sym number in (
-          map good w.pages ++ Err f ∷ [],
           and_one (Err f) below value,
           record {
             fails = runs.1 ∙ ap (λ (k : ℕ). Some (failing_page k f)) numbered;
-            grew = subst (λ (o : Option (List ℕ)). Appends old o (run_text (map good w.pages ++ Err f ∷ []))) (sym same) (subst (Appends old now) (sym runs.0) w.grew);
+            grew = subst (λ (o : Option (List ℕ)). Appends old o (run_text (with_one (Err f)))) (sym same) (subst (Appends old now) (sym runs.0) w.grew);
           },
         )
 
-    breaks : new ≡ now → (values : List PageValue) × AreValues g r values × WroteBefore old new page r values
+    pub breaks : new ≡ now → AreValues g r (map good w.pages) × WroteBefore old new page r (map good w.pages)
     breaks same = (
-      map good w.pages,
       before (omega (arith, below)),
       record {
         there = omega (arith, number, below);
@@ -111,9 +112,8 @@ module _ (g : Given) (r : Reading) (old now : Option (List ℕ)) (i : ℕ) (w : 
       },
     )
 
-    fails : (own : Bitmap) → IsValueOf g r i (Ok own) → AppendsPrefix now new (page_text own) → (values : List PageValue) × AreValues g r values × WroteFront old new page values
+    pub fails : (own : Bitmap) → IsValueOf g r i (Ok own) → AppendsPrefix now new (page_text own) → AreValues g r (with_one (Ok own)) × WroteFront old new page (with_one (Ok own))
     fails own value front = (
-      map good w.pages ++ Ok own ∷ [],
       and_one (Ok own) below value,
       record {
         before = w.pages;
@@ -127,10 +127,9 @@ module _ (g : Given) (r : Reading) (old now : Option (List ℕ)) (i : ℕ) (w : 
       },
     )
 
-    wants : new ≡ now → (values : List PageValue) × AreValues g r values × WroteSome old new values
+    pub wants : new ≡ now → AreValues g r (map good w.pages) × WroteSome old new (map good w.pages)
     wants same =
         let whole : take (length w.pages) (whole_pages (map good w.pages)) ≡ w.pages = ap (take (length w.pages)) (whole_all w.pages) ∙ take_all (length w.pages) w.pages (omega arith) in (
-          map good w.pages,
           before (omega (arith, below)),
           record {
             count = length w.pages;
@@ -141,8 +140,9 @@ module _ (g : Given) (r : Reading) (old now : Option (List ℕ)) (i : ℕ) (w : 
 
     -- at a page that can't be written
     pub ends_at : (OutputFails SourceFails OutputFailed SourceFailed : Type 0) → (OutputFails → OutputFailed) → (SourceFails → SourceFailed) → (s : WriteStop)
-        → IsWriteStop now new OutputFails SourceFails g r i s → Ends OutputFailed SourceFailed new (ending_at page s)
-    ends_at P Q P' Q' o s (stop.Draw (draw.Fault fault at)) h = stops (record { fault = seen_fault fault; at = at }) h.0 h.1
-    ends_at P Q P' Q' o s (stop.Draw draw.SourceFault) h = let b = breaks h.1 in (b.0, b.1, (b.2, s h.0))
-    ends_at P Q P' Q' o s (stop.Draw draw.NoMemory) h = wants h
-    ends_at P Q P' Q' o s stop.Output h = let f = fails h.0 h.1 h.2 in (f.0, f.1, (f.2, o h.3))
+        → IsWriteStop now new OutputFails SourceFails (IsValueOf g r i) (Unit {0}) s → Ends OutputFailed SourceFailed new (ending_at page s)
+    ends_at P Q P' Q' o s (stop.Draw (draw.Fault fault at)) h =
+        let e = stops (record { fault = seen_fault fault; at = at }) h.0 h.1 in (with_one (Err (record { fault = seen_fault fault; at = at })), e.0, e.1)
+    ends_at P Q P' Q' o s (stop.Draw draw.SourceFault) h = let b = breaks h.2 in (map good w.pages, b.0, (b.1, s h.0))
+    ends_at P Q P' Q' o s (stop.Draw draw.NoMemory) h = let e = wants h.1 in (map good w.pages, e.0, e.1)
+    ends_at P Q P' Q' o s stop.Output h = let f = fails h.0 h.1 h.2 in (with_one (Ok h.0), f.0, (f.1, o h.3))

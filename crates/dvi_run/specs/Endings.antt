@@ -1,5 +1,5 @@
 -- How a run ends: what it wrote, and why.
-use Rattle.std.specs.Prelude.{◌≡◌, ◌⊎◌, ◌≤◌, ◌++◌, ℕ, suc, List, [], ◌∷◌, length, take, Option, Some, None, Ok}
+use Rattle.std.specs.Prelude.{◌≡◌, ◌⊎◌, ◌≤◌, ◌<◌, ◌++◌, ℕ, suc, List, [], ◌∷◌, length, take, Option, Some, None, Ok}
 use Rattle.std.specs.List.{flat_map}
 use Rattle.std.specs.Io.KnownBytes.{Appends}
 use Rattle.outside.specs.Counts.{Rose}
@@ -13,7 +13,7 @@ use Rattle.page_draw.specs.Values.{PageValue, fault_at}
 use Rattle.page_draw.specs.declared.stop.PageStop.TheVariants as draw
 use Rattle.pbm_output.specs.Pbm.{page_text}
 use Rattle.dvi_run.specs.Reading.{IsAllRead, OfRead}
-use Rattle.dvi_run.specs.Pages.{FailingPage, Given, IsRun, IsValueOf, run_fault, run_text, whole_pages}
+use Rattle.dvi_run.specs.Pages.{FailingPage, Given, IsRun, run_fault, run_text, whole_pages}
 use Rattle.dvi_run.specs.declared.ending.Ending.{Ending}
 use Rattle.dvi_run.specs.declared.ending.Ending.TheVariants as code
 use Rattle.dvi_run.specs.declared.pages.WriteStop.{WriteStop}
@@ -86,7 +86,7 @@ pub record WroteBefore (old new : Option (List ℕ)) (page : ℕ) (reading : Rea
   pub good : run_fault values ≡ None
   pub grew : Appends old new (run_text values)
 
--- all pages before the one with this number, from 1, and a front of its own text; it and they have bitmaps
+-- all pages before the one with this number, from 1, and a front of its own text, never all; it and they have bitmaps
 pub record WroteFront (old new : Option (List ℕ)) (page : ℕ) (values : List PageValue) : Type 0 where
   pub before : List Bitmap
   pub own : Bitmap
@@ -94,7 +94,7 @@ pub record WroteFront (old new : Option (List ℕ)) (page : ℕ) (values : List 
   pub pages : whole_pages values ≡ before ++ own ∷ rest
   pub number : page ≡ suc (length before)
   pub size : ℕ
-  pub within : size ≤ length (page_text own)
+  pub within : size < length (page_text own)
   pub grew : Appends old new (flat_map page_text before ++ take size (page_text own))
 
 -- so many pages, which have bitmaps, and none before them has none
@@ -145,13 +145,12 @@ ending_at page stop.Output = Output page
 
 -- what is told before and after, and whether the output and the source failed
 module _ (old new : Option (List ℕ)) (OutputFailed SourceFailed : Type 0) where
-  -- why the page with this number, from 0, was not written; only a failed write leaves something of it
-  abbrev pub IsWriteStop : Given → Reading → ℕ → WriteStop → Type 0
-  IsWriteStop g reading i (stop.Draw (draw.Fault fault at)) = IsValueOf g reading i (fault_at (seen_fault fault) at) × (new ≡ old)
-  IsWriteStop g reading i (stop.Draw draw.SourceFault) = SourceFailed × (new ≡ old)
-  IsWriteStop g reading i (stop.Draw draw.NoMemory) = new ≡ old
-  IsWriteStop g reading i stop.Output =
-      (page : Bitmap) × IsValueOf g reading i (Ok page) × AppendsPrefix old new (page_text page) × OutputFailed
+  -- why a page was not written, which was drawn so or was broken off; only a failed write leaves something of it
+  abbrev pub IsWriteStop : (Draws : PageValue → Type 0) (Breaks : Type 0) → WriteStop → Type 0
+  IsWriteStop Draws Breaks (stop.Draw (draw.Fault fault at)) = Draws (fault_at (seen_fault fault) at) × (new ≡ old)
+  IsWriteStop Draws Breaks (stop.Draw draw.SourceFault) = SourceFailed × Breaks × (new ≡ old)
+  IsWriteStop Draws Breaks (stop.Draw draw.NoMemory) = Breaks × (new ≡ old)
+  IsWriteStop Draws Breaks stop.Output = (page : Bitmap) × Draws (Ok page) × AppendsPrefix old new (page_text page) × OutputFailed
 
   -- how the writing of a document's pages ended
   abbrev pub EndsPages : EndingSeen → Reading → List PageValue → Type 0

@@ -9,6 +9,7 @@ use Rattle.page_index.specs.Faults.{IsFirstFault}
 use Rattle.page_index.specs.declared.faults.DocFault.{DocFault}
 use Rattle.page_draw.specs.Values.{PageValue, PlacedFault}
 use Rattle.pbm_output.specs.Pbm.{page_text}
+use Rattle.dvi_run.specs.Shares.{EachPageHasOneWorker}
 use Rattle.dvi_run.specs.Pages.{FailingPage, Given, IsRun, failing_page, run_fault, run_text}
 
 abbrev pub good : Bitmap → PageValue
@@ -56,3 +57,9 @@ EachPageHasItsEop = (g : Given) (bytes : List ℕ) (reading : Reading) (values :
 abbrev pub RunsHaveNoFault : Type 0
 RunsHaveNoFault = (g : Given) (bytes : List ℕ) (reading : Reading) (values : List PageValue) (fault : DocFault) → IsRun g bytes reading values
     → IsFirstFault g.res bytes fault → ⊥
+
+-- ---- workers
+
+-- the pages that some workers draw in some rounds are the first pages, and each is drawn by one worker, once
+abbrev pub PagesAreShared : Type 0
+PagesAreShared = (total n rounds page : ℕ) → EachPageHasOneWorker total n rounds page

@@ -8,3 +8,7 @@ pub mod PageTexts
 pub mod Lines
 pub mod Puts
 pub mod Laws
+pub mod Looked
+pub mod Rounds
+pub mod Promises
+pub mod Shares

@@ -1,5 +1,5 @@
 //! Laws over the definitions, each a clause of a function without a body.
-ghost use Rattle.dvi_run.specs.Laws.{EachPageHasItsEop, FaultsEndTheRun, OneReading, OneRun, RunsEndAtTheFirstFault, RunsHaveFronts, RunsHaveNoFault, RunsOfGoodPages};
+ghost use Rattle.dvi_run.specs.Laws.{EachPageHasItsEop, FaultsEndTheRun, OneReading, OneRun, PagesAreShared, RunsEndAtTheFirstFault, RunsHaveFronts, RunsHaveNoFault, RunsOfGoodPages};
 
 use page_index::laws::documents;
 
@@ -23,3 +23,8 @@ pub fn runs()
     page_index::laws::pages();
     page_draw::laws::values();
 }
+
+/// Workers that draw in rounds, one page each, draw the first pages, and each page is drawn by one worker.
+pub fn shares()
+    ensures { PagesAreShared }
+{}

@@ -5,11 +5,16 @@
 //! and the notes, each a part of its own that the calls' contracts don't name.
 #![tactic(auto)]
 
+mod alone;
+mod at_once;
+mod clearing;
 mod ending;
 pub mod laws;
 mod note;
+mod opening;
 mod pages;
 mod reading;
+mod rounds;
 mod run;
 mod settings;
 #[cfg(test)]

@@ -8,8 +8,11 @@ ghost use Rattle.page_index.specs.Pages.{document_units};
 ghost use Rattle.page_draw.specs.Sheets.{IsDrawable};
 ghost use Rattle.page_draw.specs.Values.{PageValue};
 ghost use Rattle.pbm_output.specs.Pbm.{page_text};
-ghost use Rattle.dvi_run.specs.Pages.{AreValues, IsValueOf};
+ghost use Rattle.dvi_run.specs.Pages.{AreValues};
 ghost use Rattle.dvi_run.specs.Endings.{EndsPages, IsWriteStop, ending_at, seen_ending};
+ghost use Rattle.dvi_run.specs.Looked.{IsBrokenOff, IsDrawnAs, IsDrawnOut, IsUnbroken, RunLooks};
+ghost use Rattle.font_decode.specs.Desks.{GrewBy, TrailGrew};
+ghost use Rattle.outside.specs.declared.keys.FontKey.{FontKey};
 
 use crate::ending::Ending;
 use font_decode::Desk;
@@ -50,13 +53,18 @@ fn write_one<R: Wait, D: Desk, O: Output>(
     ensures library { D.library desk.new ≡ D.library desk.old }
     ensures units { D.units desk.new ≡ D.units desk.old }
     ensures written { OnOk result ((page : Bitmap)
-        × IsValueOf (record { library = D.library desk.old; res = index.now.res; sheet = sheet.now }) index.now.reading i (Ok page)
+        × IsDrawnAs (record { library = D.library desk.old; res = index.now.res; sheet = sheet.now }) index.now.reading i
+        (D.asked desk.old) (D.asked desk.new) (Ok page)
         × Appends (O.written out.old) (O.written out.new) (page_text page)) }
     ensures stop { IfErr result (IsWriteStop (O.written out.old) (O.written out.new)
         (Rose (O.faults out.old) (O.faults out.new)) (Rose (D.faults desk.old) (D.faults desk.new))
-        (record { library = D.library desk.old; res = index.now.res; sheet = sheet.now }) index.now.reading i) }
+        (IsDrawnAs (record { library = D.library desk.old; res = index.now.res; sheet = sheet.now }) index.now.reading i
+        (D.asked desk.old) (D.asked desk.new))
+        (IsBrokenOff (record { library = D.library desk.old; res = index.now.res; sheet = sheet.now }) index.now.reading i
+        (D.asked desk.old) (D.asked desk.new))) }
     ensures output { O.faults out.old ≤ O.faults out.new }
     ensures source { D.faults desk.old ≤ D.faults desk.new }
+    ensures trail { TrailGrew (IsDrawnOut result) (D.asked desk.old) (D.asked desk.new) (D.trail desk.old) (D.trail desk.new) }
 {
     let page = match draw(rt, alloc, desk, shared, index, i, sheet) {
         Ok(page) => page,
@@ -69,7 +77,7 @@ fn write_one<R: Wait, D: Desk, O: Output>(
 }
 
 // How a run ends that doesn't write the page with this number, from 0.
-fn stopped(i: usize, stop: WriteStop) -> Ending
+pub(crate) fn stopped(i: usize, stop: WriteStop) -> Ending
     requires { i < 1000000 }
     ensures { seen_ending result ≡ ending_at (i + 1) stop }
 {
@@ -99,10 +107,13 @@ pub fn write_pages<R: Wait, D: Desk, O: Output>(
     ensures ends { (values : List PageValue)
         × AreValues (record { library = D.library desk.old; res = index.now.res; sheet = sheet.now }) index.now.reading values
         × EndsPages (O.written out.old) (O.written out.new) (Rose (O.faults out.old) (O.faults out.new))
-        (Rose (D.faults desk.old) (D.faults desk.new)) (seen_ending result) index.now.reading values }
+        (Rose (D.faults desk.old) (D.faults desk.new)) (seen_ending result) index.now.reading values
+        × ((keys : List FontKey) × RunLooks (record { library = D.library desk.old; res = index.now.res; sheet = sheet.now })
+        index.now.reading (seen_ending result) values keys × GrewBy (D.asked desk.old) (D.asked desk.new) keys) }
     ensures library { D.library desk.new ≡ D.library desk.old }
     ensures output { O.faults out.old ≤ O.faults out.new }
     ensures source { D.faults desk.old ≤ D.faults desk.new }
+    ensures trail { TrailGrew (IsUnbroken (seen_ending result)) (D.asked desk.old) (D.asked desk.new) (D.trail desk.old) (D.trail desk.new) }
 {
     for i in 0..index.pages() {
         match write_one(rt, alloc, desk, shared, index, i, sheet, out) {

@@ -1,25 +1,25 @@
 //! The run.
-ghost use Rattle.std.specs.Prelude.{◌≡◌, ◌⊎◌, ◌≤◌, ◌<◌, ◌↔◌, ℕ, List, [], ◌∷◌, None, Some, IfSome, length};
+ghost use Rattle.std.specs.Prelude.{◌≡◌, ◌≤◌, ◌<◌, ◌↔◌, List, [], length};
 ghost use Rattle.outside.specs.Counts.{Rose};
-ghost use Rattle.outside.specs.Library.{Files};
-ghost use Rattle.page_index.specs.Document.{Reading};
-ghost use Rattle.page_index.specs.Faults.{IsFirstFault};
-ghost use Rattle.page_index.specs.declared.faults.DocFault.{DocFault};
 ghost use Rattle.page_draw.specs.Values.{PageValue};
+ghost use Rattle.cache_core.specs.Histories.{AreOf};
+ghost use Rattle.cache_core.specs.Machine.{Legal};
+ghost use Rattle.cache_core.specs.Views.{calls_of};
 ghost use Rattle.dvi_run.specs.Settings.{AreSettings, default_settings as the_default_settings};
-ghost use Rattle.dvi_run.specs.Reading.{IsAllRead, OfRead};
-ghost use Rattle.dvi_run.specs.Pages.{AreValues, FailingPage, IsRun, IsWholeRun, given_by, run_fault};
-ghost use Rattle.dvi_run.specs.Lines.{line_of};
-ghost use Rattle.dvi_run.specs.Endings.{EndingSeen, EndsBytes, EndsPages, HasFailed, IsAmong, IsEnding, IsPlaced, OfRun, Stopped, Tells, Wrote, WroteBefore, WroteFront, WroteSome, page_status, seen_ending, status_of, statuses};
+ghost use Rattle.dvi_run.specs.Reading.{OfRead};
+ghost use Rattle.dvi_run.specs.Pages.{AreValues, given_by};
+ghost use Rattle.dvi_run.specs.Looked.{CalledAlone, IsUnbroken, RanAlone};
+ghost use Rattle.dvi_run.specs.Promises.{IsCached, IsCaused, IsGivenBack, IsNoted, IsWritten, NoCountFalls};
+ghost use Rattle.dvi_run.specs.Endings.{EndingSeen, EndsBytes, EndsPages, HasFailed, IsEnding, seen_ending, status_of};
 
+use crate::alone::draw_alone;
 use crate::ending::Ending;
 use crate::laws::runs;
 use crate::note::print;
-use crate::pages::write_pages;
 use crate::reading::{ReadStop, read_all};
 use crate::settings::{Settings, default_settings};
+use cache_core::Entry;
 use outside::{FontSource, Input, Output};
-use page_draw::PlainDesk;
 use page_index::{Index, IndexStop};
 use std::alloc::Global;
 use std::sync::Wait;
@@ -32,20 +32,33 @@ fn draw_pages<R: Wait, F: FontSource, O: Output>(
     index: &Index,
     source: F,
     out: &mut O,
-) -> (Ending, F)
+    history: &mut Vec<Entry>,
+) -> (Ending, Option<F>)
     requires settings { AreSettings settings.now }
+    requires empty { history.old.items ≡ [] }
     requires resolution { index.now.res ≡ settings.now.res }
     ensures ends { (values : List PageValue)
         × AreValues (given_by (F.library source) settings.now) index.now.reading values
         × EndsPages (O.written out.old) (O.written out.new) (Rose (O.faults out.old) (O.faults out.new))
-        (Rose (F.faults source) (F.faults result.1)) (seen_ending result.0) index.now.reading values }
-    ensures library { F.library result.1 ≡ F.library source }
+        (HasFailed F.faults source result.1) (seen_ending result.0) index.now.reading values
+        × RanAlone (given_by (F.library source) settings.now) index.now.reading settings.now.cache
+        (seen_ending result.0) (IsUnbroken (seen_ending result.0)) values (calls_of history.new.items) }
+    ensures given_back { IsGivenBack F.library F.faults F.loads (status_of (seen_ending result.0))
+        (calls_of history.new.items) source result.1 }
     ensures output { O.faults out.old ≤ O.faults out.new }
-    ensures source { F.faults source ≤ F.faults result.1 }
+    ensures legal { Legal settings.now.cache (calls_of history.new.items) }
+    ensures own { AreOf 1 (calls_of history.new.items) }
 {
-    let mut desk = PlainDesk::new(source, index.units());
-    let ending = write_pages(rt, alloc, &mut desk, &(), index, &settings.sheet, out);
-    (ending, desk.finish())
+    draw_alone(
+        rt,
+        alloc,
+        source,
+        settings.cache as usize,
+        index,
+        &settings.sheet,
+        out,
+        history,
+    )
 }
 
 // Draws and writes the document of these bytes, and answers how that ended, with the source of its fonts.
@@ -56,19 +69,27 @@ fn draw_document<R: Wait, F: FontSource, O: Output>(
     bytes: &[u8],
     source: F,
     out: &mut O,
-) -> (Ending, F)
-    requires { AreSettings settings.now }
+    history: &mut Vec<Entry>,
+) -> (Ending, Option<F>)
+    requires settings { AreSettings settings.now }
+    requires empty { history.old.items ≡ [] }
     ensures ends { EndsBytes (O.written out.old) (O.written out.new) (Rose (O.faults out.old) (O.faults out.new))
-        (Rose (F.faults source) (F.faults result.1)) (out.new ≡ out.old)
+        (HasFailed F.faults source result.1) (out.new ≡ out.old)
         (given_by (F.library source) settings.now) bytes.now (seen_ending result.0) }
-    ensures library { F.library result.1 ≡ F.library source }
+    ensures given_back { IsGivenBack F.library F.faults F.loads (status_of (seen_ending result.0))
+        (calls_of history.new.items) source result.1 }
     ensures output { O.faults out.old ≤ O.faults out.new }
-    ensures source { F.faults source ≤ F.faults result.1 }
+    ensures legal { Legal settings.now.cache (calls_of history.new.items) }
+    ensures own { AreOf 1 (calls_of history.new.items) }
+    ensures alone { let ending = seen_ending result.0
+        in CalledAlone (given_by (F.library source) settings.now) (O.written out.old)
+        (O.written out.new) settings.now.cache (status_of ending) ending
+        (calls_of history.new.items) bytes.now }
 {
     match Index::read(alloc, bytes, settings.res) {
-        Ok(index) => draw_pages(rt, alloc, settings, &index, source, out),
-        Err(IndexStop::Fault(fault)) => (Ending::Document(fault), source),
-        Err(IndexStop::NoMemory) => (Ending::Memory, source),
+        Ok(index) => draw_pages(rt, alloc, settings, &index, source, out, history),
+        Err(IndexStop::Fault(fault)) => (Ending::Document(fault), Some(source)),
+        Err(IndexStop::NoMemory) => (Ending::Memory, Some(source)),
     }
 }
 
@@ -80,20 +101,28 @@ fn ending<R: Wait, I: Input, F: FontSource, O: Output>(
     input: &mut I,
     source: F,
     out: &mut O,
-) -> (Ending, F)
-    requires { AreSettings settings.now }
+    history: &mut Vec<Entry>,
+) -> (Ending, Option<F>)
+    requires settings { AreSettings settings.now }
+    requires empty { history.old.items ≡ [] }
     ensures ends { IsEnding (O.written out.old) (O.written out.new) (Rose (O.faults out.old) (O.faults out.new))
-        (Rose (F.faults source) (F.faults result.1)) (out.new ≡ out.old) (Rose (I.faults input.old) (I.faults input.new))
+        (HasFailed F.faults source result.1) (out.new ≡ out.old) (Rose (I.faults input.old) (I.faults input.new))
         (given_by (F.library source) settings.now) (I.left input.old) (I.left input.new) (seen_ending result.0) }
-    ensures library { F.library result.1 ≡ F.library source }
+    ensures given_back { IsGivenBack F.library F.faults F.loads (status_of (seen_ending result.0))
+        (calls_of history.new.items) source result.1 }
     ensures input { I.faults input.old ≤ I.faults input.new }
     ensures output { O.faults out.old ≤ O.faults out.new }
-    ensures source { F.faults source ≤ F.faults result.1 }
+    ensures legal { Legal settings.now.cache (calls_of history.new.items) }
+    ensures own { AreOf 1 (calls_of history.new.items) }
+    ensures alone { let ending = seen_ending result.0
+        in OfRead (I.left input.old) (CalledAlone (given_by (F.library source) settings.now)
+        (O.written out.old) (O.written out.new) settings.now.cache (status_of ending) ending
+        (calls_of history.new.items)) }
 {
     match read_all(alloc, input) {
-        Ok(bytes) => draw_document(rt, alloc, settings, bytes.as_slice(), source, out),
-        Err(ReadStop::Failed) => (Ending::Input, source),
-        Err(ReadStop::NoMemory) => (Ending::Memory, source),
+        Ok(bytes) => draw_document(rt, alloc, settings, bytes.as_slice(), source, out, history),
+        Err(ReadStop::Failed) => (Ending::Input, Some(source)),
+        Err(ReadStop::NoMemory) => (Ending::Memory, Some(source)),
     }
 }
 
@@ -114,6 +143,9 @@ fn ending<R: Wait, I: Input, F: FontSource, O: Output>(
 /// whole, and a front of the page that the line names. Want of memory (9) may come in place of any answer;
 /// no page is then written in part.
 ///
+/// Fonts are kept in a cache. `history` is empty when handed in, and is then the list of the cache's calls, in order.
+/// It stays empty where no page was begun.
+///
 /// Knuth, DVItype, "Device-independent file format" and "Translation to symbolic form"; Netpbm, the raw
 /// form of PBM. Clauses on bytes hold where the input, the output or the notes tell theirs, and what they
 /// say of fonts holds where the source tells its files.
@@ -125,99 +157,41 @@ pub fn run_with<R: Wait, I: Input, F: FontSource, O: Output, N: Output>(
     source: F,
     out: &mut O,
     notes: &mut N,
+    history: &mut Vec<Entry>,
 ) -> (u8, Option<F>)
-    requires { AreSettings settings.now }
+    requires settings { AreSettings settings.now }
+    requires empty { history.old.items ≡ [] }
 
-    // Which statuses there are.
-    ensures answers { IsAmong result.0 statuses }
+    // Why it ended so: the causes of each status, both ways.
+    ensures caused { IsCaused (given_by (F.library source) settings.now) result.0
+        (I.left input.old) (Rose (I.faults input.old) (I.faults input.new))
+        (HasFailed F.faults source result.1) (Rose (O.faults out.old) (O.faults out.new)) }
 
-    // 6: only where the input failed. Nothing was written.
-    ensures input { result.0 ≡ 6 → Rose (I.faults input.old) (I.faults input.new) }
-    ensures input_first { result.0 ≡ 6 → out.new ≡ out.old }
+    // What was read and written, by the status.
+    ensures written { IsWritten (given_by (F.library source) settings.now) result.0
+        (I.left input.old) (I.left input.new) (O.written out.old) (O.written out.new)
+        (out.new ≡ out.old) }
 
-    // 2: exactly where the bytes that were read have a first fault. Nothing was written.
-    ensures document { result.0 ≡ 2 → OfRead (I.left input.old) (λ bytes.
-        (fault : DocFault) × IsFirstFault settings.now.res bytes fault) }
-    ensures document_first { result.0 ≡ 2 → out.new ≡ out.old }
-    ensures refused { OfRead (I.left input.old) (λ bytes.
-        (fault : DocFault) → IsFirstFault settings.now.res bytes fault
-        → IsAmong result.0 (2 ∷ 6 ∷ 9 ∷ [])) }
+    // The line in the notes, and the calls of the cache, of one and the same end.
+    ensures ended { (ending : EndingSeen) × (result.0 ≡ status_of ending)
+        × IsNoted (given_by (F.library source) settings.now) ending (I.left input.old)
+        (O.written out.old) (O.written out.new) (N.written notes.old) (N.written notes.new)
+        (N.faults notes.old) (N.faults notes.new)
+        × IsCached (given_by (F.library source) settings.now) settings.now.cache result.0
+        ending (I.left input.old) (O.written out.old) (O.written out.new) (calls_of history.new.items) }
 
-    // 3 and 4: exactly where a page of that document has no bitmap, 4 where the fault is its font's, and
-    // neither a write nor the source failed before. All pages before the first such page were written, and
-    // nothing else.
-    ensures page { IsAmong result.0 (3 ∷ 4 ∷ []) → OfRead (I.left input.old) (λ bytes.
-        (page : FailingPage) × (result.0 ≡ page_status page.fault)
-        × OfRun (given_by (F.library source) settings.now) bytes
-        (λ _. Stopped (O.written out.old) (O.written out.new) page)) }
-    ensures stopped { (files : Files) → F.library source ≡ Some files
-        → OfRead (I.left input.old) (λ bytes.
-        (reading : Reading) (values : List PageValue) (page : FailingPage)
-        → IsRun (given_by (F.library source) settings.now) bytes reading values
-        → run_fault values ≡ Some page
-        → IsAmong result.0 (page_status page.fault ∷ 5 ∷ 6 ∷ 7 ∷ 9 ∷ [])) }
+    // The source that is given back, with its count of loads.
+    ensures given_back { IsGivenBack F.library F.faults F.loads result.0
+        (calls_of history.new.items) source result.1 }
 
-    // 5: only where the source failed. The pages before some page were written, which have bitmaps, and
-    // nothing of that page.
-    ensures source { result.0 ≡ 5 → HasFailed F.faults source result.1 }
-    ensures before { result.0 ≡ 5 → OfRead (I.left input.old) (λ bytes. (page : ℕ)
-        × OfRun (given_by (F.library source) settings.now) bytes
-        (WroteBefore (O.written out.old) (O.written out.new) page)) }
-
-    // 0, 2 to 5 and 7: the input was read to its end, or to the limit of a document and one byte more.
-    ensures read { IsAmong result.0 (0 ∷ 2 ∷ 3 ∷ 4 ∷ 5 ∷ 7 ∷ [])
-        → IsAllRead (I.left input.old) (I.left input.new) }
-
-    // 0: all pages have a bitmap, and exactly their texts were written.
-    ensures written { result.0 ≡ 0 → OfRead (I.left input.old) (λ bytes.
-        OfRun (given_by (F.library source) settings.now) bytes
-        (Wrote (O.written out.old) (O.written out.new))) }
-
-    // 7: only where the output failed. The pages before some page with a bitmap were written, and a front
-    // of its own text.
-    ensures output { result.0 ≡ 7 → Rose (O.faults out.old) (O.faults out.new) }
-    ensures front { result.0 ≡ 7 → OfRead (I.left input.old) (λ bytes. (page : ℕ)
-        × OfRun (given_by (F.library source) settings.now) bytes
-        (λ _. WroteFront (O.written out.old) (O.written out.new) page)) }
-
-    // 9: nothing was written, or some pages from the first on, each whole.
-    ensures memory { result.0 ≡ 9 → (out.new ≡ out.old) ⊎ OfRead (I.left input.old) (λ bytes.
-        OfRun (given_by (F.library source) settings.now) bytes
-        (λ _. WroteSome (O.written out.old) (O.written out.new))) }
-
-    // A document whose pages all have a bitmap is written, where neither input nor source nor output fail,
-    // unless memory is wanting.
-    ensures complete { (files : Files) → F.library source ≡ Some files
-        → OfRead (I.left input.old) (λ bytes.
-        (reading : Reading) (values : List PageValue)
-        → IsWholeRun (given_by (F.library source) settings.now) bytes reading values
-        → run_fault values ≡ None
-        → ¬ (Rose (I.faults input.old) (I.faults input.new))
-        → ¬ (HasFailed F.faults source result.1)
-        → ¬ (Rose (O.faults out.old) (O.faults out.new)) → IsAmong result.0 (0 ∷ 9 ∷ [])) }
-
-    // The notes grew by the line of this end, or by a front of it where they failed. The fault or the page
-    // that it names is the one of the document.
-    ensures notes { (ending : EndingSeen) × (result.0 ≡ status_of ending)
-        × IsPlaced (given_by (F.library source) settings.now) ending (I.left input.old)
-        (O.written out.old) (O.written out.new)
-        × Tells (N.written notes.old) (N.written notes.new) (N.faults notes.old)
-        (N.faults notes.new) (line_of ending) }
-
-    // The source is given back, with its files as they were, but maybe at 9.
-    ensures given_back { result.1 ≡ None → result.0 ≡ 9 }
-    ensures library { IfSome result.1 (λ back. F.library back ≡ F.library source) }
-
-    // No count falls.
-    ensures counts { (I.faults input.old ≤ I.faults input.new)
-        × IfSome result.1 (λ back. F.faults source ≤ F.faults back)
-        × (O.faults out.old ≤ O.faults out.new) × (N.faults notes.old ≤ N.faults notes.new) }
+    ensures counts { NoCountFalls (I.faults input.old) (I.faults input.new)
+        (O.faults out.old) (O.faults out.new) (N.faults notes.old) (N.faults notes.new) }
 {
     // Bytes that have a fault are no document, and a document's pages have one value each.
     runs();
-    let (ending, source) = ending(rt, alloc, settings, input, source, out);
+    let (ending, source) = ending(rt, alloc, settings, input, source, out, history);
     print(notes, &ending);
-    (ending.status(), Some(source))
+    (ending.status(), source)
 }
 
 /// What the program does: `run_with` with the settings of `default_settings`, at 300 dots to the inch on a
@@ -231,100 +205,52 @@ pub fn dvipbm_run<R: Wait, I: Input, F: FontSource, O: Output, N: Output>(
     source: F,
     out: &mut O,
     notes: &mut N,
+    history: &mut Vec<Entry>,
 ) -> (u8, Option<F>)
-    // Which statuses there are.
-    ensures answers { IsAmong result.0 (1 ∷ statuses) }
+    requires empty { history.old.items ≡ [] }
 
     // 1: exactly where there is a word. Nothing was read, loaded or written.
     ensures usage { (result.0 ≡ 1) ↔ (0 < length words.now) }
     ensures usage_first { result.0 ≡ 1
         → (input.new ≡ input.old) × (out.new ≡ out.old) × (result.1 ≡ Some source) }
 
-    // 6: only where the input failed. Nothing was written.
-    ensures input { result.0 ≡ 6 → Rose (I.faults input.old) (I.faults input.new) }
-    ensures input_first { result.0 ≡ 6 → out.new ≡ out.old }
+    // Why it ended so: the causes of each status, both ways.
+    ensures caused { length words.now ≡ 0 → IsCaused (given_by (F.library source) the_default_settings) result.0
+        (I.left input.old) (Rose (I.faults input.old) (I.faults input.new))
+        (HasFailed F.faults source result.1) (Rose (O.faults out.old) (O.faults out.new)) }
 
-    // 2: exactly where the bytes that were read have a first fault. Nothing was written.
-    ensures document { result.0 ≡ 2 → OfRead (I.left input.old) (λ bytes.
-        (fault : DocFault) × IsFirstFault the_default_settings.res bytes fault) }
-    ensures document_first { result.0 ≡ 2 → out.new ≡ out.old }
-    ensures refused { length words.now ≡ 0 → OfRead (I.left input.old) (λ bytes.
-        (fault : DocFault) → IsFirstFault the_default_settings.res bytes fault
-        → IsAmong result.0 (2 ∷ 6 ∷ 9 ∷ [])) }
+    // What was read and written, by the status.
+    ensures written { IsWritten (given_by (F.library source) the_default_settings) result.0
+        (I.left input.old) (I.left input.new) (O.written out.old) (O.written out.new)
+        (out.new ≡ out.old) }
 
-    // 3 and 4: exactly where a page of that document has no bitmap, 4 where the fault is its font's, and
-    // neither a write nor the source failed before. All pages before the first such page were written, and
-    // nothing else.
-    ensures page { IsAmong result.0 (3 ∷ 4 ∷ []) → OfRead (I.left input.old) (λ bytes.
-        (page : FailingPage) × (result.0 ≡ page_status page.fault)
-        × OfRun (given_by (F.library source) the_default_settings) bytes
-        (λ _. Stopped (O.written out.old) (O.written out.new) page)) }
-    ensures stopped { length words.now ≡ 0 → (files : Files) → F.library source ≡ Some files
-        → OfRead (I.left input.old) (λ bytes.
-        (reading : Reading) (values : List PageValue) (page : FailingPage)
-        → IsRun (given_by (F.library source) the_default_settings) bytes reading values
-        → run_fault values ≡ Some page
-        → IsAmong result.0 (page_status page.fault ∷ 5 ∷ 6 ∷ 7 ∷ 9 ∷ [])) }
+    // The line in the notes, and the calls of the cache, of one and the same end.
+    ensures ended { (ending : EndingSeen) × (result.0 ≡ status_of ending)
+        × IsNoted (given_by (F.library source) the_default_settings) ending (I.left input.old)
+        (O.written out.old) (O.written out.new) (N.written notes.old) (N.written notes.new)
+        (N.faults notes.old) (N.faults notes.new)
+        × IsCached (given_by (F.library source) the_default_settings) the_default_settings.cache result.0
+        ending (I.left input.old) (O.written out.old) (O.written out.new) (calls_of history.new.items) }
 
-    // 5: only where the source failed. The pages before some page were written, which have bitmaps, and
-    // nothing of that page.
-    ensures source { result.0 ≡ 5 → HasFailed F.faults source result.1 }
-    ensures before { result.0 ≡ 5 → OfRead (I.left input.old) (λ bytes. (page : ℕ)
-        × OfRun (given_by (F.library source) the_default_settings) bytes
-        (WroteBefore (O.written out.old) (O.written out.new) page)) }
+    // The source that is given back, with its count of loads.
+    ensures given_back { IsGivenBack F.library F.faults F.loads result.0
+        (calls_of history.new.items) source result.1 }
 
-    // 0, 2 to 5 and 7: the input was read to its end, or to the limit of a document and one byte more.
-    ensures read { IsAmong result.0 (0 ∷ 2 ∷ 3 ∷ 4 ∷ 5 ∷ 7 ∷ [])
-        → IsAllRead (I.left input.old) (I.left input.new) }
-
-    // 0: all pages have a bitmap, and exactly their texts were written.
-    ensures written { result.0 ≡ 0 → OfRead (I.left input.old) (λ bytes.
-        OfRun (given_by (F.library source) the_default_settings) bytes
-        (Wrote (O.written out.old) (O.written out.new))) }
-
-    // 7: only where the output failed. The pages before some page with a bitmap were written, and a front
-    // of its own text.
-    ensures output { result.0 ≡ 7 → Rose (O.faults out.old) (O.faults out.new) }
-    ensures front { result.0 ≡ 7 → OfRead (I.left input.old) (λ bytes. (page : ℕ)
-        × OfRun (given_by (F.library source) the_default_settings) bytes
-        (λ _. WroteFront (O.written out.old) (O.written out.new) page)) }
-
-    // 9: nothing was written, or some pages from the first on, each whole.
-    ensures memory { result.0 ≡ 9 → (out.new ≡ out.old) ⊎ OfRead (I.left input.old) (λ bytes.
-        OfRun (given_by (F.library source) the_default_settings) bytes
-        (λ _. WroteSome (O.written out.old) (O.written out.new))) }
-
-    // A document whose pages all have a bitmap is written, where neither input nor source nor output fail,
-    // unless memory is wanting.
-    ensures complete { length words.now ≡ 0 → (files : Files) → F.library source ≡ Some files
-        → OfRead (I.left input.old) (λ bytes.
-        (reading : Reading) (values : List PageValue)
-        → IsWholeRun (given_by (F.library source) the_default_settings) bytes reading values
-        → run_fault values ≡ None
-        → ¬ (Rose (I.faults input.old) (I.faults input.new))
-        → ¬ (HasFailed F.faults source result.1)
-        → ¬ (Rose (O.faults out.old) (O.faults out.new)) → IsAmong result.0 (0 ∷ 9 ∷ [])) }
-
-    // The notes grew by the line of this end, or by a front of it where they failed. The fault or the page
-    // that it names is the one of the document.
-    ensures notes { (ending : EndingSeen) × (result.0 ≡ status_of ending)
-        × IsPlaced (given_by (F.library source) the_default_settings) ending (I.left input.old)
-        (O.written out.old) (O.written out.new)
-        × Tells (N.written notes.old) (N.written notes.new) (N.faults notes.old)
-        (N.faults notes.new) (line_of ending) }
-
-    // The source is given back, with its files as they were, but maybe at 9.
-    ensures given_back { result.1 ≡ None → result.0 ≡ 9 }
-    ensures library { IfSome result.1 (λ back. F.library back ≡ F.library source) }
-
-    // No count falls.
-    ensures counts { (I.faults input.old ≤ I.faults input.new)
-        × IfSome result.1 (λ back. F.faults source ≤ F.faults back)
-        × (O.faults out.old ≤ O.faults out.new) × (N.faults notes.old ≤ N.faults notes.new) }
+    ensures counts { NoCountFalls (I.faults input.old) (I.faults input.new)
+        (O.faults out.old) (O.faults out.new) (N.faults notes.old) (N.faults notes.new) }
 {
     if !words.is_empty() {
         print(notes, &Ending::Usage);
         return (Ending::Usage.status(), Some(source));
     }
-    run_with(rt, alloc, &default_settings(), input, source, out, notes)
+    run_with(
+        rt,
+        alloc,
+        &default_settings(),
+        input,
+        source,
+        out,
+        notes,
+        history,
+    )
 }

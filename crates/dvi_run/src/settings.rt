@@ -14,7 +14,7 @@ pub struct Settings {
     pub sheet: Sheet,
     /// How many pages are drawn at a time: 1.
     pub workers: u32,
-    /// How many fonts are kept: 1 to 256. Nothing is kept yet.
+    /// How many fonts are kept: 1 to 256.
     pub cache: u32,
     /// How many pages of the sample are drawn in place of the input's: none yet.
     pub sample: Option<u32>,

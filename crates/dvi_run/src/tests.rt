@@ -3,7 +3,9 @@ ghost use Rattle.std.specs.Prelude.{◌≤◌};
 ghost use Rattle.page_draw.specs.Sheets.{IsDrawable};
 ghost use Rattle.dvi_run.specs.Settings.{AreSettings};
 
+mod alone;
 mod characters;
+mod desks;
 mod drawing;
 mod faults;
 mod files;
@@ -110,7 +112,17 @@ fn ends<R: Wait>(
     let mut out = MemOutput::new(alloc, pieces.1, numbers(alloc, fails.1)?);
     let mut notes = MemOutput::new(alloc, 5, Vec::new(alloc));
     let source = no_fonts(alloc)?;
-    let (answer, source) = dvipbm_run(rt, alloc, &[], &mut input, source, &mut out, &mut notes);
+    let mut history = Vec::new(alloc);
+    let (answer, source) = dvipbm_run(
+        rt,
+        alloc,
+        &[],
+        &mut input,
+        source,
+        &mut out,
+        &mut notes,
+        &mut history,
+    );
     Ok(answer == status && source.is_some() && out.bytes() == written && notes.bytes() == line)
 }
 
@@ -163,8 +175,16 @@ fn ends_on<R: Wait, F: FontSource>(
     let mut input = SureInput::new(Vec::from_slice(alloc, bytes)?);
     let mut out = MemOutput::new(alloc, 64, Vec::new(alloc));
     let mut notes = MemOutput::new(alloc, 64, Vec::new(alloc));
+    let mut history = Vec::new(alloc);
     let (answer, source) = run_with(
-        rt, alloc, settings, &mut input, source, &mut out, &mut notes,
+        rt,
+        alloc,
+        settings,
+        &mut input,
+        source,
+        &mut out,
+        &mut notes,
+        &mut history,
     );
     Ok(answer == status && source.is_some() && out.bytes() == written && notes.bytes() == line)
 }

@@ -1,5 +1,5 @@
 //! A folder of font files as a source of fonts. It tells no files, and counts each error.
-ghost use Rattle.std.specs.Prelude.{◌≡◌};
+ghost use Rattle.std.specs.Prelude.{◌≡◌, ◌<◌, ◌^◌};
 
 use outside::{FileName, FontSource, LoadStop};
 use std::alloc::Global;
@@ -19,6 +19,7 @@ pub struct FolderFonts<'a, R> {
     folder: PathBuf,
     faults: u64,
     loads: u64,
+    ghost loads_fit: { loads < 2 ^ 64 },
 }
 
 impl<'a, R: Files> FolderFonts<'a, R> {
@@ -50,6 +51,8 @@ impl<'a, R: Files> FontSource for FolderFonts<'a, R> {
     ghost faults = { λ s. s.faults };
 
     ghost loads = { λ s. s.loads };
+
+    ghost loads_fit = { λ s. s.loads_fit };
 
     fn load(&mut self, name: &FileName) -> Result<Option<Vec<u8>>, LoadStop> {
         self.loads = self.loads.saturating_add(1);

@@ -58,6 +58,16 @@ fn main(rt: HostRuntime) -> ExitCode {
     let mut input = FromReader::new(rt.stdin());
     let mut out = ToWriter::new(rt.stdout());
     let mut notes = ToWriter::new(rt.stderr());
-    let (status, _fonts) = dvipbm_run(&rt, alloc, &words, &mut input, fonts, &mut out, &mut notes);
+    let mut history = Vec::new(alloc);
+    let (status, _fonts) = dvipbm_run(
+        &rt,
+        alloc,
+        &words,
+        &mut input,
+        fonts,
+        &mut out,
+        &mut notes,
+        &mut history,
+    );
     ExitCode::from(status)
 }

@@ -1,7 +1,7 @@
 //! Characters on small sheets, and pages that fail at one.
 
-use super::files::{CORNER_PK, DOT_TFM, character, dot, font, library, packed};
-use super::pages::DOT;
+use super::files::{CORNER_PK, DOT_TFM, character, dot, dot_and_bar, font, library, packed};
+use super::pages::{DOT, TWO};
 use super::{document, ends_on, on};
 use outside::{MemFonts, SureFonts};
 use page_draw::Sheet;
@@ -112,16 +112,16 @@ fn cuts_a_glyph_off_at_two_edges(rt: HostRuntime) -> Result<(), Fail> {
 #[test]
 fn ends_where_the_source_fails(rt: HostRuntime) -> Result<(), Fail> {
     let alloc = rt.alloc();
-    let pages: [&[u8]; 2] = [&[0xab, 0x41], &[0xab, 0x41]];
-    let bytes = document(alloc, &DOT, &pages)?;
-    // Each page asks for the TFM file, the VF file and the PK file.
+    let pages: [&[u8]; 2] = [&[0xab, 0x41], &[0xac, 0x41]];
+    let bytes = document(alloc, &TWO, &pages)?;
+    // Each page asks for the TFM file, the VF file and the PK file of a font of its own.
     for load in 1..4 {
-        let source = MemFonts::new(dot(alloc)?, Vec::from_slice(alloc, &[load])?);
+        let source = MemFonts::new(dot_and_bar(alloc)?, Vec::from_slice(alloc, &[load])?);
         let line = b"dvipbm: page 1: font source failed\n";
         assert!(rt; ends_on(&rt, rt.alloc(), &on(SMALL), &bytes, source, 5, b"", line)?);
     }
     for load in 4..7 {
-        let source = MemFonts::new(dot(alloc)?, Vec::from_slice(alloc, &[load])?);
+        let source = MemFonts::new(dot_and_bar(alloc)?, Vec::from_slice(alloc, &[load])?);
         let line = b"dvipbm: page 2: font source failed\n";
         assert!(rt;
             ends_on(
@@ -136,7 +136,7 @@ fn ends_where_the_source_fails(rt: HostRuntime) -> Result<(), Fail> {
             )?
         );
     }
-    let source = MemFonts::new(dot(alloc)?, Vec::from_slice(alloc, &[7])?);
+    let source = MemFonts::new(dot_and_bar(alloc)?, Vec::from_slice(alloc, &[7])?);
     let text = b"P4\n8 2\n\xc0\xc0P4\n8 2\n\xc0\xc0";
     assert!(rt; ends_on(&rt, rt.alloc(), &on(SMALL), &bytes, source, 0, text, b"")?);
     Ok(())

@@ -59,6 +59,20 @@ pub fn dot(alloc: Global) -> Result<Arc<Library>, Fail> {
     library(alloc, &[(b"dot.tfm", &DOT_TFM), (b"dot.300pk", &pk)])
 }
 
+/// The files of font `dot`, and the same under the name `bar`.
+pub fn dot_and_bar(alloc: Global) -> Result<Arc<Library>, Fail> {
+    let pk = packed(alloc, &DOT_PK)?;
+    library(
+        alloc,
+        &[
+            (b"dot.tfm", &DOT_TFM),
+            (b"dot.300pk", &pk),
+            (b"bar.tfm", &DOT_TFM),
+            (b"bar.300pk", &pk),
+        ],
+    )
+}
+
 /// The definition of font 0.
 pub fn font(alloc: Global, name: &[u8], size: u32, design: u32) -> Result<Vec<u8>, Fail> {
     let mut bytes = Vec::from_slice(alloc, &[0xf3, 0, 0, 0, 0, 0])?;

@@ -17,6 +17,12 @@ pub static DOT: [u8; 19] = [
     0xf3, 0, 0, 0, 0, 0, 0, 0, 0, 128, 0, 0, 0, 128, 0, 3, 0x64, 0x6f, 0x74,
 ];
 
+/// `dot` and `bar`, as fonts 0 and 1.
+pub static TWO: [u8; 38] = [
+    0xf3, 0, 0, 0, 0, 0, 0, 0, 0, 128, 0, 0, 0, 128, 0, 3, 0x64, 0x6f, 0x74, //
+    0xf3, 1, 0, 0, 0, 0, 0, 0, 0, 128, 0, 0, 0, 128, 0, 3, 0x62, 0x61, 0x72,
+];
+
 #[test]
 fn draws_a_put_rule(rt: HostRuntime) -> Result<(), Fail> {
     let alloc = rt.alloc();

@@ -14,7 +14,17 @@ fn takes_no_words(rt: HostRuntime) -> Result<(), Fail> {
     let mut notes = MemOutput::new(alloc, 64, Vec::new(alloc));
     let words = vec![in alloc; String::from_str(alloc, "--trace")?]?;
     let source = no_fonts(alloc)?;
-    let (answer, source) = dvipbm_run(&rt, alloc, &words, &mut input, source, &mut out, &mut notes);
+    let mut history = Vec::new(alloc);
+    let (answer, source) = dvipbm_run(
+        &rt,
+        alloc,
+        &words,
+        &mut input,
+        source,
+        &mut out,
+        &mut notes,
+        &mut history,
+    );
     assert_eq!(rt; answer, 1);
     assert!(rt; source.is_some());
     assert!(rt; out.bytes().is_empty());
@@ -107,7 +117,17 @@ fn keeps_its_status_where_the_notes_fail(rt: HostRuntime) -> Result<(), Fail> {
     let mut out = MemOutput::new(alloc, 64, Vec::new(alloc));
     let mut notes = MemOutput::new(alloc, 5, numbers(alloc, &[3])?);
     let source = no_fonts(alloc)?;
-    let (answer, _source) = dvipbm_run(&rt, alloc, &[], &mut input, source, &mut out, &mut notes);
+    let mut history = Vec::new(alloc);
+    let (answer, _source) = dvipbm_run(
+        &rt,
+        alloc,
+        &[],
+        &mut input,
+        source,
+        &mut out,
+        &mut notes,
+        &mut history,
+    );
     assert_eq!(rt; answer, 2);
     assert_eq!(rt; notes.bytes(), b"dvipbm: do".as_slice());
     Ok(())

@@ -11,7 +11,7 @@ returns-clause-reading c = λ g bytes r s v w a b. c.documents.ensures.one_readi
 pub returns-clause-values : goal.returns-clause-values
 returns-clause-values c =
     let reading : OneReading = λ g bytes r s v w a b. c.documents.ensures.one_reading g.res bytes r s a.document b.document in
-    one_run c.values.ensures reading
+    one_run c.values.ensures.one reading
 
 pub returns-clause-fronts : goal.returns-clause-fronts
 returns-clause-fronts c = fronts

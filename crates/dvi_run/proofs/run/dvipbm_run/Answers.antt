@@ -1,17 +1,15 @@
-use Rattle.std.proofs.Common.{◌≡◌, [], ◌∷◌, subst}
-use Rattle.page_index.specs.Faults.{IsFirstFault}
-use Rattle.page_index.specs.declared.faults.DocFault.{DocFault}
-use Rattle.dvi_run.specs.Reading.{OfRead}
-use Rattle.dvi_run.specs.Endings.{IsAmong}
-use Rattle.dvi_run.specs.declared.settings.Settings.{Settings}
+use Rattle.std.proofs.Common.{◌≡◌, [], refl, ap}
+use Rattle.cache_core.specs.Views.{calls_of}
+use Rattle.dvi_run.specs.Settings.{default_settings as the_default_settings}
+use Rattle.dvi_run.specs.Endings.{Usage}
+use Rattle.dvi_run.specs.Pages.{given_by}
+use Rattle.dvi_run.proofs.Promised.{usage_called, usage_wrote}
 use Rattle.dvi_run.proofs.run.dvipbm_run.Goals as goal
 
-pub returns-clause-document : goal.returns-clause-document
-returns-clause-document g c =
-    subst (λ (s : Settings). c.run_with.result.0 ≡ 2 → OfRead (g.I.Input.left c.args.input.now) (λ bytes. (fault : DocFault) × IsFirstFault s.res bytes fault)) c.default_settings.ensures.value
-    c.run_with.ensures.document
+pub returns-then-not-is_empty-clause-written : goal.returns-then-not-is_empty-clause-written
+returns-then-not-is_empty-clause-written g c = rw c.status.ensures (usage_wrote _ _ _ _ _ _)
 
-pub returns-clause-refused : goal.returns-clause-refused
-returns-clause-refused g c none =
-    subst (λ (s : Settings). OfRead (g.I.Input.left c.args.input.now) (λ bytes. (fault : DocFault) → IsFirstFault s.res bytes fault → IsAmong c.run_with.result.0 (2 ∷ 6 ∷ 9 ∷ [])))
-    c.default_settings.ensures.value c.run_with.ensures.refused
+pub returns-then-not-is_empty-clause-ended : goal.returns-then-not-is_empty-clause-ended
+returns-then-not-is_empty-clause-ended g c =
+    let none : calls_of c.args.history.now.items ≡ [] = ap calls_of c.requires.empty in
+    (Usage, c.status.ensures, record { placed = tt; told = c.print.ensures.tells }, usage_called _ _ _ _ _ _ _ none)

@@ -1,22 +1,22 @@
-use Rattle.std.proofs.Common.{◌∙◌, sym}
+use Rattle.std.proofs.Common.{arith}
 use Rattle.dvi_run.specs.Endings.{seen_ending}
-use Rattle.dvi_run.proofs.Clauses.{complete_by, document_by, refused_by, stopped_by}
+use Rattle.dvi_run.proofs.Promised.{called_at, caused_at, noted_at, written_at}
 use Rattle.dvi_run.proofs.run.run_with.Goals as goal
 
-pub returns-clause-document : goal.returns-clause-document
-returns-clause-document g c two = (document_by _ _ _ _ _ _ _ _ _ (seen_ending c.ending-ending.result.0) (sym c.status.ensures ∙ two) c.ending-ending.ensures.ends).0
-
-pub returns-clause-refused : goal.returns-clause-refused
-returns-clause-refused g c =
+pub returns-clause-caused : goal.returns-clause-caused
+returns-clause-caused g c =
     let runs = c.runs.ensures in
-    rw c.status.ensures (refused_by _ _ _ _ _ _ _ _ _ runs.reading runs.values runs.no_fault (seen_ending c.ending-ending.result.0) c.ending-ending.ensures.ends)
+    caused_at _ _ _ _ _ _ _ _ _ runs.reading runs.values runs.no_fault (seen_ending c.ending-ending.result.0) c.ending-ending.ensures.ends _ (grind arith)
 
-pub returns-clause-stopped : goal.returns-clause-stopped
-returns-clause-stopped g c files told =
-    let runs = c.runs.ensures in
-    rw c.status.ensures (stopped_by _ _ _ _ _ _ _ _ _ runs.reading runs.values runs.no_fault files told (seen_ending c.ending-ending.result.0) c.ending-ending.ensures.ends)
+pub returns-clause-written : goal.returns-clause-written
+returns-clause-written g c = written_at _ _ _ _ _ _ _ _ _ (seen_ending c.ending-ending.result.0) c.ending-ending.ensures.ends _ (grind arith)
 
-pub returns-clause-complete : goal.returns-clause-complete
-returns-clause-complete g c files told =
-    let runs = c.runs.ensures in
-    rw c.status.ensures (complete_by _ _ _ _ _ _ _ _ _ runs.reading runs.values runs.no_fault files told (seen_ending c.ending-ending.result.0) c.ending-ending.ensures.ends)
+pub returns-clause-ended : goal.returns-clause-ended
+returns-clause-ended g c =
+    let end = c.ending-ending.ensures in
+    let ending = seen_ending c.ending-ending.result.0 in (
+      ending,
+      grind arith,
+      noted_at _ _ _ _ _ _ _ _ _ ending end.ends _ _ _ _ c.print.ensures.tells,
+      called_at _ _ _ _ _ ending _ end.legal end.own end.alone _ (grind arith),
+    )

@@ -1,0 +1,69 @@
+use Rattle.std.proofs.Common.{◌≡◌, ◌+◌, ℕ, Option, get_or, refl, sym, subst, ap, ◌∙◌, rules}
+use Rattle.outside.specs.Library.{Files}
+use Rattle.pixel_round.specs.declared.units.Units.{Units}
+use Rattle.turn_lock.specs.declared.view.View.{View}
+use Rattle.turn_lock.specs.Views.{opening_view}
+use Rattle.cache_core.specs.Views.{calls_of}
+use Rattle.dvi_run.specs.Endings.{Memory, Written}
+use Rattle.dvi_run.specs.Rounds.{Ran}
+use Rattle.dvi_run.proofs.Seated.{unused}
+use Rattle.dvi_run.proofs.at_once.draw_at_once.Goals as goal
+
+opening_is : (v : View) (capacity : ℕ) (u w : Units) (l : Option Files) → v ≡ opening_view (record { capacity = capacity; units = u; library = l }) → w ≡ u
+    → v ≡ opening_view (record { capacity = v.part.capacity; units = w; library = l })
+opening_is v capacity u w l e same =
+    let c : v.part.capacity ≡ capacity = ap (λ (x : View). x.part.capacity) e in
+    e ∙ ap (λ (n : ℕ). opening_view (record { capacity = n; units = u; library = l })) (sym c)
+    ∙ ap (λ (x : Units). opening_view (record { capacity = v.part.capacity; units = x; library = l })) (sym same)
+
+pub returns-in_default-clause-workers : goal.returns-in_default-clause-workers
+returns-in_default-clause-workers g c =
+    let q = c.requires.1.1.1.1.1 in
+    λ k d lt.
+    subst (λ h. Ran (Memory ≡ Written) g.F.FontSource.library g.F.FontSource.faults g.F.FontSource.loads (record { library = g.told; res = c.args.index.now.res; sheet = c.args.sheet.now }) c.args.index.now.reading (calls_of h) (k + 1)
+    (get_or c.args.workers.now k d) (get_or c.args.workers.now k d)) (sym q.1.1.1.1.1.0)
+    (unused g.F.FontSource.library g.F.FontSource.faults g.F.FontSource.loads (record { library = g.told; res = c.args.index.now.res; sheet = c.args.sheet.now }) c.args.index.now.reading (k + 1)
+    (get_or c.args.workers.now k d) (q.1.1.1.1.1.1.0 k d lt) (q.1.1.1.1.1.1.1 k d lt) _)
+
+pub draw_over-ending-requires : goal.draw_over-ending-requires
+draw_over-ending-requires g c κs within =
+    let q = c.requires.1.1.1.1.1 in
+    let made = c.in-Ok.ensures in (
+      search rules fits 100000 depth 60,
+      (
+        search rules fits 100000 depth 60,
+        (
+          search rules fits 100000 depth 60,
+          (
+            search rules fits 100000 depth 60,
+            (
+              search rules fits 100000 depth 60,
+              (
+                q.0,
+                (
+                  q.1.0,
+                  (
+                    q.1.1.1.1.0,
+                    (
+                      c.units-units.ensures.value,
+                      (
+                        search rules,
+                        (
+                          made.lock,
+                          (opening_is c.in-Ok.first.view c.args.capacity c.units-units.result c.units-units.result g.told made.seat refl, q.1.1.1.1.1.1.0),
+                        ),
+                      ),
+                    ),
+                  ),
+                ),
+              ),
+            ),
+          ),
+        ),
+      ),
+    )
+
+pub returns-in_default-clause-shares : goal.returns-in_default-clause-shares
+returns-in_default-clause-shares g c =
+    let q = c.requires.1.1.1.1.1 in
+    record { rounds = 0; shared = λ k d lt. (q.1.1.1.1.1.1.0 k d lt).pages }

@@ -1,0 +1,138 @@
+-- What holds of a run: why it ended as its status says, what it wrote and noted, which calls its cache had, and what it gave back.
+use Rattle.std.specs.Prelude.{◌≡◌, ◌⊎◌, ◌*◌, ◌≤◌, ℕ, List, [], ◌∷◌, Option, None, Some, IfSome}
+use Rattle.outside.specs.Library.{Files}
+use Rattle.cache_core.specs.declared.calls.Call.{Call}
+use Rattle.cache_core.specs.Histories.{AreOf}
+use Rattle.cache_core.specs.Machine.{Legal}
+use Rattle.font_decode.specs.Desks.{misses}
+use Rattle.font_decode.specs.Loads.{RoseUpTo}
+use Rattle.page_index.specs.Document.{Reading}
+use Rattle.page_index.specs.Faults.{IsFirstFault}
+use Rattle.page_index.specs.declared.faults.DocFault.{DocFault}
+use Rattle.page_draw.specs.Values.{PageValue}
+use Rattle.dvi_run.specs.Reading.{IsAllRead, OfRead}
+use Rattle.dvi_run.specs.Pages.{FailingPage, Given, IsRun, IsWholeRun, run_fault}
+use Rattle.dvi_run.specs.Lines.{line_of}
+use Rattle.dvi_run.specs.Endings.{EndingSeen, IsAmong, IsPlaced, OfRun, Stopped, Tells, Wrote, WroteBefore, WroteFront, WroteSome, page_status, statuses}
+use Rattle.dvi_run.specs.Looked.{CalledAlone}
+
+-- ---- parts of the claims: what holds of the bytes that were read
+
+-- they have a first fault
+abbrev pub HasFault : Given → List ℕ → Type 0
+HasFault g bytes = (fault : DocFault) × IsFirstFault g.res bytes fault
+
+-- if they have a first fault the status is 2, 6 or 9
+abbrev pub FaultIsNamed : Given → ℕ → List ℕ → Type 0
+FaultIsNamed g status bytes =
+    (fault : DocFault) → IsFirstFault g.res bytes fault → IsAmong status (2 ∷ 6 ∷ 9 ∷ [])
+
+-- they are a document with a page that has no bitmap, which has this status
+abbrev pub HasFailingPage : Given → ℕ → List ℕ → Type 0
+HasFailingPage g status bytes = (page : FailingPage) × (status ≡ page_status page.fault)
+    × OfRun g bytes (λ _ values. run_fault values ≡ Some page)
+
+-- if they are a document with a page that has no bitmap the status is the first such page's, or
+-- something failed before
+abbrev pub FailingPageIsNamed : Given → ℕ → List ℕ → Type 0
+FailingPageIsNamed g status bytes = (reading : Reading) (values : List PageValue) (page : FailingPage)
+    → IsRun g bytes reading values → run_fault values ≡ Some page
+    → IsAmong status (page_status page.fault ∷ 5 ∷ 6 ∷ 7 ∷ 9 ∷ [])
+
+-- if they are a document whose pages all have a bitmap the status is 0 or 9
+abbrev pub GoodRunIsWhole : Given → ℕ → List ℕ → Type 0
+GoodRunIsWhole g status bytes = (reading : Reading) (values : List PageValue)
+    → IsWholeRun g bytes reading values → run_fault values ≡ None → IsAmong status (0 ∷ 9 ∷ [])
+
+-- they are a document, and all pages before the first that has no bitmap were written, and nothing else
+abbrev pub StoppedAt : Given → ℕ → (old new : Option (List ℕ)) → List ℕ → Type 0
+StoppedAt g status old new bytes = (page : FailingPage) × (status ≡ page_status page.fault)
+    × OfRun g bytes (λ _. Stopped old new page)
+
+-- they are a document, and the pages before some page were written, which have bitmaps
+abbrev pub StoppedBefore : Given → (old new : Option (List ℕ)) → List ℕ → Type 0
+StoppedBefore g old new bytes = (page : ℕ) × OfRun g bytes (WroteBefore old new page)
+
+-- they are a document, and the pages before some page were written, and a front of its own text; it
+-- and they have bitmaps
+abbrev pub StoppedIn : Given → (old new : Option (List ℕ)) → List ℕ → Type 0
+StoppedIn g old new bytes = (page : ℕ) × OfRun g bytes (λ _. WroteFront old new page)
+
+-- ---- the claims
+
+-- The causes of each status, both ways. `left` is what the input had left. The three facts say that the
+-- count of faults of the input, the fonts' source and the output rose in this run.
+pub record IsCaused (g : Given) (status : ℕ) (left : Option (List ℕ)) (InputFailed SourceFailed OutputFailed : Type 0) : Type 0 where
+  -- which statuses there are
+  pub answers : IsAmong status statuses
+  -- 2: exactly where the bytes that were read have a first fault
+  pub document : status ≡ 2 → OfRead left (HasFault g)
+  pub refused : OfRead left (FaultIsNamed g status)
+  -- 3 and 4: exactly where a page of the document has no bitmap, 4 where the fault is its font's, and
+  -- neither a write nor the source failed before
+  pub page : IsAmong status (3 ∷ 4 ∷ []) → OfRead left (HasFailingPage g status)
+  pub stopped : (files : Files) → g.library ≡ Some files → OfRead left (FailingPageIsNamed g status)
+  -- 5: only where the source failed
+  pub source : status ≡ 5 → SourceFailed
+  -- 6: only where the input failed
+  pub input : status ≡ 6 → InputFailed
+  -- 7: only where the output failed
+  pub output : status ≡ 7 → OutputFailed
+  -- 0, but for want of memory: where all pages have a bitmap and nothing failed
+  pub complete : (files : Files) → g.library ≡ Some files
+      → ¬ InputFailed → ¬ SourceFailed → ¬ OutputFailed → OfRead left (GoodRunIsWhole g status)
+
+-- What was read and written, by the status. `left` and `rest` are what the input had left before and
+-- after, `old` and `new` what the output told. Nothing was written where it was kept.
+pub record IsWritten (g : Given) (status : ℕ) (left rest old new : Option (List ℕ)) (OutputKept : Type 0) : Type 0 where
+  -- 0: exactly the texts of all pages, which have a bitmap
+  pub whole : status ≡ 0 → OfRead left (λ bytes. OfRun g bytes (Wrote old new))
+  -- 2 and 6: nothing
+  pub nothing : IsAmong status (2 ∷ 6 ∷ []) → OutputKept
+  -- 3 and 4: all pages before the first that has no bitmap, and nothing else
+  pub stopped : IsAmong status (3 ∷ 4 ∷ []) → OfRead left (StoppedAt g status old new)
+  -- 5: the pages before some page, which have bitmaps, and nothing of that page
+  pub before : status ≡ 5 → OfRead left (StoppedBefore g old new)
+  -- 7: the pages before some page with a bitmap, and a front of its own text
+  pub front : status ≡ 7 → OfRead left (StoppedIn g old new)
+  -- 9: nothing, or some pages from the first on, each whole
+  pub memory : status ≡ 9
+      → OutputKept ⊎ OfRead left (λ bytes. OfRun g bytes (λ _. WroteSome old new))
+  -- 0, 2 to 5 and 7: the input was read to its end, or to the limit of a document and one byte more
+  pub read : IsAmong status (0 ∷ 2 ∷ 3 ∷ 4 ∷ 5 ∷ 7 ∷ []) → IsAllRead left rest
+
+-- What the notes took of the line of a run that ends so, and that the line is true.
+pub record IsNoted (g : Given) (e : EndingSeen) (left old new notes_old notes_new : Option (List ℕ)) (notes_before notes_now : ℕ) : Type 0 where
+  -- what the line names is the document's: its first fault, its page without a bitmap with the fault
+  -- and its place, or the page that the source or the output failed at
+  pub placed : IsPlaced g e left old new
+  -- the notes grew by the line, or by a front of it where they failed
+  pub told : Tells notes_old notes_new notes_before notes_now (line_of e)
+
+-- The calls of the cache of a run that ends so.
+pub record IsCached (g : Given) (capacity status : ℕ) (e : EndingSeen) (left old new : Option (List ℕ)) (history : List Call) : Type 0 where
+  -- they are legal for the capacity, told or not
+  pub legal : Legal capacity history
+  -- they are of one seat
+  pub own : AreOf 1 history
+  -- there is none where no page was begun. Else they answer what the pages drawn looked up, in the order
+  -- of the file, the look-ups of each beside the value that says what was written of it, and they are one
+  -- list, given those keys, unless the source failed (5) or memory was wanting (9)
+  pub answered : OfRead left (CalledAlone g old new capacity status e history)
+
+-- The source of the fonts, after a run whose cache had these calls.
+pub record IsGivenBack {F : Type 0} (library : F → Option Files) (faults loads : F → ℕ) (status : ℕ) (history : List Call) (source : F) (back : Option F) : Type 0 where
+  -- it is given back, but maybe at 9
+  pub none : back ≡ None → status ≡ 9
+  -- with its files as they were
+  pub files : IfSome back (λ b. library b ≡ library source)
+  -- its count of faults didn't fall
+  pub count : IfSome back (λ b. faults source ≤ faults b)
+  -- and it loaded at most five files for each look that was no hit
+  pub loaded : IfSome back (λ b. RoseUpTo (5 * misses history) (loads source) (loads b))
+
+-- The counts of faults of the input, the output and the notes didn't fall.
+pub record NoCountFalls (input_before input_now output_before output_now notes_before notes_now : ℕ) : Type 0 where
+  pub input : input_before ≤ input_now
+  pub output : output_before ≤ output_now
+  pub notes : notes_before ≤ notes_now

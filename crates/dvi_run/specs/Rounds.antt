@@ -1,0 +1,170 @@
+-- Workers that draw the pages of a document in rounds.
+use Rattle.std.specs.Prelude.{◌≡◌, ◌⊎◌, ℕ, ◌+◌, ◌-◌, ◌*◌, ◌^◌, ◌<◌, ◌≤◌, List, [], ◌∷◌, ◌++◌, Option, Some, None, Result, Ok, Err, IsErrOf, IfSome}
+use Rattle.std.specs.Io.KnownBytes.{Appends}
+use Rattle.outside.specs.Counts.{Rose}
+use Rattle.outside.specs.Library.{Files}
+use Rattle.outside.specs.Streams.{AppendsPrefix}
+use Rattle.outside.specs.declared.keys.FontKey.{FontKey}
+use Rattle.packed_rows.specs.Bitmap.{Bitmap}
+use Rattle.page_index.specs.Document.{Reading, pages_begun}
+use Rattle.page_index.specs.Pages.{Indexed, document_units}
+use Rattle.turn_lock.specs.Seats.{SeatView}
+use Rattle.cache_core.specs.declared.calls.Call.{Call}
+use Rattle.cache_core.specs.Histories.{own, SeatCalls, NoneReleased, looks}
+use Rattle.font_decode.specs.Desks.{TrailGrew, ReleasedLast, Loaded, misses}
+use Rattle.vf_expand.specs.Faults.{seen_fault}
+use Rattle.page_draw.specs.Members.{Finding}
+use Rattle.page_draw.specs.Values.{fault_at}
+use Rattle.page_draw.specs.Drawn.{IsWhole}
+use Rattle.page_draw.specs.declared.sheet.Sheet.{Sheet}
+use Rattle.page_draw.specs.declared.stop.PageStop.{PageStop}
+use Rattle.page_draw.specs.declared.stop.PageStop.TheVariants as draw
+use Rattle.pbm_output.specs.Pbm.{page_text}
+use Rattle.page_workers.specs.declared.bench.Bench.{Bench}
+use Rattle.page_workers.specs.declared.worker.Worker.{Worker}
+use Rattle.page_workers.specs.Seats.{Fits, asked_at, library_at, units_at, room_at, own_calls}
+use Rattle.page_workers.specs.Rounds.{trail_of}
+use Rattle.dvi_run.specs.Pages.{Given, IsValueOf, finding}
+use Rattle.dvi_run.specs.Looked.{BrokenLooks, WholeLooks}
+use Rattle.dvi_run.specs.declared.pages.WriteStop.{WriteStop}
+use Rattle.dvi_run.specs.declared.pages.WriteStop.TheVariants as stop
+
+-- what all of a run's rounds have in common
+pub record Site (F : Type 0) : Type 0 where
+  pub library : F → Option Files
+  pub faults : F → ℕ
+  pub loads : F → ℕ
+  pub bench : Bench
+  pub given : Given
+  pub reading : Reading
+
+abbrev pub site : {F : Type 0} → (F → Option Files) → (F → ℕ) → (F → ℕ) → Bench → Option Files → Indexed → Sheet → Site F
+site library faults loads bench told indexed sheet =
+    record { library = library; faults = faults; loads = loads; bench = bench; given = record { library = told; res = indexed.res; sheet = sheet }; reading = indexed.reading }
+
+abbrev pub keys_of : Option SeatView → List FontKey
+keys_of None = []
+keys_of (Some s) = looks (own_calls s)
+
+abbrev pub indexed_of : Given → Reading → Indexed
+indexed_of g reading = record { res = g.res; reading = reading }
+
+-- what came of a page is the page's own
+abbrev pub IsOutcomeOf : Given → Reading → ℕ → Result Bitmap PageStop → Type 0
+IsOutcomeOf g reading i (Ok page) = IsValueOf g reading i (Ok page)
+IsOutcomeOf g reading i (Err (draw.Fault fault at)) = IsValueOf g reading i (fault_at (seen_fault fault) at)
+IsOutcomeOf g reading i (Err draw.SourceFault) = Unit {0}
+IsOutcomeOf g reading i (Err draw.NoMemory) = Unit {0}
+
+-- the keys that were looked up for these pages, of which the last had this outcome
+abbrev pub LooksTo : Result Bitmap PageStop → Finding → Indexed → Given → List ℕ → List FontKey → Type 0
+LooksTo (Ok page) Finds indexed g pages keys = WholeLooks Finds indexed g.sheet pages keys
+LooksTo (Err (draw.Fault fault at)) Finds indexed g pages keys = WholeLooks Finds indexed g.sheet pages keys
+LooksTo (Err draw.SourceFault) Finds indexed g pages keys = BrokenLooks Finds indexed g.sheet pages keys
+LooksTo (Err draw.NoMemory) Finds indexed g pages keys = BrokenLooks Finds indexed g.sheet pages keys
+
+module _ {F : Type 0} (s : Site F) where
+  -- what holds of a worker throughout
+  pub record Kept (start now : Worker F) : Type 0 where
+    pub fits : Fits (s.library now.source) s.bench now.seat
+    pub library : library_at now.seat ≡ library_at start.seat
+    pub units : units_at now.seat ≡ units_at start.seat
+    pub faults : s.faults start.source ≤ s.faults now.source
+
+  abbrev pub Trails : Type 0 → Worker F → Worker F → Type 0
+  Trails W start now = TrailGrew W (asked_at start.seat) (asked_at now.seat) (trail_of s.loads start) (trail_of s.loads now)
+
+  -- the worker has no result, and each page that it drew had a bitmap
+  pub record Settled (start now : Worker F) : Type 0 where
+    pub kept : Kept start now
+    pub none : now.results.items ≡ []
+    pub trail : Trails (Unit {0}) start now
+    pub looked : WholeLooks (finding s.given s.reading) (indexed_of s.given s.reading) s.given.sheet now.pages.items (keys_of now.seat)
+
+  -- the worker has the result of this page, and each page before it had a bitmap
+  pub record Pending (page : ℕ) (start now : Worker F) : Type 0 where
+    pub kept : Kept start now
+    pub outcome : Result Bitmap PageStop
+    pub result : now.results.items ≡ record { page = page; outcome = outcome } ∷ []
+    pub drew : (before : List ℕ) × (now.pages.items ≡ before ++ page ∷ [])
+    pub value : IsOutcomeOf s.given s.reading page outcome
+    pub rose : IsErrOf outcome draw.SourceFault → Rose (s.faults start.source) (s.faults now.source)
+    pub trail : Trails (IsWhole outcome) start now
+    pub looked : LooksTo outcome (finding s.given s.reading) (indexed_of s.given s.reading) s.given now.pages.items (keys_of now.seat)
+
+  -- worker k of n, where the rounds before page `next` were begun, and the pages before page `from` were written
+  pub record Stands (n next from k : ℕ) (start now : Worker F) : Type 0 where
+    pub room : room_at start.loads start.seat ≤ room_at now.loads now.seat + next * 2 ^ 24
+    pub pending : from + n ≤ next + k → next + k < pages_begun s.reading + n → Pending (next + k - n) start now
+    pub settled : (next + k < from + n) ⊎ (pages_begun s.reading + n ≤ next + k) → Settled start now
+
+  -- what is so of a worker when the rounds are over
+  pub record Ended (start now : Worker F) : Type 0 where
+    pub kept : Kept start now
+    pub trail : Trails ⊥ start now
+    pub looked : WholeLooks (finding s.given s.reading) (indexed_of s.given s.reading) s.given.sheet now.pages.items (keys_of now.seat)
+        ⊎ BrokenLooks (finding s.given s.reading) (indexed_of s.given s.reading) s.given.sheet now.pages.items (keys_of now.seat)
+
+-- a worker that may begin: it has a seat, and nothing was looked up, drawn or kept
+pub record MayBegin {F : Type 0} (s : Site F) (w : Worker F) : Type 0 where
+  pub fits : Fits (s.library w.source) s.bench w.seat
+  pub library : library_at w.seat ≡ s.given.library
+  pub units : units_at w.seat ≡ document_units s.given.res s.reading
+  pub none : w.results.items ≡ []
+  pub pages : w.pages.items ≡ []
+  pub keys : keys_of w.seat ≡ []
+  pub room : 1000000 * 2 ^ 24 ≤ room_at w.loads w.seat
+
+-- ---- a result that is written
+
+abbrev pub WroteOutcome : (old new : Option (List ℕ)) (OutputFails : Type 0) → Result Bitmap PageStop → Result (Unit {0}) WriteStop → Type 0
+WroteOutcome old new OutputFails (Ok page) (Ok done) = Appends old new (page_text page)
+WroteOutcome old new OutputFails (Ok page) (Err (stop.Draw reason)) = ⊥
+WroteOutcome old new OutputFails (Ok page) (Err stop.Output) = AppendsPrefix old new (page_text page) × OutputFails
+WroteOutcome old new OutputFails (Err reason) (Ok done) = ⊥
+WroteOutcome old new OutputFails (Err reason) (Err (stop.Draw told)) = (told ≡ reason) × (new ≡ old)
+WroteOutcome old new OutputFails (Err reason) (Err stop.Output) = ⊥
+
+-- a worker but for its results
+pub record SameBut {F : Type 0} (before after : Worker F) : Type 0 where
+  pub source : after.source ≡ before.source
+  pub seat : after.seat ≡ before.seat
+  pub loads : after.loads ≡ before.loads
+  pub pages : after.pages.items ≡ before.pages.items
+
+-- and it has no result any more
+pub record WasCleared {F : Type 0} (before after : Worker F) : Type 0 where
+  pub same : SameBut before after
+  pub none : after.results.items ≡ []
+
+-- the source of the worker that drew this page, from 1, rose in its faults
+pub record FailedAt {F : Type 0} (faults : F → ℕ) (page : ℕ) (start now : Worker F) : Type 0 where
+  pub rose : Rose (faults start.source) (faults now.source)
+  pub number : ℕ
+  pub is : page ≡ number + 1
+  pub drew : (before : List ℕ) × (now.pages.items ≡ before ++ number ∷ [])
+
+-- ---- a whole run's pages
+
+-- a worker that was not used yet; it tells what the run is told
+pub record IsFresh {F : Type 0} (library : F → Option Files) (told : Option Files) (w : Worker F) : Type 0 where
+  pub tells : IfSome told (λ l. library w.source ≡ Some l)
+  pub none : w.results.items ≡ []
+  pub loads : w.loads ≡ 0
+  pub pages : w.pages.items ≡ []
+
+-- what a worker did in a run, by the calls of its seat in the history: they answer the look-ups of the pages that it drew, a claim is given
+-- up at their end alone, and nowhere where the run is whole, and it loaded at most five files for each look that was no hit. It has neither
+-- a seat nor a result any more, and its source tells what the run was told
+pub record Ran {F : Type 0} (Whole : Type 0) (library : F → Option Files) (faults loads : F → ℕ) (g : Given) (reading : Reading) (history : List Call) (number : ℕ) (before after : Worker F) : Type 0 where
+  pub seat : after.seat ≡ None
+  pub none : after.results.items ≡ []
+  pub tells : IfSome g.library (λ l. library after.source ≡ Some l)
+  pub faults_rose : faults before.source ≤ faults after.source
+  pub keys : List FontKey
+  pub looked : WholeLooks (finding g reading) (indexed_of g reading) g.sheet after.pages.items keys
+      ⊎ BrokenLooks (finding g reading) (indexed_of g reading) g.sheet after.pages.items keys
+  pub answered : SeatCalls keys (own number history)
+  pub last : ReleasedLast (own number history)
+  pub whole : Whole → NoneReleased (own number history)
+  pub loaded : Loaded (5 * misses (own number history)) (loads before.source) (loads after.source) before.loads after.loads

@@ -1,0 +1,122 @@
+//! All pages of a document by workers that share one cache of fonts.
+ghost use Rattle.std.specs.Prelude.{◌≡◌, ◌+◌, ◌<◌, ◌≤◌, [], ℕ, List, Option, None, Some, length, slice_index_or};
+ghost use Rattle.outside.specs.Counts.{Rose};
+ghost use Rattle.outside.specs.Library.{Files};
+ghost use Rattle.cache_core.specs.Machine.{Legal};
+ghost use Rattle.cache_core.specs.Views.{calls_of};
+ghost use Rattle.cache_core.specs.Laws.{FewClaims};
+ghost use Rattle.pixel_round.specs.Preamble.{AreUnits};
+ghost use Rattle.page_index.specs.Document.{pages_begun};
+ghost use Rattle.page_index.specs.Pages.{document_units};
+ghost use Rattle.page_draw.specs.Sheets.{IsDrawable};
+ghost use Rattle.page_draw.specs.Values.{PageValue};
+ghost use Rattle.turn_lock.specs.Histories.{AllMade};
+ghost use Rattle.turn_lock.specs.Views.{opening_view};
+ghost use Rattle.dvi_run.specs.Pages.{AreValues};
+ghost use Rattle.dvi_run.specs.Endings.{EndsPages, Source, Written, seen_ending};
+ghost use Rattle.dvi_run.specs.Shares.{AreShares};
+ghost use Rattle.dvi_run.specs.Rounds.{FailedAt, IsFresh, Ran};
+
+use crate::clearing::clear_all;
+use crate::ending::Ending;
+use crate::opening::open_cache;
+use crate::rounds::write_rounds;
+use cache_core::Entry;
+use font_cache::CacheSeat;
+use font_decode::Decoded;
+use outside::{FontSource, Output};
+use page_draw::Sheet;
+use page_index::Index;
+use page_workers::{Bench, Worker, join_all, seat_all};
+use std::alloc::Global;
+use std::sync::Wait;
+use std::thread::Threads;
+
+/// Draws and writes the pages with a new bench, whose seat 0 is `first`, and gives the history of its cache.
+pub fn draw_over<R: Threads + Wait + Sync, F: FontSource + Send, O: Output>(
+    rt: &R,
+    alloc: Global,
+    workers: &mut [Worker<F>],
+    bench: Bench,
+    first: CacheSeat<Decoded>,
+    index: &Index,
+    sheet: &Sheet,
+    out: &mut O,
+) -> (Ending, Vec<Entry>)
+    ghost told: { Option Files }
+    requires some { 1 ≤ length workers.old }
+    requires few { length workers.old ≤ 32 }
+    requires sheet { IsDrawable sheet.now }
+    requires units { document_units index.now.res index.now.reading ≡ Some bench.units }
+    requires sound { AreUnits bench.units }
+    requires lock { first.lock ≡ bench.cache }
+    requires opening { first.view ≡ opening_view (record { capacity = first.view.part.capacity; units = bench.units; library = told }) }
+    requires fresh { (k : ℕ) (d : _) → k < length workers.old → IsFresh F.library told (slice_index_or workers.old k d) }
+    ensures ends { (values : List PageValue)
+        × AreValues (record { library = told; res = index.now.res; sheet = sheet.now }) index.now.reading values
+        × EndsPages (O.written out.old) (O.written out.new) (Rose (O.faults out.old) (O.faults out.new))
+        (Unit {0}) (seen_ending result.0) index.now.reading values }
+    ensures cause { (page : ℕ) → seen_ending result.0 ≡ Source page → (k : ℕ) × (k < length workers.old)
+        × ((d : _) → FailedAt F.faults page (slice_index_or workers.old k d) (slice_index_or workers.new k d)) }
+    ensures shares { AreShares (pages_begun index.now.reading) (length workers.old) workers.new }
+    ensures legal { Legal first.view.part.capacity (calls_of result.1.items) }
+    ensures made { AllMade (length workers.old + 1) (calls_of result.1.items) }
+    ensures few_claims { FewClaims (calls_of result.1.items) }
+    ensures workers { (k : ℕ) (d : _) → k < length workers.old
+        → Ran (seen_ending result.0 ≡ Written) F.library F.faults F.loads (record { library = told; res = index.now.res; sheet = sheet.now }) index.now.reading (calls_of result.1.items) (k + 1)
+        (slice_index_or workers.old k d) (slice_index_or workers.new k d) }
+    ensures output { O.faults out.old ≤ O.faults out.new }
+{
+    let mut first = first;
+    seat_all(&bench.cache, &mut first, workers);
+    let ending = write_rounds(rt, alloc, workers, &bench, index, sheet, out);
+    join_all(&bench.cache, &mut first, workers);
+    clear_all(workers);
+    let Bench { cache, units: _ } = bench;
+    (ending, cache.close(first))
+}
+
+/// Draws and writes the pages with a new cache of so many fonts at most. The list of its calls goes into `history`.
+pub fn draw_at_once<R: Threads + Wait + Sync, F: FontSource + Send, O: Output>(
+    rt: &R,
+    alloc: Global,
+    workers: &mut [Worker<F>],
+    capacity: usize,
+    index: &Index,
+    sheet: &Sheet,
+    out: &mut O,
+    history: &mut Vec<Entry>,
+) -> Ending
+    ghost told: { Option Files }
+    requires some { 1 ≤ length workers.old }
+    requires few { length workers.old ≤ 32 }
+    requires some_font { 1 ≤ capacity }
+    requires few_fonts { capacity ≤ 256 }
+    requires sheet { IsDrawable sheet.now }
+    requires empty { history.old.items ≡ [] }
+    requires fresh { (k : ℕ) (d : _) → k < length workers.old → IsFresh F.library told (slice_index_or workers.old k d) }
+    requires seatless { (k : ℕ) (d : _) → k < length workers.old → (slice_index_or workers.old k d).seat ≡ None }
+    ensures ends { (values : List PageValue)
+        × AreValues (record { library = told; res = index.now.res; sheet = sheet.now }) index.now.reading values
+        × EndsPages (O.written out.old) (O.written out.new) (Rose (O.faults out.old) (O.faults out.new))
+        (Unit {0}) (seen_ending result) index.now.reading values }
+    ensures cause { (page : ℕ) → seen_ending result ≡ Source page → (k : ℕ) × (k < length workers.old)
+        × ((d : _) → FailedAt F.faults page (slice_index_or workers.old k d) (slice_index_or workers.new k d)) }
+    ensures shares { AreShares (pages_begun index.now.reading) (length workers.old) workers.new }
+    ensures legal { Legal capacity (calls_of history.new.items) }
+    ensures made { AllMade (length workers.old + 1) (calls_of history.new.items) }
+    ensures few_claims { FewClaims (calls_of history.new.items) }
+    ensures workers { (k : ℕ) (d : _) → k < length workers.old
+        → Ran (seen_ending result ≡ Written) F.library F.faults F.loads (record { library = told; res = index.now.res; sheet = sheet.now }) index.now.reading (calls_of history.new.items) (k + 1)
+        (slice_index_or workers.old k d) (slice_index_or workers.new k d) }
+    ensures output { O.faults out.old ≤ O.faults out.new }
+{
+    let units = index.units();
+    let Ok((cache, first)) = open_cache(alloc, capacity, &units) else {
+        return Ending::Memory;
+    };
+    let bench = Bench { cache, units };
+    let (ending, calls) = draw_over(rt, alloc, workers, bench, first, index, sheet, out);
+    *history = calls;
+    ending
+}
