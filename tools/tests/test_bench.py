@@ -1,0 +1,40 @@
+"""bench/pages tells a program's own memory and not that of the script, and counts whole pages."""
+import os, re, subprocess, sys, tempfile, unittest
+
+from common import TOP
+
+LARGE = '''#!{python}
+import sys
+held = b'x' * (90 << 20)
+for _ in range(3):
+    sys.stdout.buffer.write(b'P4\\n2550 3300\\n' + bytes(1052700))
+sys.stdout.buffer.flush()
+'''
+
+
+class Pages(unittest.TestCase):
+    def measured(self, text):
+        with tempfile.TemporaryDirectory() as room:
+            path = os.path.join(room, 'program')
+            with open(path, 'w') as file:
+                file.write(text)
+            os.chmod(path, 0o755)
+            # Without valgrind, which would count the instructions of a shell or of Python here.
+            environment = dict(os.environ, PATH='/nowhere')
+            ran = subprocess.run([sys.executable, f'{TOP}/bench/pages', path, os.devnull], capture_output=True, text=True, env=environment)
+        found = re.match(r'status (\d+), (\d+) pages in [\d.]+ s: [\d.]+ a second, (?:at most ([\d.]+) MiB|memory unknown)', ran.stdout)
+        self.assertTrue(found, ran.stdout + ran.stderr)
+        return int(found[1]), int(found[2]), float(found[3] or 'nan')
+
+    @unittest.skipUnless(os.path.exists('/proc/self/status'), 'the system has no /proc')
+    def test_the_memory_is_the_program_s_own(self):
+        status, pages, memory = self.measured(LARGE.format(python=sys.executable))
+        self.assertEqual((status, pages), (0, 3))
+        self.assertTrue(90 <= memory <= 130, memory)
+
+    def test_a_shell_that_fails_has_no_page(self):
+        self.assertEqual(self.measured('#!/bin/sh\nprintf "P4\\n8 2\\nx"\nexit 7\n')[:2], (7, 0))
+
+
+if __name__ == '__main__':
+    unittest.main()

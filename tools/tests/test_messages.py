@@ -1,0 +1,44 @@
+"""tools/check-messages sees each message that is added to FORMATS or taken from the manual page."""
+import importlib.machinery, importlib.util, unittest
+
+from common import TOP
+
+
+def loaded():
+    loader = importlib.machinery.SourceFileLoader('check_messages', f'{TOP}/tools/check-messages')
+    module = importlib.util.module_from_spec(importlib.util.spec_from_loader('check_messages', loader))
+    loader.exec_module(module)
+    return module
+
+
+def read(name):
+    with open(f'{TOP}/docs/{name}', encoding='utf-8') as file:
+        return file.read()
+
+
+class Messages(unittest.TestCase):
+    def test_one_that_is_added_to_formats(self):
+        formats, of_formats = read('FORMATS.md'), loaded().of_formats
+        before = of_formats(formats)
+        for old, new, message in (
+            ('FAULT of a page is `', 'FAULT of a page is `newly wrong`, `', 'newly wrong'),
+            ('FAULT of a document is `', 'FAULT of a document is `all wrong K`, `', 'all wrong K'),
+            ('FONT is `', 'FONT is `late`, `', 'late'),
+            ('| WidthZero |', '| WidthOdd(c) | it is odd |\n| WidthZero |', 'tfm width odd C'),
+            ('Overrun (a run', 'Loop(row) (it turns), Overrun (a run', 'pk runs C loop ROW'),
+            ('FontTooBig (the', 'NoGlyphs (none is there), FontTooBig (the', 'pk no glyphs'),
+            ('| 6 | `dvipbm: input failed` |', '| 6 | `dvipbm: input failed` | . |\n| 8 | `dvipbm: lost` |', 'dvipbm: lost'),
+        ):
+            self.assertEqual(formats.count(old), 1, old)
+            self.assertEqual(of_formats(formats.replace(old, new)) - before, {message})
+
+    def test_one_that_is_taken_from_the_manual(self):
+        manual, module = read('man/dvipbm.1'), loaded()
+        items = [line for line in manual.split('\n') if line.startswith('.It Li ')]
+        self.assertEqual(len(items), len(module.of_manual(manual)))
+        lacking = [line for line in items if len(module.of_manual(manual.replace(f'{line}\n', '', 1))) != len(items) - 1]
+        self.assertEqual(lacking, [])
+
+
+if __name__ == '__main__':
+    unittest.main()

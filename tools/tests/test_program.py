@@ -1,0 +1,261 @@
+"""The program as the system sees it: what each stream, the folder of fonts and the environment do to a run."""
+import os, resource, shutil, signal, subprocess, tempfile, threading, unittest
+
+from common import PROGRAM, SAMPLE, definition, document, needs_program, run
+
+# One page with a character of the sample's font; and one with a rule, which needs no font.
+LETTER = document(b'\xabT', definition(0))
+AT = 60 + len(definition(0)) + 1  # where the letter stands
+KEY = 'drawn12 786432 786432'
+RULE = document(b'\x89\x00\x10\x00\x00\x00\x10\x00\x00')
+BLANKS = document([b''] * 4)
+MISSING = (4, b'', f'dvipbm: page 1 at {AT}: font {KEY}: missing tfm\n')
+UNREAD = (5, b'', 'dvipbm: page 1: font source failed\n')
+MOST = 8_388_608  # bytes of a font file
+PAGE = b'P4\n2550 3300\n'
+
+
+def called(**how):
+    """Runs the program with streams as Popen takes them; how: stdin, stdout, stderr, env, preexec_fn."""
+    how = {'stdin': subprocess.DEVNULL, 'stdout': subprocess.PIPE, 'stderr': subprocess.PIPE} | how
+    with subprocess.Popen([PROGRAM, *how.pop('words', [])], **how) as process:
+        out, notes = process.communicate(timeout=60)
+    if hasattr(how['stdin'], 'close'):
+        how['stdin'].close()
+    return process.returncode, out, None if notes is None else notes.decode('ascii', 'replace')
+
+
+def held(data):
+    """A file that holds the data, open for reading from its start."""
+    file = tempfile.TemporaryFile()
+    file.write(data)
+    file.seek(0)
+    return file
+
+
+def environment(**words):
+    given = {name: value for name, value in os.environ.items() if name != 'DVIPBM_FONTS'}
+    return given | words
+
+
+class Folder(unittest.TestCase):
+    def setUp(self):
+        self.folder = tempfile.mkdtemp()
+        self.addCleanup(shutil.rmtree, self.folder)
+
+    def lay(self, *names):
+        for name in names:
+            shutil.copy(f'{SAMPLE}/{name}', self.folder)
+
+    def drawn(self, **how):
+        return run(LETTER, self.folder, **how)
+
+    def path(self, name):
+        return os.path.join(self.folder, name)
+
+
+@needs_program
+class FontFiles(Folder):
+    def test_a_file_that_is_there(self):
+        self.lay('drawn12.tfm', 'drawn12.300pk')
+        status, out, notes = self.drawn()
+        self.assertEqual((status, out.startswith(PAGE), any(out[len(PAGE):]), notes), (0, True, True, ''))
+
+    def test_a_file_that_is_not_there(self):
+        self.assertEqual(self.drawn(), MISSING)
+        self.lay('drawn12.tfm')
+        self.assertEqual(self.drawn(), (4, b'', f'dvipbm: page 1 at {AT}: font {KEY}: missing pk\n'))
+
+    def test_a_folder_that_is_not_there(self):
+        self.assertEqual(run(LETTER, self.path('none')), MISSING)
+
+    def test_a_file_in_the_place_of_the_folder(self):
+        self.assertEqual(run(LETTER, f'{SAMPLE}/drawn12.tfm'), UNREAD)
+
+    def test_a_folder_in_the_place_of_a_file(self):
+        os.mkdir(self.path('drawn12.tfm'))
+        self.assertEqual(self.drawn(), UNREAD)
+
+    def test_a_file_that_may_not_be_read(self):
+        self.lay('drawn12.tfm', 'drawn12.300pk')
+        os.chmod(self.folder, 0o755)
+        os.chmod(self.path('drawn12.300pk'), 0)
+        if os.geteuid():
+            self.assertEqual(self.drawn(), UNREAD)
+        else:
+            with tempfile.TemporaryDirectory() as room:
+                os.chmod(room, 0o755)
+                program = shutil.copy(PROGRAM, room)
+                ran = subprocess.run([program], input=LETTER, capture_output=True, env=environment(DVIPBM_FONTS=self.folder), user=65534, group=65534)
+                self.assertEqual((ran.returncode, ran.stdout, ran.stderr.decode()), UNREAD)
+
+    def test_the_longest_file_and_one_byte_more(self):
+        for name, longer in (('drawn12.tfm', 'too long tfm'), ('drawn12.300pk', 'too long pk')):
+            self.lay('drawn12.tfm', 'drawn12.300pk')
+            with open(self.path(name), 'ab') as file:
+                file.truncate(MOST)
+                self.assertEqual(self.drawn()[::2], (0, ''))
+                file.truncate(MOST + 1)
+                self.assertEqual(self.drawn(), (4, b'', f'dvipbm: page 1 at {AT}: font {KEY}: {longer}\n'))
+
+    def test_a_fifo_is_waited_for(self):
+        self.lay('drawn12.300pk')
+        os.mkfifo(self.path('drawn12.tfm'))
+        with open(f'{SAMPLE}/drawn12.tfm', 'rb') as file:
+            text = file.read()
+
+        def write():
+            with open(self.path('drawn12.tfm'), 'wb') as fifo:
+                fifo.write(text)
+
+        writer = threading.Thread(target=write)
+        writer.start()
+        self.assertEqual(self.drawn()[::2], (0, ''))
+        writer.join()
+
+
+@needs_program
+class Environment(Folder):
+    def drawn_in(self, folder, env):
+        return called(stdin=held(LETTER), cwd=folder, env=env)
+
+    def test_the_folder_is_that_of_the_word(self):
+        self.assertEqual(self.drawn_in(self.folder, environment(DVIPBM_FONTS=SAMPLE))[::2], (0, ''))
+        self.assertEqual(self.drawn_in(SAMPLE, environment(DVIPBM_FONTS=self.folder)), MISSING)
+
+    def test_the_word_may_be_relative(self):
+        self.assertEqual(self.drawn_in(os.path.dirname(SAMPLE), environment(DVIPBM_FONTS='sample'))[::2], (0, ''))
+
+    def test_without_the_word_it_is_the_current_folder(self):
+        self.assertEqual(self.drawn_in(SAMPLE, environment())[::2], (0, ''))
+        self.assertEqual(self.drawn_in(self.folder, environment()), MISSING)
+
+    def test_with_an_empty_word_it_is_the_current_folder(self):
+        self.assertEqual(self.drawn_in(SAMPLE, environment(DVIPBM_FONTS=''))[::2], (0, ''))
+        self.assertEqual(self.drawn_in(self.folder, environment(DVIPBM_FONTS='')), MISSING)
+
+    def test_a_word_that_is_not_utf_8(self):
+        self.assertEqual(called(env=environment() | {'DVIPBM_FONTS': b'\xff'}), (10, b'', ''))
+
+
+@needs_program
+class Words(unittest.TestCase):
+    def test_a_word_is_refused(self):
+        self.assertEqual(called(words=['--help']), (1, b'', 'dvipbm: usage\n'))
+        self.assertEqual(called(words=['']), (1, b'', 'dvipbm: usage\n'))
+
+    def test_a_word_that_is_not_utf_8(self):
+        self.assertEqual(called(words=[b'\xff']), (10, b'', ''))
+
+
+@needs_program
+class Input(unittest.TestCase):
+    FAILED = (6, b'', 'dvipbm: input failed\n')
+
+    def test_a_folder(self):
+        with tempfile.TemporaryDirectory() as folder:
+            descriptor = os.open(folder, os.O_RDONLY)
+            self.assertEqual(called(stdin=descriptor), self.FAILED)
+            os.close(descriptor)
+
+    def test_one_that_is_closed(self):
+        self.assertEqual(called(stdin=None, preexec_fn=lambda: os.close(0)), self.FAILED)
+
+    def test_one_that_is_open_for_writing_only(self):
+        descriptor = os.open('/dev/null', os.O_WRONLY)
+        self.assertEqual(called(stdin=descriptor), self.FAILED)
+        os.close(descriptor)
+
+    def test_a_pipe_that_does_not_block_and_is_empty(self):
+        reader, writer = os.pipe()
+        os.set_blocking(reader, False)
+        self.assertEqual(called(stdin=reader), self.FAILED)
+        os.close(reader)
+        os.close(writer)
+
+    def test_a_pipe_in_pieces(self):
+        reader, writer = os.pipe()
+
+        def write():
+            for byte in RULE:
+                os.write(writer, bytes([byte]))
+            os.close(writer)
+
+        thread = threading.Thread(target=write)
+        thread.start()
+        status, out, notes = called(stdin=reader)
+        thread.join()
+        os.close(reader)
+        self.assertEqual((status, out[:len(PAGE)], notes), (0, PAGE, ''))
+
+
+@needs_program
+class Output(unittest.TestCase):
+    FAILED = (7, 'dvipbm: page 1: output failed\n')
+
+    def test_a_device_that_is_full(self):
+        with open('/dev/full', 'wb') as full:
+            self.assertEqual(called(stdin=held(RULE), stdout=full)[::2], self.FAILED)
+
+    def test_one_that_is_closed(self):
+        self.assertEqual(called(stdin=held(RULE), stdout=None, preexec_fn=lambda: os.close(1))[::2], self.FAILED)
+
+    def test_one_that_is_open_for_reading_only(self):
+        with open('/dev/null', 'rb') as null:
+            self.assertEqual(called(stdin=held(RULE), stdout=null)[::2], self.FAILED)
+
+    def test_a_pipe_that_does_not_block_and_fills(self):
+        reader, writer = os.pipe()
+        os.set_blocking(writer, False)
+        self.assertEqual(called(stdin=held(RULE), stdout=writer)[::2], self.FAILED)
+        os.close(writer)
+        with open(reader, 'rb') as pipe:
+            self.assertEqual(pipe.read()[:len(PAGE)], PAGE)
+
+    def test_a_pipe_whose_reader_has_gone(self):
+        for handler in (signal.SIG_DFL, signal.SIG_IGN):
+            reader, writer = os.pipe()
+            os.close(reader)
+            ended = called(stdin=held(RULE), stdout=writer, restore_signals=False, preexec_fn=lambda it=handler: signal.signal(signal.SIGPIPE, it))
+            os.close(writer)
+            self.assertEqual(ended[::2], self.FAILED)
+
+    def test_a_limit_on_the_length_of_files(self):
+        def limit(handler):
+            signal.signal(signal.SIGXFSZ, handler)
+            resource.setrlimit(resource.RLIMIT_FSIZE, (1_500_000, 1_500_000))
+            resource.setrlimit(resource.RLIMIT_CORE, (0, 0))
+
+        for handler, wanted in ((signal.SIG_DFL, (-signal.SIGXFSZ, '')), (signal.SIG_IGN, (7, 'dvipbm: page 2: output failed\n'))):
+            with tempfile.TemporaryFile() as file:
+                ended = called(stdin=held(BLANKS), stdout=file, restore_signals=False, preexec_fn=lambda it=handler: limit(it))
+                self.assertEqual((ended[::2], file.seek(0, os.SEEK_END)), (wanted, 1_500_000))
+
+
+@needs_program
+class Notes(unittest.TestCase):
+    def test_notes_that_fail_change_no_status(self):
+        for data, status in ((b'', 2), (LETTER[:-1], 2), (document(b'a'), 3), (RULE, 0)):
+            with open('/dev/full', 'wb') as full:
+                self.assertEqual(called(stdin=held(data), stderr=full)[0], status)
+
+    def test_notes_that_are_closed(self):
+        self.assertEqual(called(stdin=held(b''), stderr=None, preexec_fn=lambda: os.close(2))[:2], (2, b''))
+
+    def test_nothing_is_noted_where_all_went_well(self):
+        self.assertEqual(run(RULE)[::2], (0, ''))
+
+    def test_a_line_is_whole(self):
+        self.assertEqual(run(b''), (2, b'', 'dvipbm: document: truncated at 0\n'))
+
+
+@needs_program
+class Memory(unittest.TestCase):
+    def test_a_document_larger_than_the_memory(self):
+        limit = lambda: resource.setrlimit(resource.RLIMIT_AS, (48 << 20, 48 << 20))
+        data = document(b'', filler=b'\xdf' * (60 << 20))
+        self.assertEqual(called(stdin=held(data), preexec_fn=limit), (9, b'', 'dvipbm: out of memory\n'))
+
+
+if __name__ == '__main__':
+    unittest.main()
