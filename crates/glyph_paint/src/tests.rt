@@ -26,12 +26,61 @@ fn wide(alloc: Global) -> Result<Raster, RunStop> {
     )
 }
 
+// The bytes of all rows, one after another.
+fn rows_of(alloc: Global, page: &Page) -> Result<Vec<u8>, Fail> {
+    let mut rows = Vec::new(alloc);
+    for y in 0..page.height() {
+        rows.extend_from_slice(page.row(y))?;
+    }
+    Ok(rows)
+}
+
+// One row of 130 black pixels: more than two words.
+fn long(alloc: Global) -> Result<Raster, RunStop> {
+    raster(alloc, &[0xff; 17], 14, true, 130, 1)
+}
+
+#[test]
+fn a_long_row_over_word_borders(rt: HostRuntime) -> Result<(), Fail> {
+    let bar = long(rt.alloc())?;
+    let mut right = Page::blank(rt.alloc(), 200, 1)?;
+    paint(&mut right, &bar, 63, 0);
+    assert_eq!(rt;
+        right.row(0),
+        [
+            0, 0, 0, 0, 0, 0, 0, 0x01, 0xff, 0xff, 0xff, 0xff, 0xff, 0xff, 0xff, 0xff, 0xff, 0xff,
+            0xff, 0xff, 0xff, 0xff, 0xff, 0xff, 0x80,
+        ]
+        .as_slice()
+    );
+    assert_eq!(rt; right.count(), 130);
+    let mut left = Page::blank(rt.alloc(), 200, 1)?;
+    paint(&mut left, &bar, -65, 0);
+    assert_eq!(rt;
+        left.row(0),
+        [
+            0xff, 0xff, 0xff, 0xff, 0xff, 0xff, 0xff, 0xff, 0x80, 0, 0, 0, 0, 0, 0, 0, 0, 0, 0, 0,
+            0, 0, 0, 0, 0,
+        ]
+        .as_slice()
+    );
+    assert_eq!(rt; left.count(), 65);
+    let mut narrow = Page::blank(rt.alloc(), 5, 1)?;
+    paint(&mut narrow, &bar, 0, 0);
+    assert_eq!(rt; narrow.padded(0), [0xf8, 0, 0, 0, 0, 0, 0, 0].as_slice());
+    assert_eq!(rt; narrow.count(), 5);
+    Ok(())
+}
+
 #[test]
 fn a_corner_at_the_upper_left(rt: HostRuntime) -> Result<(), Fail> {
     let corner = raster(rt.alloc(), &[0xff, 0xff], 14, true, 4, 4)?;
     let mut page = Page::blank(rt.alloc(), 8, 4)?;
     paint(&mut page, &corner, -2, -2);
-    assert_eq!(rt; page.rows(), [0xc0, 0xc0, 0, 0].as_slice());
+    assert_eq!(rt;
+        rows_of(rt.alloc(), &page)?.as_slice(),
+        [0xc0, 0xc0, 0, 0].as_slice()
+    );
     Ok(())
 }
 
@@ -44,7 +93,7 @@ fn columns_0_to_3(rt: HostRuntime) -> Result<(), Fail> {
     paint(&mut page, &glyph, 2, 4);
     paint(&mut page, &glyph, 11, 6);
     assert_eq!(rt;
-        page.rows(),
+        rows_of(rt.alloc(), &page)?.as_slice(),
         [
             0xa0, 0, 0, 0x60, 0, 0, 0, 0x50, 0, 0, 0x30, 0, 0x28, 0, 0, 0x18, 0, 0, 0, 0x14, 0, 0,
             0x0c, 0,
@@ -63,7 +112,7 @@ fn columns_4_to_7(rt: HostRuntime) -> Result<(), Fail> {
     paint(&mut page, &glyph, 6, 4);
     paint(&mut page, &glyph, 15, 6);
     assert_eq!(rt;
-        page.rows(),
+        rows_of(rt.alloc(), &page)?.as_slice(),
         [
             0x0a, 0, 0, 0x06, 0, 0, 0, 0x05, 0, 0, 0x03, 0, 0x02, 0x80, 0, 0x01, 0x80, 0, 0, 0x01,
             0x40, 0, 0, 0xc0,
@@ -79,13 +128,13 @@ fn over_the_left_and_right_edges(rt: HostRuntime) -> Result<(), Fail> {
     let mut left = Page::blank(rt.alloc(), 21, 4)?;
     paint(&mut left, &glyph, -5, 0);
     assert_eq!(rt;
-        left.rows(),
+        rows_of(rt.alloc(), &left)?.as_slice(),
         [0xff, 0xfe, 0, 0, 0x02, 0, 0x4b, 0x86, 0, 0, 0, 0].as_slice()
     );
     let mut right = Page::blank(rt.alloc(), 21, 4)?;
     paint(&mut right, &glyph, 10, 0);
     assert_eq!(rt;
-        right.rows(),
+        rows_of(rt.alloc(), &right)?.as_slice(),
         [0, 0x3f, 0xf8, 0, 0x20, 0, 0, 0x32, 0x90, 0, 0, 0].as_slice()
     );
     Ok(())
@@ -98,7 +147,7 @@ fn over_the_upper_and_lower_edges(rt: HostRuntime) -> Result<(), Fail> {
     paint(&mut page, &glyph, 0, -2);
     paint(&mut page, &glyph, 1, 3);
     assert_eq!(rt;
-        page.rows(),
+        rows_of(rt.alloc(), &page)?.as_slice(),
         [0xca, 0x5c, 0x30, 0, 0, 0, 0, 0, 0, 0x7f, 0xff, 0xf8].as_slice()
     );
     Ok(())
@@ -111,14 +160,14 @@ fn over_the_corners(rt: HostRuntime) -> Result<(), Fail> {
     paint(&mut left, &glyph, -5, -1);
     paint(&mut left, &glyph, -5, 2);
     assert_eq!(rt;
-        left.rows(),
+        rows_of(rt.alloc(), &left)?.as_slice(),
         [0, 0x02, 0, 0x4b, 0x86, 0, 0xff, 0xfe, 0, 0, 0x02, 0].as_slice()
     );
     let mut right = Page::blank(rt.alloc(), 21, 4)?;
     paint(&mut right, &glyph, 10, -2);
     paint(&mut right, &glyph, 10, 3);
     assert_eq!(rt;
-        right.rows(),
+        rows_of(rt.alloc(), &right)?.as_slice(),
         [0, 0x32, 0x90, 0, 0, 0, 0, 0, 0, 0, 0x3f, 0xf8].as_slice()
     );
     Ok(())
@@ -141,7 +190,7 @@ fn beside_the_page(rt: HostRuntime) -> Result<(), Fail> {
     paint(&mut page, &glyph, 20, 3);
     paint(&mut page, &glyph, -19, -2);
     assert_eq!(rt;
-        page.rows(),
+        rows_of(rt.alloc(), &page)?.as_slice(),
         [0x80, 0, 0, 0, 0, 0, 0, 0, 0, 0, 0, 0x08].as_slice()
     );
     Ok(())
@@ -152,15 +201,24 @@ fn larger_than_the_page_and_empty(rt: HostRuntime) -> Result<(), Fail> {
     let glyph = wide(rt.alloc())?;
     let mut inner = Page::blank(rt.alloc(), 5, 2)?;
     paint(&mut inner, &glyph, -4, -1);
-    assert_eq!(rt; inner.rows(), [0, 0xa0].as_slice());
+    assert_eq!(rt;
+        rows_of(rt.alloc(), &inner)?.as_slice(),
+        [0, 0xa0].as_slice()
+    );
     let mut upper = Page::blank(rt.alloc(), 5, 2)?;
     paint(&mut upper, &glyph, 0, 0);
-    assert_eq!(rt; upper.rows(), [0xf8, 0x80].as_slice());
+    assert_eq!(rt;
+        rows_of(rt.alloc(), &upper)?.as_slice(),
+        [0xf8, 0x80].as_slice()
+    );
     let low = raster(rt.alloc(), &[], 14, true, 5, 0)?;
     paint(&mut upper, &low, 0, 0);
     let narrow = raster(rt.alloc(), &[], 14, true, 0, 2)?;
     paint(&mut upper, &narrow, 0, 0);
-    assert_eq!(rt; upper.rows(), [0xf8, 0x80].as_slice());
+    assert_eq!(rt;
+        rows_of(rt.alloc(), &upper)?.as_slice(),
+        [0xf8, 0x80].as_slice()
+    );
     Ok(())
 }
 

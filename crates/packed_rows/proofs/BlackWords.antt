@@ -10,7 +10,7 @@ use Rattle.packed_rows.specs.Changes.{is_within}
 use Rattle.packed_rows.specs.Stamped.{word_pixel}
 use Rattle.packed_rows.proofs.Blackened.{IsBlackened, ordered}
 use Rattle.packed_rows.proofs.StoredRows.{next_start}
-use Rattle.packed_rows.proofs.OneWord.{of_part, part_small}
+use Rattle.packed_rows.proofs.Parts.{of_part, part_small}
 
 before_span : (from until x : ℕ) → x < from → is_within from until x ≡ false
 before_span from until x h = grind (arith, nat_tests)

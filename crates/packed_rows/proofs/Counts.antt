@@ -1,4 +1,4 @@
--- Black dots counted byte by byte.
+-- Black dots counted by words.
 use Rattle.std.proofs.Common.{◌≡◌, ℕ, zero, suc, ◌+◌, ◌-◌, ◌*◌, ◌/◌, ◌%◌, ◌^◌, ◌<◌, ◌≤◌, Bool, false, cond, eqb, List, [], ◌∷◌, length, get_or, take, drop, refl, ap, ap₂, sym, ◌∙◌, arith}
 use Rattle.std.specs.Int.{bit_at, div_ceil}
 use Rattle.std.specs.Prelude.{count_by, count_ones}
@@ -8,7 +8,7 @@ use Rattle.std.proofs.Math.Seq.{take-add}
 use Rattle.std.proofs.lemmas.List.{length-take-le, length-drop}
 use Rattle.std.proofs.lemmas.List.Elements.{All-from_get_or}
 use Rattle.packed_rows.specs.Stamped.{word_pixel}
-use Rattle.packed_rows.proofs.OneWord.{of_part, part_small}
+use Rattle.packed_rows.proofs.Parts.{of_part, part_small}
 use lib.Count.{ones, ones_in, ones_cat, ones-le}
 use mir.Syntax.{w8}
 use mir.Val.{Fits}
@@ -16,10 +16,10 @@ use Rattle.std.proofs.lemmas.Nat.{mul-le}
 use Rattle.std.proofs.lemmas.Nat.Bits.{bit_at-lt, bit_at-suc, bit_at_lowest}
 use Rattle.std.proofs.Math.Nat.{pow-suc}
 use Rattle.packed_rows.specs.Bitmap.{from_fn}
-use Rattle.packed_rows.specs.Packing.{pixel, pixels_of, IsPadded}
+use Rattle.packed_rows.specs.Packing.{pixel, pixels_of}
 use Rattle.packed_rows.proofs.Lists.{from_fn_same}
 use Rattle.packed_rows.specs.Changes.{black_count}
-use Rattle.packed_rows.specs.Stored.{row_at, bitmap_of, IsStored}
+use Rattle.packed_rows.specs.Stored.{row_at, IsWords, padded_bitmap_of, IsStoredPadded}
 
 -- how many of n values are true
 abbrev tally : ℕ → (ℕ → Bool) → ℕ
@@ -109,40 +109,47 @@ bytes_tally (b ∷ bytes) small =
         let place : (8 + i) % 8 ≡ i % 8 = omega arith in
         ap (λ k. eqb (bit_at (get_or (b ∷ bytes) k 0) (7 - (8 + i) % 8)) 1) byte ∙ ap (λ r. eqb (bit_at (get_or bytes (i / 8) 0) (7 - r)) 1) place
 
-row_count : (w : ℕ) (row : List ℕ) → IsPadded w row → count_by (λ p. p) (pixels_of w row) ≡ sum_by ones row
-row_count w row padded = sym (tally_past w (8 * length row - w) (pixel row) (λ i low high. padded.zero_behind i low (omega (arith, high, wide)))) ∙ ap (λ n. tally n (pixel row)) whole ∙ bytes_tally row padded.small
+row_count : (w : ℕ) (row : List ℕ) → IsWords w row → count_by (λ p. p) (pixels_of w row) ≡ sum_by ones row
+row_count w row words = sym (tally_past w (8 * length row - w) (pixel row) (λ i low high. words.zero_behind i low (omega (arith, high, wide)))) ∙ ap (λ n. tally n (pixel row)) whole ∙ bytes_tally row words.small
   where
     wide : w ≤ 8 * length row
-    wide = omega (arith, padded.len)
+    wide = omega (arith, words.len)
 
     whole : w + (8 * length row - w) ≡ 8 * length row
     whole = omega (arith, wide)
 
-first_count : (w h : ℕ) (bytes : List ℕ) → IsStored w h bytes → (n : ℕ) → n ≤ h
-    → sum_by (λ row. count_by (λ p. p) row) (from_fn n (λ y. pixels_of w (row_at (div_ceil w 8) bytes y))) ≡ sum_by ones (take (n * div_ceil w 8) bytes)
+first_count : (w h : ℕ) (bytes : List ℕ) → IsStoredPadded w h bytes → (n : ℕ) → n ≤ h
+    → sum_by (λ row. count_by (λ p. p) row) (from_fn n (λ y. pixels_of w (row_at (8 * div_ceil w 64) bytes y))) ≡ sum_by ones (take (n * (8 * div_ceil w 64)) bytes)
 first_count w h bytes stored zero low =
-    let none : 0 * div_ceil w 8 ≡ 0 = omega arith in
+    let none : 0 * (8 * div_ceil w 64) ≡ 0 = omega arith in
     sym (ap (λ k. sum_by ones (take k bytes)) none)
 first_count w h bytes stored (suc n) low =
-    sum_by_push (λ row. count_by (λ p. p) row) (from_fn n (λ y. pixels_of w (row_at (div_ceil w 8) bytes y))) (pixels_of w (row_at (div_ceil w 8) bytes n))
-    ∙ ap (λ m. m + count_by (λ p. p) (pixels_of w (row_at (div_ceil w 8) bytes n))) (first_count w h bytes stored n (omega (arith, low)))
-    ∙ ap (λ m. sum_by ones (take (n * div_ceil w 8) bytes) + m) (row_count w (row_at (div_ceil w 8) bytes n) (stored.padded n (omega (arith, low))))
-    ∙ sym (sum_by-append ones (take (n * div_ceil w 8) bytes) (row_at (div_ceil w 8) bytes n))
-    ∙ ap (sum_by ones) (sym (take-add (n * div_ceil w 8) (div_ceil w 8) bytes) ∙ ap (λ k. take k bytes) one_more)
+    sum_by_push (λ row. count_by (λ p. p) row) (from_fn n (λ y. pixels_of w (row_at (8 * div_ceil w 64) bytes y))) (pixels_of w (row_at (8 * div_ceil w 64) bytes n))
+    ∙ ap (λ m. m + count_by (λ p. p) (pixels_of w (row_at (8 * div_ceil w 64) bytes n))) (first_count w h bytes stored n (omega (arith, low)))
+    ∙ ap (λ m. sum_by ones (take (n * (8 * div_ceil w 64)) bytes) + m) (row_count w (row_at (8 * div_ceil w 64) bytes n) (stored.padded n (omega (arith, low))))
+    ∙ sym (sum_by-append ones (take (n * (8 * div_ceil w 64)) bytes) (row_at (8 * div_ceil w 64) bytes n))
+    ∙ ap (sum_by ones) (sym (take-add (n * (8 * div_ceil w 64)) (8 * div_ceil w 64) bytes) ∙ ap (λ k. take k bytes) one_more)
   where
-    one_more : n * div_ceil w 8 + div_ceil w 8 ≡ suc n * div_ceil w 8
+    one_more : n * (8 * div_ceil w 64) + 8 * div_ceil w 64 ≡ suc n * (8 * div_ceil w 64)
     one_more = omega arith
 
 -- the black dots of a page are the set bits of its bytes
-pub counted : (w h n : ℕ) (bytes : List ℕ) → IsStored w h bytes → n ≡ h * div_ceil w 8 → sum_by count_ones (take n bytes) ≡ black_count (bitmap_of w h bytes)
+pub counted : (w h n : ℕ) (bytes : List ℕ) → IsStoredPadded w h bytes → n ≡ h * (8 * div_ceil w 64) → sum_by count_ones (take n bytes) ≡ black_count (padded_bitmap_of w h bytes)
 counted w h n bytes stored e = ap (λ k. sum_by ones (take k bytes)) e ∙ sym (first_count w h bytes stored h (omega arith))
 
 -- a page has few enough bytes that their bits can be counted
-pub few_bytes : (w h : ℕ) (bytes : List ℕ) → IsStored w h bytes → length bytes ≤ 2 ^ 29 + 8
-few_bytes w h bytes stored = omega (arith, stored.len, mul-le h (div_ceil w 8) 65536 8192 (omega (arith, stored.low)) narrow)
+pub few_bytes : (w h : ℕ) (bytes : List ℕ) → IsStoredPadded w h bytes → length bytes ≤ 2 ^ 29 + 8
+few_bytes w h bytes stored = omega (arith, stored.len, mul-le h (8 * div_ceil w 64) 65536 8192 (omega (arith, stored.low)) narrow)
   where
-    narrow : div_ceil w 8 ≤ 8192
+    narrow : 8 * div_ceil w 64 ≤ 8192
     narrow = omega (arith, stored.narrow)
+
+-- its rows take whole words
+pub whole_words : (w h n : ℕ) → n ≡ h * (8 * div_ceil w 64) → n % 8 ≡ 0
+whole_words w h n e = omega (arith, e, eights)
+  where
+    eights : h * (8 * div_ceil w 64) ≡ 8 * (h * div_ceil w 64)
+    eights = omega arith
 
 -- ---- by words
 

@@ -1,13 +1,11 @@
 -- Eight bytes as one number, and a number written over eight bytes.
-use Rattle.std.proofs.Common.{◌≡◌, ℕ, zero, suc, ◌+◌, ◌-◌, ◌*◌, ◌/◌, ◌%◌, ◌^◌, ◌<◌, ◌≤◌, ◌⊎◌, inl, inr, Bool, true, false, ◌&&◌, ◌||◌, eqb, ltb, leb, List, [], ◌∷◌, length, get_or, set, w64, refl, ap, ap₂, sym, subst, ◌∙◌, arith, bit_or, get_or-set_same, get_or-set_other}
+use Rattle.std.proofs.Common.{◌≡◌, ℕ, zero, suc, ◌+◌, ◌-◌, ◌*◌, ◌/◌, ◌%◌, ◌^◌, ◌<◌, ◌≤◌, ◌⊎◌, inl, inr, Bool, true, false, ◌&&◌, ◌||◌, eqb, ltb, leb, List, [], ◌∷◌, length, get_or, set, w64, refl, ap, ap₂, sym, ◌∙◌, arith, bit_or, get_or-set_same, get_or-set_other}
 use Rattle.std.specs.Int.{bit_at, from_be_bytes, to_be_bytes}
 use Rattle.std.proofs.lemmas.Bool.{cases_lt, le-leb, lt-leb, le-ltb, lt-ltb, and_right}
 use Rattle.std.proofs.lemmas.List.{length-set}
-use Rattle.std.specs.List.{All}
-use Rattle.std.proofs.lemmas.List.Elements.{All-set}
 use Rattle.std.proofs.lemmas.Nat.{shr-shr}
 use Rattle.std.proofs.lemmas.Nat.Bits.{bit_at_cat_low, bit_at_cat_high}
-use Rattle.packed_rows.specs.Packing.{pixel, IsPadded}
+use Rattle.packed_rows.specs.Packing.{pixel}
 use Rattle.packed_rows.specs.Changes.{is_within}
 use Rattle.packed_rows.specs.Stamped.{word_pixel}
 use Rattle.packed_rows.proofs.Bits.{bit_of_or}
@@ -134,38 +132,3 @@ word_joined row eight new at old word x fit read is_eight is_new = ap (λ l. pix
         turned true false = refl
         turned false true = refl
         turned false false = refl
-
-put_small : (bytes : List ℕ) (at : ℕ) (e : ℕ → ℕ) (n : ℕ) → All (λ b. b < 256) bytes → ((j : ℕ) → e j < 256) → All (λ b. b < 256) (put bytes at e n)
-put_small bytes at e zero small each = small
-put_small bytes at e (suc n) small each = All-set (λ b. b < 256) (put bytes at e n) (at + n) (e n) (each n) (put_small bytes at e n small each)
-
-nth_small : (n j : ℕ) → nth n j < 256
-nth_small n zero = omega arith
-nth_small n (suc zero) = omega arith
-nth_small n (suc (suc zero)) = omega arith
-nth_small n (suc (suc (suc zero))) = omega arith
-nth_small n (suc (suc (suc (suc zero)))) = omega arith
-nth_small n (suc (suc (suc (suc (suc zero))))) = omega arith
-nth_small n (suc (suc (suc (suc (suc (suc zero)))))) = omega arith
-nth_small n (suc (suc (suc (suc (suc (suc (suc zero))))))) = omega arith
-nth_small n (suc (suc (suc (suc (suc (suc (suc (suc j)))))))) = omega arith
-
--- nothing is written behind the row's last pixel
-pub word_padded : (width at word n : ℕ) (old eight new : List ℕ) → 8 * at + 64 ≤ width → length new ≡ length old → eight ≡ to_be_bytes w64 n
-    → new ≡ set (set (set (set (set (set (set (set old at (get_or eight 0 0)) (at + 1) (get_or eight 1 0)) (at + 2) (get_or eight 2 0)) (at + 3) (get_or eight 3 0)) (at + 4) (get_or eight 4 0)) (at + 5) (get_or eight 5 0)) (at + 6) (get_or eight 6 0)) (at + 7) (get_or eight 7 0)
-    → ((x : ℕ) → x < 8 * length old → pixel new x ≡ (is_within (8 * at) (8 * at + 64) x && word_pixel word (x - 8 * at) || pixel old x))
-    → IsPadded width old → IsPadded width new
-word_padded width at word n old eight new inside long is_eight is_new pixels padded = record {
-  len = long ∙ padded.len;
-  small = subst (λ (l : List ℕ). All (λ b. b < 256) l) (sym put_is) (put_small old at (nth n) 8 padded.small (nth_small n));
-  zero_behind = λ x behind within.
-      pixels x (omega (arith, within, long))
-      ∙ ap (λ b. b && word_pixel word (x - 8 * at) || pixel old x) (and_right (leb (8 * at) x) (ltb x (8 * at + 64)) (le-ltb x (8 * at + 64) (omega (arith, behind, inside))))
-      ∙ padded.zero_behind x behind (omega (arith, within, long));
-}
-  where
-    none : at ≡ at + 0
-    none = omega arith
-
-    put_is : new ≡ put old at (nth n) 8
-    put_is = is_new ∙ ap (λ a. set (set (set (set (set (set (set (set old a (get_or eight 0 0)) (at + 1) (get_or eight 1 0)) (at + 2) (get_or eight 2 0)) (at + 3) (get_or eight 3 0)) (at + 4) (get_or eight 4 0)) (at + 5) (get_or eight 5 0)) (at + 6) (get_or eight 6 0)) (at + 7) (get_or eight 7 0)) none ∙ ap (λ l. put old at (λ j. get_or l j 0) 8) is_eight

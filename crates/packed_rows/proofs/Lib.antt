@@ -6,11 +6,12 @@ pub mod StoredRows
 pub mod Blackened
 pub mod StoredBitmaps
 pub mod Copied
-pub mod Shifts
 pub mod EightBytes
-pub mod Joined
-pub mod OneWord
+pub mod Parts
+pub mod Turned
 pub mod BlackWords
 pub mod Counts
 pub mod Stamping
+pub mod PartsOver
+pub mod PaddedRows
 pub mod SetRasters

@@ -4,23 +4,22 @@ use Rattle.std.specs.Int.{div_ceil}
 use Rattle.std.proofs.lemmas.Int.{ints}
 use Rattle.std.proofs.lemmas.Bool.{cases_lt, le-leb, lt-leb, le-ltb, lt-ltb, and_right}
 use Rattle.packed_rows.specs.Bitmap.{Bitmap, is_black}
-use Rattle.packed_rows.specs.Packing.{pixel, pixels_of, IsPadded}
+use Rattle.packed_rows.specs.Packing.{pixel, pixels_of}
 use Rattle.packed_rows.specs.Changes.{is_within}
-use Rattle.packed_rows.specs.Stored.{row_at, bitmap_of, IsStored}
+use Rattle.packed_rows.specs.Stored.{row_at, bitmap_of, IsStored, padded_bitmap_of, IsStoredPadded}
 use Rattle.packed_rows.specs.Stamped.{is_black_at, with_raster, pixel_over}
 use Rattle.packed_rows.proofs.Lists.{get_or-from_fn, from_fn_past}
-use Rattle.packed_rows.proofs.Joined.{pixel_past}
-use Rattle.packed_rows.proofs.StoredBitmaps.{made, same_dots, row_fits, row_dots, dot_in_row}
+use Rattle.packed_rows.proofs.Parts.{pixel_past}
+use Rattle.packed_rows.proofs.StoredBitmaps as bitmaps
+use Rattle.packed_rows.proofs.StoredBitmaps.{made, same_dots, row_fits, dot_in_row}
+use Rattle.packed_rows.proofs.PaddedRows.{row_dots, set_words}
 
 -- ---- places
 
 -- what set rows say of each dot, for rows of a bitmap w wide, under rows of k bytes
 abbrev pub AreSet : ℕ → ℕ → ℕ → ℕ → ℕ → ℕ → ℕ → List ℕ → ℕ → List ℕ → List ℕ → Type 0
-AreSet w from until a s b t new k source old = (x y : ℕ) → x < w → y * div_ceil w 8 + div_ceil w 8 ≤ length old
-    → pixel (row_at (div_ceil w 8) new y) x ≡ (is_within from until y && pixel_over (row_at k source (y + t - b)) a s x || pixel (row_at (div_ceil w 8) old y) x)
-
-abbrev pub KeepPadded : ℕ → List ℕ → List ℕ → Type 0
-KeepPadded w new old = (y : ℕ) → y * div_ceil w 8 + div_ceil w 8 ≤ length old → IsPadded w (row_at (div_ceil w 8) old y) → IsPadded w (row_at (div_ceil w 8) new y)
+AreSet w from until a s b t new k source old = (x y : ℕ) → x < 64 * div_ceil w 64 → y * (8 * div_ceil w 64) + 8 * div_ceil w 64 ≤ length old
+    → pixel (row_at (8 * div_ceil w 64) new y) x ≡ (is_within from until y && (ltb x w && pixel_over (row_at k source (y + t - b)) a s x) || pixel (row_at (8 * div_ceil w 64) old y) x)
 
 inside_place : (x a s : ℕ) → a ≤ x + s → (pos x -ℤ (pos a -ℤ pos s)) ≡ pos (x + s - a)
 inside_place x a s h = omega (arith, ints, h)
@@ -48,7 +47,7 @@ source_dot w h x y bytes stored on_page = by (cases_lt x w) (cases_lt x (8 * len
     past behind = sym (ap (λ row. get_or row x false) (get_or-from_fn h (λ r. pixels_of w (row_at (div_ceil w 8) bytes r)) y [] on_page) ∙ from_fn_past w (pixel (row_at (div_ceil w 8) bytes y)) x false behind)
 
     by : (x < w) ⊎ (w ≤ x) → (x < 8 * length (row_at (div_ceil w 8) bytes y)) ⊎ (8 * length (row_at (div_ceil w 8) bytes y) ≤ x) → pixel (row_at (div_ceil w 8) bytes y) x ≡ is_black (bitmap_of w h bytes) x y
-    by (inl in_row) other = dot_in_row (bitmap_of w h bytes) w x y (row_at (div_ceil w 8) bytes y) (row_dots w h y bytes on_page) in_row
+    by (inl in_row) other = dot_in_row (bitmap_of w h bytes) w x y (row_at (div_ceil w 8) bytes y) (bitmaps.row_dots w h y bytes on_page) in_row
     by (inr behind) (inl inside) = (stored.padded y on_page).zero_behind x behind inside ∙ past behind
     by (inr behind) (inr outside) = pixel_past (row_at (div_ceil w 8) bytes y) x outside ∙ past behind
 
@@ -87,35 +86,35 @@ covered h sw sh a s b t from until x y source stored on_page is_from is_until = 
         ∙ source_dot sw sh (x + s - a) (y + t - b) source stored inside
         ∙ sym (ap₂ (is_black_at (bitmap_of sw sh source)) (inside_place x a s right) (inside_place y b t reached))
 
-set_dots : (w h sw sh a s b t from until : ℕ) (old new source : List ℕ) → IsStored w h old → IsStored sw sh source → from ≡ min (b - t) h → until ≡ max from (min (b + sh - t) h)
-    → AreSet w from until a s b t new (div_ceil sw 8) source old → bitmap_of w h new ≡ with_raster (bitmap_of w h old) (bitmap_of sw sh source) (pos a -ℤ pos s) (pos b -ℤ pos t)
+set_dots : (w h sw sh a s b t from until : ℕ) (old new source : List ℕ) → IsStoredPadded w h old → IsStored sw sh source → from ≡ min (b - t) h → until ≡ max from (min (b + sh - t) h)
+    → AreSet w from until a s b t new (div_ceil sw 8) source old → padded_bitmap_of w h new ≡ with_raster (padded_bitmap_of w h old) (bitmap_of sw sh source) (pos a -ℤ pos s) (pos b -ℤ pos t)
 set_dots w h sw sh a s b t from until old new source stored upper is_from is_until dots =
-    ap (made w h) (same_dots w h (λ x y. pixel (row_at (div_ceil w 8) new y) x)
-    (λ x y. is_black_at (bitmap_of sw sh source) (pos x -ℤ (pos a -ℤ pos s)) (pos y -ℤ (pos b -ℤ pos t)) || is_black (bitmap_of w h old) x y) each)
+    ap (made w h) (same_dots w h (λ x y. pixel (row_at (8 * div_ceil w 64) new y) x)
+    (λ x y. is_black_at (bitmap_of sw sh source) (pos x -ℤ (pos a -ℤ pos s)) (pos y -ℤ (pos b -ℤ pos t)) || is_black (padded_bitmap_of w h old) x y) each)
   where
     each : (x y : ℕ) → x < w → y < h
-        → pixel (row_at (div_ceil w 8) new y) x ≡ (is_black_at (bitmap_of sw sh source) (pos x -ℤ (pos a -ℤ pos s)) (pos y -ℤ (pos b -ℤ pos t)) || is_black (bitmap_of w h old) x y)
+        → pixel (row_at (8 * div_ceil w 64) new y) x ≡ (is_black_at (bitmap_of sw sh source) (pos x -ℤ (pos a -ℤ pos s)) (pos y -ℤ (pos b -ℤ pos t)) || is_black (padded_bitmap_of w h old) x y)
     each x y in_row on_page =
-        dots x y in_row (omega (arith, stored.len, row_fits (div_ceil w 8) h y on_page))
-        ∙ ap₂ (λ c d. c || d) (covered h sw sh a s b t from until x y source upper on_page is_from is_until) (dot_in_row (bitmap_of w h old) w x y (row_at (div_ceil w 8) old y) (row_dots w h y old on_page) in_row)
+        dots x y (omega (arith, in_row)) (omega (arith, stored.len, row_fits (8 * div_ceil w 64) h y on_page))
+        ∙ ap (λ c. is_within from until y && (c && pixel_over (row_at (div_ceil sw 8) source (y + t - b)) a s x) || pixel (row_at (8 * div_ceil w 64) old y) x) (lt-ltb x w in_row)
+        ∙ ap₂ (λ c d. c || d) (covered h sw sh a s b t from until x y source upper on_page is_from is_until) (dot_in_row (padded_bitmap_of w h old) w x y (row_at (8 * div_ceil w 64) old y) (row_dots w h y old on_page) in_row)
 
--- the bitmap after a raster was set; the code reads the bytes as `read` and `upper`, and k is the size of the raster's rows
-pub raster_set : (w h sw sh a s b t from until k : ℕ) (left top : ℤ) (old read new source upper : List ℕ) → k ≡ div_ceil sw 8 → read ≡ old → upper ≡ source
-    → IsStored w h old → IsStored sw sh source → (pos a -ℤ pos s) ≡ left → (pos b -ℤ pos t) ≡ top → from ≡ min (b - t) h → until ≡ max from (min (b + sh - t) h)
-    → AreSet w from until a s b t new k upper read → bitmap_of w h new ≡ with_raster (bitmap_of w h old) (bitmap_of sw sh source) left top
-raster_set w h sw sh a s b t from until k left top old read new source upper e f g stored above is_left is_top is_from is_until dots =
+-- the bitmap after a raster was set; the code reads the bytes as `read`, and k is the size of the raster's rows
+pub raster_set : (w h sw sh a s b t from until k : ℕ) (left top : ℤ) (old read new source : List ℕ) → k ≡ div_ceil sw 8 → read ≡ old
+    → IsStoredPadded w h old → IsStored sw sh source → (pos a -ℤ pos s) ≡ left → (pos b -ℤ pos t) ≡ top → from ≡ min (b - t) h → until ≡ max from (min (b + sh - t) h)
+    → AreSet w from until a s b t new k source read → padded_bitmap_of w h new ≡ with_raster (padded_bitmap_of w h old) (bitmap_of sw sh source) left top
+raster_set w h sw sh a s b t from until k left top old read new source e f stored above is_left is_top is_from is_until dots =
     set_dots w h sw sh a s b t from until old new source stored above is_from is_until
-    (subst (λ (l : List ℕ). AreSet w from until a s b t new (div_ceil sw 8) source l) f
-    (subst (λ (l : List ℕ). AreSet w from until a s b t new (div_ceil sw 8) l read) g (subst (λ (n : ℕ). AreSet w from until a s b t new n upper read) e dots)))
-    ∙ ap₂ (with_raster (bitmap_of w h old) (bitmap_of sw sh source)) is_left is_top
+    (subst (λ (l : List ℕ). AreSet w from until a s b t new (div_ceil sw 8) source l) f (subst (λ (n : ℕ). AreSet w from until a s b t new n source read) e dots))
+    ∙ ap₂ (with_raster (padded_bitmap_of w h old) (bitmap_of sw sh source)) is_left is_top
 
-pub set_stored : (w h : ℕ) (old read new : List ℕ) → read ≡ old → IsStored w h old → length new ≡ length read → KeepPadded w new read → IsStored w h new
-set_stored w h old read new f stored long padded = record {
-  narrow = stored.narrow;
-  low = stored.low;
-  len = long ∙ ap length f ∙ stored.len;
-  padded = λ y on_page. stay y (omega (arith, stored.len, row_fits (div_ceil w 8) h y on_page)) (stored.padded y on_page);
-}
+-- nothing is set behind the width
+pub set_stored : (w h a s b t from until k : ℕ) (old read new source : List ℕ) → read ≡ old → IsStoredPadded w h old → length new ≡ length read → ((j : ℕ) → get_or new j 0 < 256)
+    → AreSet w from until a s b t new k source read → IsStoredPadded w h new
+set_stored w h a s b t from until k old read new source f stored long small dots =
+    set_words w h (λ x y. is_within from until y && (ltb x w && pixel_over (row_at k source (y + t - b)) a s x)) old new stored (long ∙ ap length f) small
+    (λ x y behind. and_right (is_within from until y) (ltb x w && pixel_over (row_at k source (y + t - b)) a s x) (ap (λ c. c && pixel_over (row_at k source (y + t - b)) a s x) (le-ltb x w behind)))
+    (λ x y inside fit. now x y (omega (arith, inside)) fit)
   where
-    stay : KeepPadded w new old
-    stay = subst (λ (l : List ℕ). KeepPadded w new l) f padded
+    now : AreSet w from until a s b t new k source old
+    now = subst (λ (l : List ℕ). AreSet w from until a s b t new k source l) f dots

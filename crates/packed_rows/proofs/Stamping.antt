@@ -1,25 +1,22 @@
--- Rows that were set on rows one after another, and the bitmap that comes of it.
-use Rattle.std.proofs.Common.{◌≡◌, ℕ, ◌+◌, ◌-◌, ◌*◌, ◌<◌, ◌≤◌, ◌⊎◌, inl, inr, Bool, true, false, ◌&&◌, ◌||◌, ltb, leb, List, length, take, drop, refl, ap, sym, subst, ◌∙◌, arith}
+-- Rows on which pixels were set, one after another and one part after another.
+use Rattle.std.proofs.Common.{◌≡◌, ℕ, ◌+◌, ◌*◌, ◌<◌, ◌≤◌, ◌⊎◌, inl, inr, Bool, true, false, ◌&&◌, ◌||◌, ltb, leb, List, length, take, drop, refl, ap, sym, subst, ◌∙◌, arith}
 use Rattle.std.proofs.lemmas.Bool.{cases_lt, le-ltb, and_right}
 use Rattle.std.proofs.lemmas.Bool.Decides.{nat_tests}
-use Rattle.std.specs.Int.{div_ceil}
 use borrow.Rule.Slice.PartMut.{put_mid}
-use Rattle.packed_rows.specs.Packing.{pixel, IsPadded}
+use Rattle.packed_rows.specs.Packing.{pixel}
 use Rattle.packed_rows.specs.Stored.{row_at}
 use Rattle.packed_rows.specs.Changes.{is_within}
-use Rattle.packed_rows.specs.Stamped.{pixel_over}
 use Rattle.packed_rows.proofs.Blackened.{elsewhere, ordered}
 use Rattle.packed_rows.proofs.StoredRows.{row_at-put_same, row_at-put_other, row_at-length}
 
 -- what the pixels of a row of so many bytes become under one that has the pixels f
 abbrev pub AreUnder : ℕ → (ℕ → Bool) → List ℕ → List ℕ → Type 0
-AreUnder width f old new = (x : ℕ) → x < width → pixel new x ≡ (f x || pixel old x)
+AreUnder stride f old new = (x : ℕ) → x < 8 * stride → pixel new x ≡ (f x || pixel old x)
 
 -- the rows from `first` to `last` were set, where f x y is what lies over pixel x of row y
-pub record IsStamped (stride width first last : ℕ) (f : ℕ → ℕ → Bool) (old new : List ℕ) : Type 0 where
+pub record IsStamped (stride first last : ℕ) (f : ℕ → ℕ → Bool) (old new : List ℕ) : Type 0 where
   pub len : length new ≡ length old
-  pub dots : (x y : ℕ) → x < width → y * stride + stride ≤ length old → pixel (row_at stride new y) x ≡ (is_within first last y && f x y || pixel (row_at stride old y) x)
-  pub padded : (y : ℕ) → y * stride + stride ≤ length old → IsPadded width (row_at stride old y) → IsPadded width (row_at stride new y)
+  pub dots : (x y : ℕ) → x < 8 * stride → y * stride + stride ≤ length old → pixel (row_at stride new y) x ≡ (is_within first last y && f x y || pixel (row_at stride old y) x)
 
 in_step : (first y : ℕ) → first ≤ y → is_within first (y + 1) y ≡ true
 in_step first y h = grind (arith, nat_tests)
@@ -32,23 +29,24 @@ now_in true b p h = refl
 now_in false b p h = ap (λ d. d && false || p) h
 
 -- before the first row
-pub stamped_none : (stride width first : ℕ) (f : ℕ → ℕ → Bool) (old : List ℕ) → IsStamped stride width first first f old old
-stamped_none stride width first f old = record {
-  len = refl;
-  dots = λ x y _ _. sym (ap (λ b. b && f x y || pixel (row_at stride old y) x) (nowhere y));
-  padded = λ y _ p. p;
-}
+pub stamped_none : (stride first : ℕ) (f : ℕ → ℕ → Bool) (old : List ℕ) → IsStamped stride first first f old old
+stamped_none stride first f old = record { len = refl; dots = λ x y _ _. sym (ap (λ b. b && f x y || pixel (row_at stride old y) x) (nowhere y)) }
   where
     nowhere : (y : ℕ) → is_within first first y ≡ false
     nowhere y = grind (arith, nat_tests)
 
-step : (stride width first y : ℕ) (f : ℕ → ℕ → Bool) (old mid new : List ℕ) → first ≤ y → y * stride + stride ≤ length mid → length new ≡ stride
-    → AreUnder width (λ x. f x y) (row_at stride mid y) new → (IsPadded width (row_at stride mid y) → IsPadded width new) → IsStamped stride width first y f old mid
-    → IsStamped stride width first (y + 1) f old (put_mid (y * stride) stride mid new)
-step stride width first y f old mid new low fit long under padded before = record {
+-- nothing was set yet
+pub stamped_nothing : (stride first last : ℕ) (f : ℕ → ℕ → Bool) (old : List ℕ) → ((x y : ℕ) → f x y ≡ false) → IsStamped stride first last f old old
+stamped_nothing stride first last f old none = record {
+  len = refl;
+  dots = λ x y _ _. sym (ap (λ b. b || pixel (row_at stride old y) x) (and_right (is_within first last y) (f x y) (none x y)));
+}
+
+step : (stride first y : ℕ) (f : ℕ → ℕ → Bool) (old mid new : List ℕ) → first ≤ y → y * stride + stride ≤ length mid → length new ≡ stride
+    → AreUnder stride (λ x. f x y) (row_at stride mid y) new → IsStamped stride first y f old mid → IsStamped stride first (y + 1) f old (put_mid (y * stride) stride mid new)
+step stride first y f old mid new low fit long under before = record {
   len = put_long ∙ before.len;
   dots = λ x z in_row on_page. dots_at x z in_row on_page (ordered y z (cases_lt y z) (cases_lt z y));
-  padded = λ z on_page p. padded_at z on_page p (ordered y z (cases_lt y z) (cases_lt z y));
 }
   where
     put_long : length (put_mid (y * stride) stride mid new) ≡ length mid
@@ -57,14 +55,14 @@ step stride width first y f old mid new low fit long under padded before = recor
     same : row_at stride (put_mid (y * stride) stride mid new) y ≡ new
     same = row_at-put_same stride y mid new fit long
 
-    here_at : (x : ℕ) → x < width → y * stride + stride ≤ length old
+    here_at : (x : ℕ) → x < 8 * stride → y * stride + stride ≤ length old
         → pixel (row_at stride (put_mid (y * stride) stride mid new) y) x ≡ (is_within first (y + 1) y && f x y || pixel (row_at stride old y) x)
     here_at x in_row on_page =
         ap (λ l. pixel l x) same ∙ under x in_row ∙ ap (λ b. f x y || b) (before.dots x y in_row on_page)
         ∙ now_in (f x y) (is_within first y y) (pixel (row_at stride old y) x) (not_yet first y)
         ∙ ap (λ b. b && f x y || pixel (row_at stride old y) x) (sym (in_step first y low))
 
-    dots_at : (x z : ℕ) → x < width → z * stride + stride ≤ length old → (((z < y) ⊎ (y < z)) ⊎ (z ≡ y))
+    dots_at : (x z : ℕ) → x < 8 * stride → z * stride + stride ≤ length old → (((z < y) ⊎ (y < z)) ⊎ (z ≡ y))
         → pixel (row_at stride (put_mid (y * stride) stride mid new) z) x ≡ (is_within first (y + 1) z && f x z || pixel (row_at stride old z) x)
     dots_at x z in_row on_page (inl apart) =
         ap (λ l. pixel l x) (row_at-put_other stride y z mid new fit long apart) ∙ before.dots x z in_row on_page
@@ -73,37 +71,26 @@ step stride width first y f old mid new low fit long under padded before = recor
         subst (λ (r : ℕ). pixel (row_at stride (put_mid (y * stride) stride mid new) r) x ≡ (is_within first (y + 1) r && f x r || pixel (row_at stride old r) x)) (sym here)
         (here_at x in_row (subst (λ (r : ℕ). r * stride + stride ≤ length old) here on_page))
 
-    padded_at : (z : ℕ) → z * stride + stride ≤ length old → IsPadded width (row_at stride old z) → (((z < y) ⊎ (y < z)) ⊎ (z ≡ y)) → IsPadded width (row_at stride (put_mid (y * stride) stride mid new) z)
-    padded_at z on_page p (inl apart) = subst (λ (l : List ℕ). IsPadded width l) (sym (row_at-put_other stride y z mid new fit long apart)) (before.padded z on_page p)
-    padded_at z on_page p (inr here) = subst (λ (l : List ℕ). IsPadded width l) (sym (ap (λ r. row_at stride (put_mid (y * stride) stride mid new) r) here ∙ same))
-        (padded (subst (λ (r : ℕ). IsPadded width (row_at stride mid r)) here (before.padded z on_page p)))
-
 -- one row more; the row is a slice whose length the code computes
-pub stamped_more : (stride width first y k : ℕ) (f : ℕ → ℕ → Bool) (old mid new : List ℕ) → k ≡ stride → first ≤ y → y * stride + stride ≤ length mid
-    → length new ≡ stride → AreUnder width (λ x. f x y) (take k (drop (y * stride) mid)) new → (IsPadded width (take k (drop (y * stride) mid)) → IsPadded width new)
-    → IsStamped stride width first y f old mid → IsStamped stride width first (y + 1) f old (put_mid (y * stride) k mid new)
-stamped_more stride width first y k f old mid new e low fit long under padded before =
-    subst (λ (n : ℕ). IsStamped stride width first (y + 1) f old (put_mid (y * stride) n mid new)) (sym e)
-    (step stride width first y f old mid new low fit long (λ x in_row. under x in_row ∙ ap (λ l. f x y || pixel l x) row)
-    (λ p. padded (subst (λ (l : List ℕ). IsPadded width l) (sym row) p)) before)
+pub stamped_more : (stride first y k : ℕ) (f : ℕ → ℕ → Bool) (old mid new : List ℕ) → k ≡ stride → first ≤ y → y * stride + stride ≤ length mid
+    → length new ≡ stride → AreUnder stride (λ x. f x y) (take k (drop (y * stride) mid)) new
+    → IsStamped stride first y f old mid → IsStamped stride first (y + 1) f old (put_mid (y * stride) k mid new)
+stamped_more stride first y k f old mid new e low fit long under before =
+    subst (λ (n : ℕ). IsStamped stride first (y + 1) f old (put_mid (y * stride) n mid new)) (sym e)
+    (step stride first y f old mid new low fit long (λ x in_row. under x in_row ∙ ap (λ l. f x y || pixel l x) row) before)
   where
     row : take k (drop (y * stride) mid) ≡ row_at stride mid y
     row = ap (λ n. take n (drop (y * stride) mid)) e
 
--- what lies over pixel x of row y
-abbrev pub over : List ℕ → ℕ → ℕ → ℕ → ℕ → ℕ → ℕ → ℕ → Bool
-over upper stride start skipped down_start down_skipped x y = pixel_over (row_at stride upper (y + down_skipped - down_start)) start skipped x
-
 -- rows set behind those that were set before
-pub stamped_on : (stride width first y last : ℕ) (f : ℕ → ℕ → Bool) (old mid new : List ℕ) → first ≤ y → y ≤ last
-    → IsStamped stride width y last f mid new → IsStamped stride width first y f old mid → IsStamped stride width first last f old new
-stamped_on stride width first y last f old mid new low high after before = record {
+pub stamped_on : (stride first y last : ℕ) (f : ℕ → ℕ → Bool) (old mid new : List ℕ) → first ≤ y → y ≤ last
+    → IsStamped stride y last f mid new → IsStamped stride first y f old mid → IsStamped stride first last f old new
+stamped_on stride first y last f old mid new low high after before = record {
   len = after.len ∙ before.len;
   dots = λ x z in_row on_page.
       after.dots x z in_row (omega (arith, on_page, before.len)) ∙ ap (λ b. is_within y last z && f x z || b) (before.dots x z in_row on_page)
       ∙ joined (is_within y last z) (is_within first y z) (f x z) (pixel (row_at stride old z) x)
       ∙ ap (λ b. b && f x z || pixel (row_at stride old z) x) (both z);
-  padded = λ z on_page p. after.padded z (omega (arith, on_page, before.len)) (before.padded z on_page p);
 }
   where
     joined : (a b c d : Bool) → (a && c || (b && c || d)) ≡ ((a || b) && c || d)
@@ -116,11 +103,30 @@ stamped_on stride width first y last f old mid new low high after before = recor
     both : (z : ℕ) → (is_within y last z || is_within first y z) ≡ is_within first last z
     both z = grind (arith, nat_tests)
 
--- all rows; the code computes the size of a row, and where it ended
-pub done : (own w from last until : ℕ) (f : ℕ → ℕ → Bool) (old new : List ℕ) → own ≡ div_ceil w 8 → last ≡ until → IsStamped own w from last f old new → IsStamped (div_ceil w 8) w from until f old new
-done own w from last until f old new e g stamped =
-    subst (λ (n : ℕ). IsStamped n w from until f old new) e (subst (λ (n : ℕ). IsStamped own w from n f old new) g stamped)
+-- more pixels set in the same rows: h has those of f and of g
+pub stamped_both : (stride first last : ℕ) (f g h : ℕ → ℕ → Bool) (old mid new : List ℕ) → ((x y : ℕ) → x < 8 * stride → (g x y || f x y) ≡ h x y)
+    → IsStamped stride first last g mid new → IsStamped stride first last f old mid → IsStamped stride first last h old new
+stamped_both stride first last f g h old mid new all after before = record {
+  len = after.len ∙ before.len;
+  dots = λ x z in_row on_page.
+      after.dots x z in_row (omega (arith, on_page, before.len)) ∙ ap (λ b. is_within first last z && g x z || b) (before.dots x z in_row on_page)
+      ∙ joined (is_within first last z) (g x z) (f x z) (pixel (row_at stride old z) x)
+      ∙ ap (λ b. is_within first last z && b || pixel (row_at stride old z) x) (all x z in_row);
+}
+  where
+    joined : (a b c d : Bool) → (a && b || (a && c || d)) ≡ (a && (b || c) || d)
+    joined true true c d = refl
+    joined true false c d = refl
+    joined false b c d = refl
+
+-- the same pixels said otherwise
+pub stamped_same : (stride first last : ℕ) (f g : ℕ → ℕ → Bool) (old new : List ℕ) → ((x y : ℕ) → x < 8 * stride → f x y ≡ g x y)
+    → IsStamped stride first last f old new → IsStamped stride first last g old new
+stamped_same stride first last f g old new same stamped = record {
+  len = stamped.len;
+  dots = λ x y in_row on_page. stamped.dots x y in_row on_page ∙ ap (λ b. is_within first last y && b || pixel (row_at stride old y) x) (same x y in_row);
+}
 
 -- the place where rows end, as the code computes it
-pub ended : (stride width first m n : ℕ) (f : ℕ → ℕ → Bool) (old new : List ℕ) → m ≡ n → IsStamped stride width first m f old new → IsStamped stride width first n f old new
-ended stride width first m n f old new e stamped = subst (λ (k : ℕ). IsStamped stride width first k f old new) e stamped
+pub ended : (stride first m n : ℕ) (f : ℕ → ℕ → Bool) (old new : List ℕ) → m ≡ n → IsStamped stride first m f old new → IsStamped stride first n f old new
+ended stride first m n f old new e stamped = subst (λ (k : ℕ). IsStamped stride first k f old new) e stamped

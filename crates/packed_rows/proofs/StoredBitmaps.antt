@@ -29,7 +29,7 @@ same_dots width height f g h = from_fn_same height _ _ (λ y low. from_fn_same w
 
 -- ---- white bitmaps
 
-abbrev zeros : ℕ → List ℕ
+abbrev pub zeros : ℕ → List ℕ
 zeros n = replicate n 0
 
 zero_at : (n i : ℕ) → get_or (zeros n) i 0 ≡ 0
@@ -37,13 +37,13 @@ zero_at zero i = refl
 zero_at (suc n) zero = refl
 zero_at (suc n) (suc i) = zero_at n i
 
-white_dot : (n x : ℕ) → pixel (zeros n) x ≡ false
+pub white_dot : (n x : ℕ) → pixel (zeros n) x ≡ false
 white_dot n x = ap (λ b. eqb (bit_at b (7 - x % 8)) 1) (zero_at n (x / 8)) ∙ ap (λ b. eqb b 1) (bit_at-zero (7 - x % 8))
 
 pub row_fits : (stride height y : ℕ) → y < height → y * stride + stride ≤ height * stride
 row_fits stride height y h = omega (arith, mul-le-mul_right stride h)
 
-row_of_zeros : (stride height n y : ℕ) → height * stride ≤ n → y < height → row_at stride (zeros n) y ≡ zeros stride
+pub row_of_zeros : (stride height n y : ℕ) → height * stride ≤ n → y < height → row_at stride (zeros n) y ≡ zeros stride
 row_of_zeros stride height n y e h =
     ap (take stride) (drop-replicate (y * stride) n 0) ∙ take-replicate stride (n - y * stride) 0 (omega (arith, e, row_fits stride height y h))
 

@@ -35,6 +35,16 @@ bits_of_value (suc n) b (p ∷ pixels) h =
     let low : bits_value n pixels ≡ b % 2 ^ n = bits_of_value n b pixels (λ k below. h (suc k) (omega (arith, below)) ∙ ap (λ i. eqb (bit_at b i) 1) (omega arith)) in
     ap (λ m. cond p (2 ^ n) 0 + m) low ∙ ap (λ t. cond t (2 ^ n) 0 + b % 2 ^ n) top ∙ sym (split_bits b n)
 
+-- a byte without a set bit
+pub no_bits : (b : ℕ) → b < 256 → ((k : ℕ) → k < 8 → eqb (bit_at b (7 - k)) 1 ≡ false) → b ≡ 0
+no_bits b small none = sym whole ∙ sym (bits_of_value 8 b [] (λ k below. sym (ap (λ i. eqb (bit_at b i) 1) (place k) ∙ none k below)))
+  where
+    whole : b % 2 ^ 8 ≡ b
+    whole = omega (arith, small)
+
+    place : (k : ℕ) → 8 - 1 - k ≡ 7 - k
+    place k = omega arith
+
 -- byte i of the text of the pixels that padded bytes hold
 same_byte : (width : ℕ) (bytes : List ℕ) (i : ℕ) → IsPadded width bytes → i < length bytes → bits_value 8 (drop (8 * i) (pixels_of width bytes)) ≡ get_or bytes i 0
 same_byte width bytes i padded h = bits_of_value 8 (get_or bytes i 0) (drop (8 * i) (pixels_of width bytes)) each ∙ small

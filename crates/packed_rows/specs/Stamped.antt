@@ -1,8 +1,9 @@
 -- A raster that is set on a bitmap: the pixels that lie on its black ones become black, the others stay.
-use Rattle.std.specs.Prelude.{ℕ, ◌+◌, ◌-◌, ℤ, pos, ◌-ℤ◌, Bool, false, ◌&&◌, ◌||◌, ◌==◌, List, nat_le}
+use Rattle.std.specs.Prelude.{ℕ, ◌+◌, ◌-◌, ◌*◌, ◌%◌, ℤ, pos, ◌-ℤ◌, Bool, false, ◌&&◌, ◌||◌, ◌==◌, List, nat_le}
 use Rattle.std.specs.Int.{bit_at}
 use Rattle.packed_rows.specs.Bitmap.{Bitmap, is_black, from_fn}
 use Rattle.packed_rows.specs.Packing.{pixel}
+use Rattle.packed_rows.specs.Changes.{is_within}
 
 -- a pixel of a raster by its place, which may lie outside: white there
 abbrev pub is_black_at : Bitmap → ℤ → ℤ → Bool
@@ -26,3 +27,13 @@ byte_pixel byte k = bit_at byte (7 - k) == 1
 -- pixel i of the sixty-four that a number of eight bytes holds, the first in the high bit
 abbrev pub word_pixel : ℕ → ℕ → Bool
 word_pixel word i = bit_at word (63 - i) == 1
+
+-- ---- by words
+
+-- what a word sets on pixel x of a row: the word is read from byte `at` on, turned right, masked, and set from byte `to` on
+abbrev pub strip_over : List ℕ → ℕ → ℕ → ℕ → ℕ → ℕ → Bool
+strip_over upper at turn mask to x = is_within (8 * to) (8 * to + 64) x && (word_pixel mask (x - 8 * to) && pixel upper (8 * at + (x - 8 * to + (64 - turn)) % 64))
+
+-- what lies over pixel x of the pixels from `lo` on and before `hi` that follow byte `at`, its first pixel over pixel start - skipped
+abbrev pub part_over : List ℕ → ℕ → ℕ → ℕ → ℕ → ℕ → ℕ → Bool
+part_over upper at start skipped lo hi x = is_within (start + lo) (start + hi) (x + skipped) && pixel upper (8 * at + (x + skipped - start))

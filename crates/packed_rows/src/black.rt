@@ -1,6 +1,6 @@
 //! Columns made black in rows.
 
-ghost use Rattle.std.specs.Prelude.{◌≡◌, ℕ, ◌+◌, ◌*◌, ◌/◌, ◌^◌, ◌<◌, ◌≤◌, ◌&&◌, ◌||◌, length};
+ghost use Rattle.std.specs.Prelude.{◌≡◌, ℕ, ◌+◌, ◌*◌, ◌/◌, ◌^◌, ◌<◌, ◌≤◌, ◌&&◌, ◌||◌, length, slice_index};
 ghost use Rattle.packed_rows.specs.Packing.{pixel, IsPadded};
 ghost use Rattle.packed_rows.specs.Changes.{is_within};
 ghost use Rattle.packed_rows.specs.Stored.{row_at};
@@ -18,6 +18,7 @@ pub fn blacken_rows(bytes: &mut [u8], stride: usize, columns: Span, rows: Span)
     requires inside { columns.until ≤ 8 * stride }
     requires whole { rows.until * stride + 8 ≤ length bytes.old }
     ensures len { length bytes.new ≡ length bytes.old }
+    ensures bytes { (i : ℕ) → slice_index bytes.new i < 256 }
     ensures dots { (x y : ℕ) → x < 8 * stride → y * stride + stride ≤ length bytes.old →
         pixel (row_at stride bytes.new y) x ≡
         (is_within columns.from columns.until x && is_within rows.from rows.until y

@@ -3,15 +3,11 @@
 ghost use Rattle.std.specs.Prelude.{◌≡◌, ◌+◌, ◌^◌, ◌<◌, ◌≤◌, [], IfOk, slice_index_or};
 ghost use Rattle.std.specs.List.{flat_map};
 ghost use Rattle.packed_rows.specs.Bitmap.{is_black};
-ghost use Rattle.packed_rows.specs.Coordinates.{IsCoordinate};
-ghost use Rattle.packed_rows.specs.Changes.{white_bitmap, with_black, with_copies, black_count};
-ghost use Rattle.packed_rows.specs.Stamped.{with_raster};
+ghost use Rattle.packed_rows.specs.Changes.{white_bitmap, with_black, with_copies};
 ghost use Rattle.packed_rows.specs.Packing.{row_text, pixels_of, IsPadded};
+ghost use Rattle.packed_rows.specs.Stored.{bitmap_of, IsStored};
 
 use crate::black::blacken_rows;
-use crate::narrow::stamp_over;
-use crate::offset::{offset_of, reached};
-use crate::ones::count_ones;
 use crate::row::{is_black, row_bytes};
 use crate::rows::{Span, copy_rows};
 use std::alloc::{AllocError as NoMemory, Global};
@@ -96,30 +92,6 @@ impl PackedBitmap {
         copy_rows(&mut self.bytes, row_bytes(self.width), y, copies);
     }
 
-    /// Sets a raster on the bitmap, with its upper left pixel in column `x` of row `y`: the pixels
-    /// that lie on a black one of the raster become black, the others stay. What lies beside the
-    /// bitmap is cut off.
-    pub fn stamp(&mut self, raster: &PackedBitmap, x: i64, y: i64)
-        requires left { IsCoordinate x }
-        requires top { IsCoordinate y }
-        ensures { self.new ≡ with_raster self.old raster.now x y }
-    {
-        let across = offset_of(x);
-        let down = offset_of(y);
-        let rows = reached(down, raster.height as usize, self.height as usize);
-        let stride = row_bytes(raster.width);
-        let width = self.width;
-        stamp_over(
-            &mut self.bytes,
-            width,
-            &raster.bytes,
-            stride,
-            across,
-            down,
-            rows,
-        );
-    }
-
     /// The bytes of row `y`: eight pixels a byte, the first in the high bit, 1 for black, and zero
     /// bits after the last.
     pub fn row(&self, y: u32) -> &[u8]
@@ -140,11 +112,12 @@ impl PackedBitmap {
         &self.bytes[..row_bytes(self.width) * self.height as usize]
     }
 
-    /// How many pixels are black.
-    pub fn count(&self) -> u64
-        ensures { result ≡ black_count self.now }
+    /// The bytes of all rows, and one word more.
+    pub(crate) fn stored(&self) -> &[u8]
+        ensures stored { IsStored self.now.width self.now.height result.now }
+        ensures value { bitmap_of self.now.width self.now.height result.now ≡ self.now }
     {
-        count_ones(&self.bytes[..row_bytes(self.width) * self.height as usize])
+        &self.bytes
     }
 }
 
@@ -158,7 +131,6 @@ mod tests {
         let mut bitmap = PackedBitmap::white(rt.alloc(), 10, 4)?;
         assert_eq!(rt; bitmap.width(), 10);
         assert_eq!(rt; bitmap.height(), 4);
-        assert_eq!(rt; bitmap.count(), 0);
         bitmap.blacken(Span { from: 6, until: 10 }, Span { from: 1, until: 2 });
         assert_eq!(rt; bitmap.rows(), [0, 0, 0x03, 0xc0, 0, 0, 0, 0].as_slice());
         bitmap.copy_down(1, 1);
@@ -168,41 +140,6 @@ mod tests {
         );
         assert_eq!(rt; bitmap.row(2), [0x03, 0xc0].as_slice());
         assert!(rt; bitmap.is_black(6, 2) && !bitmap.is_black(5, 2));
-        assert_eq!(rt; bitmap.count(), 8);
-        Ok(())
-    }
-
-    #[test]
-    fn a_raster_is_set_across_bytes(rt: HostRuntime) -> Result<(), Fail> {
-        let mut raster = PackedBitmap::white(rt.alloc(), 10, 2)?;
-        raster.blacken(Span { from: 0, until: 10 }, Span { from: 0, until: 1 });
-        let mut bitmap = PackedBitmap::white(rt.alloc(), 20, 3)?;
-        bitmap.stamp(&raster, 5, 1);
-        bitmap.stamp(&raster, -8, 0);
-        bitmap.stamp(&raster, 19, 2);
-        bitmap.stamp(&raster, 0, -1);
-        assert_eq!(rt;
-            bitmap.rows(),
-            [0xc0, 0, 0, 0x07, 0xfe, 0, 0, 0, 0x10].as_slice()
-        );
-        Ok(())
-    }
-
-    #[test]
-    fn narrow_rasters_are_set_on_wide_rows(rt: HostRuntime) -> Result<(), Fail> {
-        let mut raster = PackedBitmap::white(rt.alloc(), 10, 6)?;
-        raster.blacken(Span { from: 0, until: 10 }, Span { from: 0, until: 1 });
-        raster.blacken(Span { from: 9, until: 10 }, Span { from: 4, until: 6 });
-        let mut bitmap = PackedBitmap::white(rt.alloc(), 80, 5)?;
-        bitmap.stamp(&raster, 15, 0);
-        bitmap.stamp(&raster, 16, -4);
-        assert_eq!(rt;
-            bitmap.row(0),
-            [0, 1, 0xff, 0xc0, 0, 0, 0, 0, 0, 0].as_slice()
-        );
-        assert_eq!(rt; bitmap.row(1), [0, 0, 0, 0x40, 0, 0, 0, 0, 0, 0].as_slice());
-        assert_eq!(rt; bitmap.row(4), [0, 0, 0, 0x80, 0, 0, 0, 0, 0, 0].as_slice());
-        assert_eq!(rt; bitmap.count(), 13);
         Ok(())
     }
 }

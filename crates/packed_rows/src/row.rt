@@ -11,6 +11,13 @@ pub fn row_bytes(width: u32) -> usize
     (width as usize).div_ceil(8)
 }
 
+/// How many bytes a row of `width` pixels takes in whole words of eight.
+pub fn padded_bytes(width: u32) -> usize
+    ensures { result ≡ 8 * div_ceil width 64 }
+{
+    8 * (width as usize).div_ceil(64)
+}
+
 /// Whether pixel `x` of the row is black.
 pub fn is_black(row: &[u8], x: usize) -> bool
     requires { x < 8 * length row.now }

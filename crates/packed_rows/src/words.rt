@@ -1,7 +1,7 @@
 //! Words: eight bytes as one number, the first byte the highest.
 
-ghost use Rattle.std.specs.Prelude.{◌≡◌, ℕ, ◌+◌, ◌-◌, ◌*◌, ◌<◌, ◌≤◌, ◌&&◌, ◌||◌, length};
-ghost use Rattle.packed_rows.specs.Packing.{pixel, IsPadded};
+ghost use Rattle.std.specs.Prelude.{◌≡◌, ℕ, ◌+◌, ◌-◌, ◌*◌, ◌%◌, ◌<◌, ◌≤◌, ◌&&◌, ◌||◌, length};
+ghost use Rattle.packed_rows.specs.Packing.{pixel};
 ghost use Rattle.packed_rows.specs.Changes.{is_within};
 ghost use Rattle.packed_rows.specs.Stamped.{word_pixel};
 
@@ -32,6 +32,14 @@ pub fn span_word(from: usize, until: usize) -> u64
     (u64::MAX >> from) & (u64::MAX << (64 - until))
 }
 
+/// The word turned to the right: what leaves it at the right comes in again at the left.
+pub fn turned(word: u64, by: usize) -> u64
+    requires { by < 64 }
+    ensures { (i : ℕ) → i < 64 → word_pixel result i ≡ word_pixel word ((i + (64 - by)) % 64) }
+{
+    word.rotate_right(by as u32)
+}
+
 /// Makes the pixels black that lie under a black one of the word, which lies over the eight bytes
 /// from byte `at` on.
 // Eight single writes become one store; `copy_from_slice` doesn't.
@@ -41,9 +49,6 @@ pub fn join_word(row: &mut [u8], at: usize, word: u64)
     ensures pixels { (x : ℕ) → x < 8 * length row.old →
         pixel row.new x
         ≡ (is_within (8 * at) (8 * at + 64) x && word_pixel word (x - 8 * at) || pixel row.old x) }
-    // What lies after a row's last pixel stays zero.
-    ensures padded { (width : ℕ) → 8 * at + 64 ≤ width →
-        IsPadded width row.old → IsPadded width row.new }
 {
     let joined = (word_at(row, at) | word).to_be_bytes();
     row[at] = joined[0];

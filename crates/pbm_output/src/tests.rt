@@ -34,3 +34,17 @@ fn a_failed_write_leaves_a_front(rt: HostRuntime) -> Result<(), Fail> {
     assert_eq!(rt; some.bytes(), b"P4\n10 2\n\x00".as_slice());
     Ok(())
 }
+
+// 64 dots to a row, so that rows stand side by side.
+#[test]
+fn rows_of_whole_words(rt: HostRuntime) -> Result<(), Fail> {
+    let mut page = Page::blank(rt.alloc(), 64, 2)?;
+    page.rule(63, 1, 1, 1);
+    let mut out = MemOutput::new(rt.alloc(), 1000, vec![in rt.alloc()]?);
+    assert_eq!(rt; write_page(&mut out, &page), Ok(()));
+    assert_eq!(rt;
+        out.bytes(),
+        b"P4\n64 2\n\0\0\0\0\0\0\0\0\0\0\0\0\0\0\0\x01".as_slice()
+    );
+    Ok(())
+}

@@ -1,7 +1,10 @@
 //! The text of a page, written to an output.
 
-ghost use Rattle.std.specs.Prelude.{◌≡◌};
+ghost use Rattle.std.specs.Prelude.{◌≡◌, ◌++◌, ℕ, List, Option};
+ghost use Rattle.std.specs.List.{flat_map};
 ghost use Rattle.outside.specs.Streams.{Writes};
+ghost use Rattle.outside.specs.Gather.{Gathers};
+ghost use Rattle.packed_rows.specs.Packing.{row_text};
 ghost use Rattle.pbm_output.specs.Pbm.{page_text};
 
 use outside::{Failed, Gather, Output};
@@ -18,7 +21,7 @@ impl From<Failed> for WriteFault {
     }
 }
 
-/// Writes the page as a PBM file in its raw form (P4). The rows go out in one piece. Takes no memory.
+/// Writes the page as a PBM file in its raw form (P4). Takes no memory.
 pub fn write_page<O: Output>(out: &mut O, page: &Page) -> Result<(), WriteFault>
     ensures { Writes (O.written out.old) (O.written out.new) (O.faults out.old) (O.faults out.new) (page_text page.now) result }
 {
@@ -29,7 +32,24 @@ pub fn write_page<O: Output>(out: &mut O, page: &Page) -> Result<(), WriteFault>
     gather.put(out, b" ");
     gather.put(out, number.format(page.height()).as_bytes());
     gather.put(out, b"\n");
-    gather.put(out, page.rows());
+    put_rows(out, &mut gather, page);
     gather.finish(out)?;
     Ok(())
+}
+
+// Puts the rows: in one piece where no padding stands between them, else one by one, to be gathered
+// into large pieces.
+fn put_rows<O: Output>(out: &mut O, gather: &mut Gather, page: &Page)
+    ensures { (start : Option (List ℕ)) (before : ℕ) (text : List ℕ)
+        → Gathers start before gather.old (O.written out.old) (O.faults out.old) text
+        → Gathers start before gather.new (O.written out.new) (O.faults out.new)
+        (text ++ flat_map row_text page.now.rows) }
+{
+    if let Some(rows) = page.rows() {
+        gather.put(out, rows);
+        return;
+    }
+    for y in 0..page.height() {
+        gather.put(out, page.row(y));
+    }
 }

@@ -1,6 +1,7 @@
 //! The page.
 
-ghost use Rattle.std.specs.Prelude.{◌≡◌, ℕ, ◌<◌, ◌≤◌, ◌||◌, List, [], ◌∷◌, IfOk, slice_index_or};
+ghost use Rattle.std.specs.Prelude.{◌≡◌, ℕ, ◌*◌, ◌<◌, ◌≤◌, ◌||◌, ◌↔◌, List, [], ◌∷◌, IfOk, IfSome, IsSome, length, slice_index, slice_index_or, take};
+ghost use Rattle.std.specs.Int.{div_ceil};
 ghost use Rattle.std.specs.List.{flat_map};
 ghost use Rattle.packed_rows.specs.Bitmap.{Bitmap, is_black};
 ghost use Rattle.packed_rows.specs.Coordinates.{IsCoordinate};
@@ -9,14 +10,14 @@ ghost use Rattle.raster_page.specs.Ink.{Inked, Dots, Bar, covers, page_of, with_
 ghost use Rattle.packed_rows.specs.Changes.{black_count};
 
 use crate::span::clipped;
-use packed_rows::PackedBitmap;
+use packed_rows::{PackedBitmap, PaddedBitmap};
 use std::alloc::{AllocError as NoMemory, Global};
 use std::marker::Model;
 
 /// A page of black and white dots, counted from its upper left one.
 #[derive(Drop)]
 pub struct Page {
-    dots: PackedBitmap,
+    dots: PaddedBitmap,
 }
 
 impl Model for Page {
@@ -41,7 +42,7 @@ impl Page {
         ensures white { IfOk result (λ page. page ≡ page_of w h []) }
     {
         Ok(Page {
-            dots: PackedBitmap::white(alloc, w, h)?,
+            dots: PaddedBitmap::white(alloc, w, h)?,
         })
     }
 
@@ -57,6 +58,7 @@ impl Page {
     /// How many rows the page has.
     pub fn height(&self) -> u32
         ensures value { result ≡ self.now.height }
+        ensures rows { length self.now.rows ≡ result }
         ensures some { 1 ≤ result }
         ensures low { result ≤ 20000 }
     {
@@ -121,9 +123,23 @@ impl Page {
         self.dots.row(y)
     }
 
-    /// The bytes of all rows, one after another.
-    pub fn rows(&self) -> &[u8]
-        ensures { result.now ≡ flat_map row_text self.now.rows }
+    /// The bytes of row `y` with its padding: whole words of eight bytes, zero after those of the row.
+    pub fn padded(&self, y: u32) -> &[u8]
+        requires { y < self.now.height }
+        ensures len { length result.now ≡ 8 * div_ceil self.now.width 64 }
+        ensures row { take (div_ceil self.now.width 8) result.now
+            ≡ row_text (slice_index_or self.now.rows y []) }
+        ensures zero { (i : ℕ) → div_ceil self.now.width 8 ≤ i → slice_index result.now i ≡ 0 }
+    {
+        self.dots.padded(y)
+    }
+
+    /// The bytes of all rows, one after another, where no padding stands between them: where a row
+    /// takes whole words by itself. `None` where padding does.
+    pub fn rows(&self) -> Option<&[u8]>
+        ensures some { IsSome result
+            ↔ (div_ceil self.now.width 8 ≡ 8 * div_ceil self.now.width 64) }
+        ensures text { IfSome result (λ bytes. bytes.now ≡ flat_map row_text self.now.rows) }
     {
         self.dots.rows()
     }

@@ -9,7 +9,8 @@ fn a_blank_page_is_white(rt: HostRuntime) -> Result<(), Fail> {
     let page = Page::blank(rt.alloc(), 10, 2)?;
     assert_eq!(rt; page.width(), 10);
     assert_eq!(rt; page.height(), 2);
-    assert_eq!(rt; page.rows(), [0, 0, 0, 0].as_slice());
+    assert_eq!(rt; page.row(0), [0, 0].as_slice());
+    assert_eq!(rt; page.row(1), [0, 0].as_slice());
     assert_eq!(rt; page.count(), 0);
     Ok(())
 }
@@ -18,12 +19,10 @@ fn a_blank_page_is_white(rt: HostRuntime) -> Result<(), Fail> {
 fn a_rule_in_the_middle(rt: HostRuntime) -> Result<(), Fail> {
     let mut page = Page::blank(rt.alloc(), 10, 4)?;
     page.rule(3, 1, 6, 2);
-    assert_eq!(rt;
-        page.rows(),
-        [0, 0, 0x1f, 0x80, 0x1f, 0x80, 0, 0].as_slice()
-    );
-    assert!(rt; page.width() == 10 && page.height() == 4);
+    assert_eq!(rt; page.row(0), [0, 0].as_slice());
     assert_eq!(rt; page.row(1), [0x1f, 0x80].as_slice());
+    assert_eq!(rt; page.row(2), [0x1f, 0x80].as_slice());
+    assert_eq!(rt; page.row(3), [0, 0].as_slice());
     assert_eq!(rt;
         [
             page.black(3, 1),
@@ -39,12 +38,31 @@ fn a_rule_in_the_middle(rt: HostRuntime) -> Result<(), Fail> {
 }
 
 #[test]
+fn rows_are_padded_to_whole_words(rt: HostRuntime) -> Result<(), Fail> {
+    let mut page = Page::blank(rt.alloc(), 5, 1)?;
+    page.rule(0, 0, 130, 1);
+    assert_eq!(rt; page.row(0), [0xf8].as_slice());
+    assert_eq!(rt; page.padded(0), [0xf8, 0, 0, 0, 0, 0, 0, 0].as_slice());
+    assert_eq!(rt; page.count(), 5);
+    assert!(rt; page.rows().is_none());
+    let mut whole = Page::blank(rt.alloc(), 57, 2)?;
+    whole.rule(56, 1, 1, 1);
+    assert!(rt;
+        whole.rows() == Some([0, 0, 0, 0, 0, 0, 0, 0, 0, 0, 0, 0, 0, 0, 0, 0x80].as_slice())
+    );
+    Ok(())
+}
+
+#[test]
 fn rules_are_cut_at_each_edge(rt: HostRuntime) -> Result<(), Fail> {
     let mut page = Page::blank(rt.alloc(), 12, 4)?;
     page.rule(-2, -1, 3, 2);
     page.rule(11, 3, 100, 100);
     page.rule(4, 2, 1, 1);
-    assert_eq!(rt; page.rows(), [0x80, 0, 0, 0, 0x08, 0, 0, 0x10].as_slice());
+    assert_eq!(rt; page.row(0), [0x80, 0].as_slice());
+    assert_eq!(rt; page.row(1), [0, 0].as_slice());
+    assert_eq!(rt; page.row(2), [0x08, 0].as_slice());
+    assert_eq!(rt; page.row(3), [0, 0x10].as_slice());
     Ok(())
 }
 
@@ -64,23 +82,24 @@ fn rules_beside_the_page_leave_it(rt: HostRuntime) -> Result<(), Fail> {
     page.rule(-farthest, -farthest, farthest, farthest);
     assert_eq!(rt; page.count(), 0);
     page.rule(1 - farthest, 1 - farthest, farthest, farthest);
-    assert_eq!(rt; page.rows(), [0x80, 0, 0, 0].as_slice());
+    assert_eq!(rt; page.row(0), [0x80, 0].as_slice());
+    assert_eq!(rt; page.row(1), [0, 0].as_slice());
     page.rule(0, 1, farthest, farthest);
-    assert_eq!(rt; page.rows(), [0x80, 0, 0xff, 0x80].as_slice());
+    assert_eq!(rt; page.row(1), [0xff, 0x80].as_slice());
     assert_eq!(rt; page.count(), 10);
     Ok(())
 }
 
-// Words, the bytes after the last of them, and the padding of 41 rows of 13 dots.
+// Words whose last dots are padding.
 #[test]
 fn dots_are_counted(rt: HostRuntime) -> Result<(), Fail> {
-    let mut page = Page::blank(rt.alloc(), 13, 41)?;
-    page.rule(7, 0, 2, 41);
+    let mut page = Page::blank(rt.alloc(), 77, 41)?;
+    page.rule(63, 0, 2, 41);
     assert_eq!(rt; page.count(), 82);
-    page.rule(0, 40, 13, 1);
-    assert_eq!(rt; page.count(), 93);
-    page.rule(0, 0, 13, 41);
-    assert_eq!(rt; page.count(), 533);
+    page.rule(0, 40, 77, 1);
+    assert_eq!(rt; page.count(), 157);
+    page.rule(0, 0, 77, 41);
+    assert_eq!(rt; page.count(), 3157);
     Ok(())
 }
 
@@ -92,9 +111,9 @@ fn a_bitmap_is_set_beside_a_rule(rt: HostRuntime) -> Result<(), Fail> {
     page.stamp(&bitmap, -2, -2);
     page.rule(4, 1, 1, 2);
     page.stamp(&bitmap, 9, 2);
-    assert_eq!(rt;
-        page.rows(),
-        [0xc0, 0, 0xc8, 0, 0x08, 0x40, 0, 0x40].as_slice()
-    );
+    assert_eq!(rt; page.row(0), [0xc0, 0].as_slice());
+    assert_eq!(rt; page.row(1), [0xc8, 0].as_slice());
+    assert_eq!(rt; page.row(2), [0x08, 0x40].as_slice());
+    assert_eq!(rt; page.row(3), [0, 0x40].as_slice());
     Ok(())
 }

@@ -2,6 +2,7 @@
 
 ghost use Rattle.std.specs.Prelude.{◌<◌};
 
+use super::rows_of;
 use crate::paint;
 use pk_runs::{Raster, raster};
 use raster_page::Page;
@@ -40,7 +41,7 @@ fn is_black(glyph: &Raster, column: i64, row: i64) -> bool {
         && glyph.black(column as u32, row as u32)
 }
 
-// Glyphs of up to nine bytes a row and rules, three on each page, at all shifts and over all edges.
+// Glyphs of up to 25 bytes a row and rules, three on each page, at all shifts and over all edges.
 #[test]
 fn as_dot_by_dot(rt: HostRuntime) -> Result<(), Fail> {
     let mut random = Random { state: 1 };
@@ -48,13 +49,13 @@ fn as_dot_by_dot(rt: HostRuntime) -> Result<(), Fail> {
         let mut page = Page::blank(rt.alloc(), WIDTH, HEIGHT)?;
         let mut slow = [0u8; 228];
         for mark in 0..3 {
-            let mut bytes = [0u8; 80];
+            let mut bytes = [0u8; 200];
             for byte in &mut bytes {
                 *byte = random.below(256) as u8;
             }
-            let w = random.below(70) as u32;
+            let w = random.below(200) as u32;
             let h = random.below(9) as u32;
-            let x = random.below(300) as i64 - 100;
+            let x = random.below(400) as i64 - 200;
             let y = random.below(30) as i64 - 12;
             let glyph = raster(rt.alloc(), &bytes, 14, true, w, h)?;
             if mark == 2 {
@@ -77,7 +78,8 @@ fn as_dot_by_dot(rt: HostRuntime) -> Result<(), Fail> {
                 }
             }
         }
-        assert_eq!(rt; page.rows(), slow.as_slice(), "at page {round}");
+        let painted = rows_of(rt.alloc(), &page)?;
+        assert_eq!(rt; painted.as_slice(), slow.as_slice(), "at page {round}");
     }
     Ok(())
 }

@@ -40,7 +40,7 @@ impl Gather {
         ensures gathers { (start : Option (List ℕ)) (before : ℕ) (text : List ℕ)
             → Gathers start before self.old (O.written out.old) (O.faults out.old) text
             → Gathers start before self.new (O.written out.new) (O.faults out.new) text }
-        ensures room { self.new.used + size ≤ 16384 ⊎ (self.new.used ≡ 0) }
+        ensures room { self.new.used + size ≤ 65536 ⊎ (self.new.used ≡ 0) }
     {
         if size > PIECE - self.used {
             self.flush(out);

@@ -5,7 +5,7 @@ use Rattle.outside.proofs.Growth.{failed_now}
 use Rattle.outside.proofs.Pieces.{put_after_failure, put_held, written_past}
 use Rattle.outside.proofs.gather.Gather.put.Goals as goal
 
-nothing_held : (used size : ℕ) → (used + size ≤ 16384) ⊎ (used ≡ 0) → 16384 - used < size → used ≡ 0
+nothing_held : (used size : ℕ) → (used + size ≤ 65536) ⊎ (used ≡ 0) → 65536 - used < size → used ≡ 0
 nothing_held used size h lt = grind arith
 
 -- bytes are copied behind those that are held

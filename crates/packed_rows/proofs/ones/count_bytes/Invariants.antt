@@ -1,6 +1,0 @@
-use Rattle.std.proofs.Common.{◌≡◌, take, count_ones}
-use Rattle.std.specs.List.{sum_by}
-use Rattle.packed_rows.proofs.ones.count_bytes.Given as goal
-
-abbrev pub invariant-loop-byte : goal.invariant-loop-byte
-invariant-loop-byte l = l.count ≡ sum_by count_ones (take l.byte-index l.bytes)

@@ -1,0 +1,243 @@
+//! A bitmap whose rows are padded to whole words.
+
+ghost use Rattle.std.specs.Prelude.{◌≡◌, ℕ, ◌*◌, ◌^◌, ◌<◌, ◌≤◌, ◌↔◌, [], IfOk, IfSome, IsSome, length, slice_index, slice_index_or, take};
+ghost use Rattle.std.specs.Int.{div_ceil};
+ghost use Rattle.std.specs.List.{flat_map};
+ghost use Rattle.packed_rows.specs.Bitmap.{is_black};
+ghost use Rattle.packed_rows.specs.Coordinates.{IsCoordinate};
+ghost use Rattle.packed_rows.specs.Changes.{white_bitmap, with_black, black_count};
+ghost use Rattle.packed_rows.specs.Stamped.{with_raster};
+ghost use Rattle.packed_rows.specs.Packing.{row_text, pixels_of, IsPadded};
+
+use crate::black::blacken_rows;
+use crate::offset::{offset_of, reached};
+use crate::ones::count_ones;
+use crate::packed::PackedBitmap;
+use crate::pieces::stamp_over;
+use crate::row::{is_black, padded_bytes, row_bytes};
+use crate::rows::Span;
+use std::alloc::{AllocError as NoMemory, Global};
+use std::marker::Model;
+
+/// A bitmap, seen as its width, its height and its rows of pixels. Each row takes whole words of
+/// eight bytes, and what stands after its last pixel is zero. One word more stands after the last
+/// row, so that a word can be read from each byte of a row.
+#[derive(Drop)]
+pub struct PaddedBitmap {
+    width: u32,
+    height: u32,
+    bytes: Vec<u8>,
+}
+
+impl Model for PaddedBitmap {
+    ghost use Rattle.packed_rows.specs.Bitmap.{Bitmap};
+    ghost use Rattle.packed_rows.specs.Stored.{padded_bitmap_of, IsStoredPadded};
+
+    ghost Value = { Bitmap };
+
+    ghost view = { λ b. padded_bitmap_of b.width b.height b.bytes.items };
+
+    ghost invariant = { λ b. IsStoredPadded b.width b.height b.bytes.items };
+}
+
+impl PaddedBitmap {
+    /// A bitmap of white pixels, in one zeroed allocation. The only call that takes memory.
+    pub fn white(alloc: Global, width: u32, height: u32) -> Result<PaddedBitmap, NoMemory>
+        requires narrow { width < 2 ^ 16 }
+        requires low { height < 2 ^ 16 }
+        ensures white { IfOk result (λ b. b ≡ white_bitmap width height) }
+    {
+        let bytes = vec![in alloc; 0; padded_bytes(width) * height as usize + 8]?;
+        Ok(PaddedBitmap {
+            width,
+            height,
+            bytes,
+        })
+    }
+
+    /// How many pixels a row has.
+    pub fn width(&self) -> u32
+        ensures value { result ≡ self.now.width }
+        ensures narrow { result < 2 ^ 16 }
+    {
+        self.width
+    }
+
+    /// How many rows there are.
+    pub fn height(&self) -> u32
+        ensures value { result ≡ self.now.height }
+        ensures rows { length self.now.rows ≡ result }
+        ensures low { result < 2 ^ 16 }
+    {
+        self.height
+    }
+
+    /// Whether pixel `x` of row `y` is black.
+    pub fn is_black(&self, x: u32, y: u32) -> bool
+        requires in_row { x < self.now.width }
+        requires inside { y < self.now.height }
+        ensures { result ≡ is_black self.now x y }
+    {
+        is_black(self.row(y), x as usize)
+    }
+
+    /// Makes the pixels of some columns black in some rows, and leaves the others as they are.
+    pub fn blacken(&mut self, columns: Span, rows: Span)
+        requires columns_ordered { columns.from ≤ columns.until }
+        requires columns_inside { columns.until ≤ self.old.width }
+        requires rows_ordered { rows.from ≤ rows.until }
+        requires rows_inside { rows.until ≤ self.old.height }
+        ensures { self.new ≡ with_black self.old columns.from columns.until rows.from rows.until }
+    {
+        blacken_rows(&mut self.bytes, padded_bytes(self.width), columns, rows);
+    }
+
+    /// Sets a raster on the bitmap, with its upper left pixel in column `x` of row `y`: the pixels
+    /// that lie on a black one of the raster become black, the others stay. What lies beside the
+    /// bitmap is cut off.
+    pub fn stamp(&mut self, raster: &PackedBitmap, x: i64, y: i64)
+        requires left { IsCoordinate x }
+        requires top { IsCoordinate y }
+        ensures { self.new ≡ with_raster self.old raster.now x y }
+    {
+        let across = offset_of(x);
+        let down = offset_of(y);
+        let rows = reached(down, raster.height() as usize, self.height as usize);
+        let stride = row_bytes(raster.width());
+        let width = self.width;
+        stamp_over(
+            &mut self.bytes,
+            width,
+            raster.stored(),
+            stride,
+            across,
+            down,
+            rows,
+        );
+    }
+
+    /// The bytes of row `y` without its padding: eight pixels a byte, the first in the high bit, 1
+    /// for black, and zero bits after the last.
+    pub fn row(&self, y: u32) -> &[u8]
+        requires { y < self.now.height }
+        ensures text { result.now ≡ row_text (slice_index_or self.now.rows y []) }
+        ensures dots { pixels_of self.now.width result.now ≡ slice_index_or self.now.rows y [] }
+        ensures padded { IsPadded self.now.width result.now }
+    {
+        let start = y as usize * padded_bytes(self.width);
+        &self.bytes[start..start + row_bytes(self.width)]
+    }
+
+    /// The bytes of row `y` with its padding: whole words of eight bytes, zero after those of the row.
+    pub fn padded(&self, y: u32) -> &[u8]
+        requires { y < self.now.height }
+        ensures len { length result.now ≡ 8 * div_ceil self.now.width 64 }
+        ensures row { take (div_ceil self.now.width 8) result.now
+            ≡ row_text (slice_index_or self.now.rows y []) }
+        ensures zero { (i : ℕ) → div_ceil self.now.width 8 ≤ i → slice_index result.now i ≡ 0 }
+    {
+        let stride = padded_bytes(self.width);
+        let start = y as usize * stride;
+        &self.bytes[start..start + stride]
+    }
+
+    /// The bytes of all rows, one after another, where no padding stands between them: where a row
+    /// takes whole words by itself. `None` where it does.
+    pub fn rows(&self) -> Option<&[u8]>
+        ensures some { IsSome result ↔ (div_ceil self.now.width 8 ≡ 8 * div_ceil self.now.width 64) }
+        ensures text { IfSome result (λ bytes. bytes.now ≡ flat_map row_text self.now.rows) }
+    {
+        let stride = padded_bytes(self.width);
+        if row_bytes(self.width) == stride {
+            Some(&self.bytes[..stride * self.height as usize])
+        } else {
+            None
+        }
+    }
+
+    /// How many pixels are black.
+    pub fn count(&self) -> u64
+        ensures { result ≡ black_count self.now }
+    {
+        count_ones(&self.bytes[..padded_bytes(self.width) * self.height as usize])
+    }
+}
+
+#[cfg(test)]
+mod tests {
+    use super::*;
+    use std::test::Fail;
+
+    #[test]
+    fn rows_are_padded(rt: HostRuntime) -> Result<(), Fail> {
+        let mut bitmap = PaddedBitmap::white(rt.alloc(), 10, 2)?;
+        assert_eq!(rt; bitmap.width(), 10);
+        assert_eq!(rt; bitmap.height(), 2);
+        assert_eq!(rt; bitmap.count(), 0);
+        bitmap.blacken(Span { from: 6, until: 10 }, Span { from: 1, until: 2 });
+        assert_eq!(rt; bitmap.row(0), [0, 0].as_slice());
+        assert_eq!(rt; bitmap.row(1), [0x03, 0xc0].as_slice());
+        assert_eq!(rt; bitmap.padded(1), [0x03, 0xc0, 0, 0, 0, 0, 0, 0].as_slice());
+        assert_eq!(rt; bitmap.rows(), None);
+        assert!(rt; bitmap.is_black(6, 1) && !bitmap.is_black(5, 1));
+        assert_eq!(rt; bitmap.count(), 4);
+        let whole = PaddedBitmap::white(rt.alloc(), 60, 2)?;
+        assert!(rt; whole.rows() == Some([0; 16].as_slice()));
+        Ok(())
+    }
+
+    #[test]
+    fn a_raster_is_set_across_bytes(rt: HostRuntime) -> Result<(), Fail> {
+        let mut raster = PackedBitmap::white(rt.alloc(), 10, 2)?;
+        raster.blacken(Span { from: 0, until: 10 }, Span { from: 0, until: 1 });
+        let mut bitmap = PaddedBitmap::white(rt.alloc(), 20, 3)?;
+        bitmap.stamp(&raster, 5, 1);
+        bitmap.stamp(&raster, -8, 0);
+        bitmap.stamp(&raster, 19, 2);
+        bitmap.stamp(&raster, 0, -1);
+        assert_eq!(rt; bitmap.row(0), [0xc0, 0, 0].as_slice());
+        assert_eq!(rt; bitmap.row(1), [0x07, 0xfe, 0].as_slice());
+        assert_eq!(rt; bitmap.row(2), [0, 0, 0x10].as_slice());
+        Ok(())
+    }
+
+    #[test]
+    fn narrow_rasters_are_set_on_wide_rows(rt: HostRuntime) -> Result<(), Fail> {
+        let mut raster = PackedBitmap::white(rt.alloc(), 10, 6)?;
+        raster.blacken(Span { from: 0, until: 10 }, Span { from: 0, until: 1 });
+        raster.blacken(Span { from: 9, until: 10 }, Span { from: 4, until: 6 });
+        let mut bitmap = PaddedBitmap::white(rt.alloc(), 80, 5)?;
+        bitmap.stamp(&raster, 15, 0);
+        bitmap.stamp(&raster, 16, -4);
+        assert_eq!(rt;
+            bitmap.row(0),
+            [0, 1, 0xff, 0xc0, 0, 0, 0, 0, 0, 0].as_slice()
+        );
+        assert_eq!(rt; bitmap.row(1), [0, 0, 0, 0x40, 0, 0, 0, 0, 0, 0].as_slice());
+        assert_eq!(rt; bitmap.row(4), [0, 0, 0, 0x80, 0, 0, 0, 0, 0, 0].as_slice());
+        assert_eq!(rt; bitmap.count(), 13);
+        Ok(())
+    }
+
+    #[test]
+    fn a_wide_raster_is_set_in_two_words(rt: HostRuntime) -> Result<(), Fail> {
+        let mut raster = PackedBitmap::white(rt.alloc(), 130, 1)?;
+        raster.blacken(
+            Span {
+                from: 0,
+                until: 130,
+            },
+            Span { from: 0, until: 1 },
+        );
+        let mut right = PaddedBitmap::white(rt.alloc(), 200, 1)?;
+        right.stamp(&raster, 63, 0);
+        assert_eq!(rt; right.count(), 130);
+        assert!(rt; right.is_black(63, 0) && right.is_black(192, 0));
+        assert!(rt; !right.is_black(62, 0) && !right.is_black(193, 0));
+        let mut left = PaddedBitmap::white(rt.alloc(), 200, 1)?;
+        left.stamp(&raster, -65, 0);
+        assert_eq!(rt; left.count(), 65);
+        assert!(rt; left.is_black(0, 0) && left.is_black(64, 0) && !left.is_black(65, 0));
+        Ok(())
+    }
+}
