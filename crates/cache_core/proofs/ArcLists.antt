@@ -44,6 +44,21 @@ module _ {T A : Type 0} where
       | false ↦ λ t. rw t (no_pair es (rw t at h))
     ]) refl
 
+    -- a newest key that passes is found, and nothing moves
+    pub newest_found : (es : List (Arc FontKey A × Arc T A)) (e : Arc FontKey A × Arc T A) → slice_get es 0 ≡ Some e → passes k e.0 ≡ true → lookup (passes k) es ≡ Some e.1
+    newest_found [] e h t = absurd cc
+    newest_found (x ∷ es) e h t =
+        let same : x ≡ e = cc in
+        let passed : passes k x.0 ≡ true = ap (λ (y : Arc FontKey A × Arc T A). passes k y.0) same ∙ t in
+        rw passed (ap (λ (y : Arc FontKey A × Arc T A). Some y.1) same)
+
+    pub newest_stays : (es : List (Arc FontKey A × Arc T A)) (e : Arc FontKey A × Arc T A) → slice_get es 0 ≡ Some e → passes k e.0 ≡ true → promoted (passes k) es ≡ es
+    newest_stays [] e h t = absurd cc
+    newest_stays (x ∷ es) e h t =
+        let same : x ≡ e = cc in
+        let passed : passes k x.0 ≡ true = ap (λ (y : Arc FontKey A × Arc T A). passes k y.0) same ∙ t in
+        rw passed refl
+
   gone_at : (es : List (Arc FontKey A × Arc T A)) (n : ℕ) → gone_key (fonts_of es) n ≡ option_map (key_of {T = T} {A = A}) (slice_get es (n - 1))
   gone_at es n = ap (option_map (λ (f : FontKey × T). f.0)) (slice_get-map (λ (f : Arc FontKey A × Arc T A). (arc_value f.0, arc_value f.1)) es (n - 1)) ∙ twice (slice_get es (n - 1))
     where

@@ -1,5 +1,5 @@
 -- Two keys that pass the test are one key.
-use Rattle.std.proofs.Common.{◌≡◌, ℕ, true, List, refl, sym, nat_eq}
+use Rattle.std.proofs.Common.{◌≡◌, ℕ, Bool, true, false, List, refl, sym, nat_eq}
 use Rattle.std.proofs.lemmas.Bool.{eqb-true, eq-eqb, and_parts}
 use Rattle.std.specs.Prelude.{◌==◌, ◌&&◌}
 use Rattle.std.specs.Cmp.Lexicographic.{pointwise, same_text}
@@ -26,6 +26,25 @@ keys_are_equal a b e =
     let design : a.design ≡ b.design = eqb-true _ _ three.1 in
     let whole : made a.area a.name a.size a.design ≡ made b.area b.name b.size b.design = rw (area, name, size, design) refl in
     whole
+
+-- the numbers may be compared before the names
+pub numbers_first : (area name size design : Bool) → ((size && design) && area) && name ≡ area && (name && (size && design))
+numbers_first true true true true = refl
+numbers_first true true true false = refl
+numbers_first true true false true = refl
+numbers_first true true false false = refl
+numbers_first true false true true = refl
+numbers_first true false true false = refl
+numbers_first true false false true = refl
+numbers_first true false false false = refl
+numbers_first false true true true = refl
+numbers_first false true true false = refl
+numbers_first false true false true = refl
+numbers_first false true false false = refl
+numbers_first false false true true = refl
+numbers_first false false true false = refl
+numbers_first false false false true = refl
+numbers_first false false false false = refl
 
 same_name : (xs : List ℕ) → pointwise nat_eq xs xs ≡ true
 same_name xs = nat_list_eq_equiv.refl xs

@@ -6,6 +6,7 @@ ghost use Rattle.std.specs.Map.{lookup, remove_entry};
 ghost use Rattle.cache_core.specs.Machine.{claims_key};
 ghost use Rattle.cache_core.specs.Views.{claims_of};
 
+use crate::key_test::same_key;
 use outside::FontKey;
 use std::alloc::AllocError as NoMemory;
 use std::sync::Arc;
@@ -22,7 +23,7 @@ pub(crate) fn is_claimed(claims: &[Claim], key: &Arc<FontKey>) -> bool
     ensures { result ≡ claims_key (arc_value key.now) (claims_of claims.now) }
 {
     for claim in claims {
-        if *key == claim.key {
+        if same_key(key, &claim.key) {
             return true;
         }
     }

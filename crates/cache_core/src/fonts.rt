@@ -1,5 +1,5 @@
 //! The resident fonts, in the order of their use.
-ghost use Rattle.std.specs.Prelude.{◌≡◌, ◌-◌, ◌∷◌, None, take, IfOk, OnOk, OnErr, IfErr};
+ghost use Rattle.std.specs.Prelude.{◌≡◌, ◌-◌, ◌∷◌, Some, None, take, IfOk, OnOk, OnErr, IfErr, IfSome, OnSome};
 ghost use Rattle.std.specs.Option.{option_map};
 ghost use Rattle.std.specs.Arc.{arc_value};
 ghost use Rattle.std.specs.Map.{lookup};
@@ -8,12 +8,24 @@ ghost use Rattle.cache_core.specs.Machine.{key_eq};
 ghost use Rattle.cache_core.specs.Views.{fonts_of, gone_font, gone_key, evicted_seen, passes};
 
 use crate::entry::Evicted;
+use crate::key_test::same_key;
 use lru::LruCache;
 use outside::FontKey;
 use std::alloc::AllocError as NoMemory;
 use std::sync::Arc;
 
 pub(crate) type Fonts<T> = LruCache<Arc<FontKey>, Arc<T>>;
+
+// The font of this key, if it is the newest: no other has to be looked for, and none moves.
+fn newest<'f, T: Drop>(fonts: &'f Fonts<T>, key: &Arc<FontKey>) -> Option<&'f Arc<T>>
+    ensures found { IfSome result (λ font. lookup (passes (arc_value key.now)) fonts.now.entries ≡ Some font.now) }
+    ensures first { OnSome result (promoted (passes (arc_value key.now)) fonts.now.entries ≡ fonts.now.entries) }
+{
+    match fonts.peek_mru() {
+        Some((first, font)) if same_key(key, first) => Some(font),
+        _ => None,
+    }
+}
 
 // Makes the font of this key the newest.
 fn to_front<T: Drop>(fonts: &mut Fonts<T>, key: &Arc<FontKey>)
@@ -23,8 +35,9 @@ fn to_front<T: Drop>(fonts: &mut Fonts<T>, key: &Arc<FontKey>)
     fonts.promote(key);
 }
 
-// The font of this key, which becomes the newest.
-pub(crate) fn find<T: Drop>(
+// The font of this key, which becomes the newest. Its place is looked for twice: once `get` has moved it, a second owner
+// that can't be had couldn't leave the order as it was.
+fn find_by_hash<T: Drop>(
     fonts: &mut Fonts<T>,
     key: &Arc<FontKey>,
 ) -> Result<Option<Arc<T>>, NoMemory>
@@ -42,6 +55,25 @@ pub(crate) fn find<T: Drop>(
     };
     to_front(fonts, key);
     Ok(Some(found))
+}
+
+// The font of this key, which becomes the newest.
+pub(crate) fn find<T: Drop>(
+    fonts: &mut Fonts<T>,
+    key: &Arc<FontKey>,
+) -> Result<Option<Arc<T>>, NoMemory>
+    ensures found { IfOk result (λ font. option_map arc_value font
+        ≡ lookup (key_eq (arc_value key.now)) (fonts_of fonts.old.entries)) }
+    ensures moved { OnOk result (fonts_of fonts.new.entries
+        ≡ promoted (key_eq (arc_value key.now)) (fonts_of fonts.old.entries)) }
+    ensures none { IfOk result (λ font. font ≡ None → fonts.new ≡ fonts.old) }
+    ensures capacity { fonts.new.cap ≡ fonts.old.cap }
+    ensures same { OnErr result (fonts.new ≡ fonts.old) }
+{
+    match newest(fonts, key) {
+        Some(font) => Ok(Some(Arc::try_clone(font)?)),
+        None => find_by_hash(fonts, key),
+    }
 }
 
 // The key whose font leaves where one is added.

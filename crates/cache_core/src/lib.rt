@@ -10,6 +10,7 @@ mod claims;
 mod common;
 mod entry;
 mod fonts;
+mod key_test;
 pub mod laws;
 pub mod rows;
 mod stands;

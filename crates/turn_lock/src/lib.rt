@@ -7,8 +7,10 @@ pub mod example;
 pub mod laws;
 mod lock;
 mod seat;
+mod sleepers;
 mod steps;
 mod view;
+mod waiting;
 
 pub use lock::TurnLock;
 pub use seat::Seat;

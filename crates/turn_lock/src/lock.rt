@@ -10,29 +10,28 @@ ghost use Rattle.turn_lock.specs.Seats.{IsHolding, AllJoined};
 ghost use Rattle.turn_lock.specs.Steps.{TakesValue};
 
 use crate::seat::{Place, Seat};
+use crate::sleepers::Sleepers;
 use crate::steps::{AskNext, Compare, Draw, HandOn, Look, SplitOff, TakeIn, Turns};
 use crate::view::View;
+use crate::waiting::{LOOKS_IN_LINE, pause};
 use atomic_table::{Refused, Table};
 use cache_core::{About, Told};
 use std::alloc::{AllocFailed, Global};
 use std::marker::Model;
 use std::sync::Wait;
-use std::{hint, thread};
 
 // The word of the next ticket, and that of the ticket which is served. The slot has the value.
-const TICKET: usize = 0;
+pub(crate) const TICKET: usize = 0;
 
-const SERVING: usize = 1;
+pub(crate) const SERVING: usize = 1;
 
 const VALUE: usize = 0;
-
-// How often a seat looks before it lets other threads run between two looks.
-const SPINS: u32 = 64;
 
 /// A value that its seats take in turn. Contracts see which lock it is. Each call needs seats of this same lock.
 #[derive(Drop)]
 pub struct TurnLock<T: Told> {
-    table: Table<Option<T>, View, About, Turns, Global>,
+    pub(crate) table: Table<Option<T>, View, About, Turns, Global>,
+    pub(crate) sleepers: Sleepers,
 }
 
 impl<T: Told> Model for TurnLock<T> {
@@ -77,7 +76,8 @@ impl<T: Told> TurnLock<T> {
                     made: 1,
                     ticket: None,
                 };
-                Ok((TurnLock { table }, seat))
+                let sleepers = Sleepers::new();
+                Ok((TurnLock { table, sleepers }, seat))
             }
             Err(Refused { mut slots }) => {
                 let Some(Some(value)) = slots.pop() else {
@@ -155,7 +155,7 @@ impl<T: Told> TurnLock<T> {
         ensures slot { place.new.me.1 ≡ (0, None) ∷ [] }
     {
         let shared = &self.table.shared;
-        let mut spins = 0;
+        let mut looks = 0;
         for _ in rt.forever() {
             if shared.load::<Look>(place, SERVING) == ticket {
                 let Some(value) = shared.exchange(place, VALUE, None) else {
@@ -163,11 +163,11 @@ impl<T: Told> TurnLock<T> {
                 };
                 return value;
             }
-            if spins < SPINS {
-                spins += 1;
-                hint::spin_loop();
+            if looks < LOOKS_IN_LINE {
+                pause(looks);
+                looks += 1;
             } else {
-                thread::yield_now();
+                self.sleep_in_line(rt, ticket);
             }
         }
         unreachable!()
@@ -188,6 +188,7 @@ impl<T: Told> TurnLock<T> {
         ensures stands { T.stands result seat.old.view.part }
         ensures few { T.turns result < 2 ^ 58 }
     {
+        self.approach(rt);
         let shared = &self.table.shared;
         let ticket = shared.fetch_add::<Draw>(&mut seat.place, TICKET, 1);
         let value = self.wait(rt, &mut seat.place, ticket);
@@ -220,6 +221,7 @@ impl<T: Told> TurnLock<T> {
         }
         shared.store::<HandOn>(&mut seat.place, SERVING, ticket + 1);
         seat.ticket = None;
+        self.wake(ticket + 1);
     }
 
     /// The value, once all other seats were joined and no turn is held. It has just the history that seat 0 has seen.
@@ -232,7 +234,7 @@ impl<T: Told> TurnLock<T> {
         ensures stands { T.stands result first.view.part }
         ensures made { AllMade first.view.made first.view.seen }
     {
-        let TurnLock { table } = self;
+        let TurnLock { table, sleepers: _ } = self;
         let Seat {
             place,
             number: _,

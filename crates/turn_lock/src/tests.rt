@@ -1,5 +1,5 @@
 //! Threads that take turns over a diary of who was there.
-ghost use Rattle.std.specs.Prelude.{◌≡◌, ◌+◌, ◌^◌, ◌≤◌, All, length, IfSome, IsTrue};
+ghost use Rattle.std.specs.Prelude.{◌≡◌, ◌+◌, ◌^◌, ◌<◌, ◌≤◌, All, length, IfSome, IsTrue};
 ghost use Rattle.cache_core.specs.Histories.{own};
 ghost use Rattle.turn_lock.specs.declared.view.Stage.TheVariants.{Idle};
 ghost use Rattle.turn_lock.specs.Diaries.{calls_by};
@@ -12,6 +12,8 @@ use std::sync::atomic::{AtomicU32, Ordering};
 use std::test::Fail;
 use std::thread;
 use std::thread::Threads;
+
+mod alone;
 
 // Waits until so many threads have come, and says whether they came.
 fn meet(gate: &AtomicU32, all: u32) -> bool {
@@ -90,55 +92,76 @@ fn two<R: Threads + Wait + Sync>(rt: &R, alloc: Global, count: u64) -> Option<Di
     if ones && twos { Some(diary) } else { None }
 }
 
-// The first thread has the turn when the second asks for it, and gives after a long wait.
-fn late<R: Threads + Wait + Sync>(rt: &R, alloc: Global) -> Option<Diary> {
+// Has the turn when the others ask for theirs, and gives after a long wait.
+fn give_late<R: Wait>(
+    rt: &R,
+    lock: &TurnLock<Diary>,
+    seat: &mut Seat<Diary>,
+    met: &AtomicU32,
+    all: u32,
+) -> bool
+    requires { (seat.old.lock ≡ lock.now) × (seat.old.view.stage ≡ Idle) × (seat.old.view.drawn ≡ 0) }
+{
+    let mut diary = lock.take(rt, seat);
+    let asked = meet(met, all);
+    for _ in 0..10_000u32 {
+        thread::yield_now();
+    }
+    let noted = diary.note(seat.number());
+    lock.give(seat, diary);
+    asked && noted.is_ok()
+}
+
+// The first thread has the turn when the others ask, who sleep until it gives late; then each takes one turn.
+fn late<R: Threads + Wait + Sync>(rt: &R, alloc: Global, all: u32) -> Option<Diary>
+    requires some { 0 < all }
+    requires few { all ≤ 1000 }
+{
     let Ok((lock, mut first)) = TurnLock::make(alloc, Diary::new(alloc)) else {
         return None;
     };
-    let one = lock.split(&mut first);
-    let two = lock.split(&mut first);
-    let by = &lock;
-    let gate = AtomicU32::new(0);
-    let met = &gate;
-    let (one, two) = thread::join(
+    let mut seats = some_seats(alloc, &lock, &mut first, all)?;
+    let (by, gate, good) = (&lock, AtomicU32::new(0), AtomicU32::new(0));
+    thread::for_each_mut(
         rt,
-        move || -> bool
-            requires { (one.lock ≡ by.now) × (one.view.stage ≡ Idle) × (one.view.drawn ≡ 0) }
+        &mut seats,
+        all as usize,
+        &|i, seat: &mut Seat<Diary>|
+            requires { (seat.old.lock ≡ by.now) × (seat.old.view.stage ≡ Idle) × (seat.old.view.drawn ≡ 0) }
         {
-            let mut one = one;
-            let mut diary = by.take(rt, &mut one);
-            let asked = meet(met, 2);
-            for _ in 0..10_000u32 {
-                thread::yield_now();
+            let ends = if i == 0 {
+                give_late(rt, by, seat, &gate, all)
+            } else {
+                meet(&gate, all) && turn(rt, by, seat).is_ok()
+            };
+            if ends {
+                good.fetch_add(1, Ordering::SeqCst);
             }
-            let noted = diary.note(one.number());
-            by.give(&mut one, diary);
-            asked && noted.is_ok()
-        },
-        move || -> bool
-            requires { (two.lock ≡ by.now) × (two.view.stage ≡ Idle) × (two.view.drawn ≡ 0) }
-        {
-            let mut two = two;
-            meet(met, 2) && turn(rt, by, &mut two).is_ok()
         },
     );
     let diary = lock.take(rt, &mut first);
-    if one && two { Some(diary) } else { None }
+    if good.load(Ordering::SeqCst) == all {
+        Some(diary)
+    } else {
+        None
+    }
 }
 
-// Eight seats that drew nothing.
-fn eight_seats(
+// So many seats that drew nothing.
+fn some_seats(
     alloc: Global,
     lock: &TurnLock<Diary>,
     first: &mut Seat<Diary>,
+    all: u32,
 ) -> Option<Vec<Seat<Diary>>>
     requires lock { first.old.lock ≡ lock.now }
     requires first { (first.old.view.number ≡ 0) × (first.old.view.made ≡ 1) }
+    requires few { all ≤ 1000 }
     ensures first { (first.new.lock ≡ first.old.lock) × (first.new.view.stage ≡ first.old.view.stage) × (first.new.view.drawn ≡ first.old.view.drawn) }
     ensures seats { IfSome result (λ seats. All (λ s. (s.lock ≡ lock.now) × (s.view.stage ≡ Idle) × (s.view.drawn ≡ 0)) seats.items) }
 {
     let mut seats = Vec::new(alloc);
-    for _i in 0..8u32 {
+    for _i in 0..all {
         let seat = lock.split(first);
         if seats.push(seat).is_err() {
             return None;
@@ -152,8 +175,10 @@ fn all_turns<R: Threads + Wait + Sync>(
     rt: &R,
     lock: &TurnLock<Diary>,
     seats: &mut [Seat<Diary>],
+    all: u32,
     count: u64,
 ) -> bool
+    requires some { 0 < all }
     requires seats { All (λ s. (s.lock ≡ lock.now) × (s.view.stage ≡ Idle) × (s.view.drawn ≡ 0)) seats.old }
     requires room { count ≤ 2 ^ 48 }
 {
@@ -162,27 +187,29 @@ fn all_turns<R: Threads + Wait + Sync>(
     thread::for_each_mut(
         rt,
         seats,
-        8,
+        all as usize,
         &|_, seat: &mut Seat<Diary>|
             requires { (seat.old.lock ≡ lock.now) × (seat.old.view.stage ≡ Idle) × (seat.old.view.drawn + count ≤ 2 ^ 48) }
         {
-            if meet(&gate, 8) && turns(rt, lock, seat, count) {
+            if meet(&gate, all) && turns(rt, lock, seat, count) {
                 good.fetch_add(1, Ordering::SeqCst);
             }
         },
     );
-    good.load(Ordering::SeqCst) == 8
+    good.load(Ordering::SeqCst) == all
 }
 
-// Eight threads, each with a seat of its own.
-fn eight<R: Threads + Wait + Sync>(rt: &R, alloc: Global, count: u64) -> Option<Diary>
-    requires { count ≤ 2 ^ 48 }
+// So many threads, each with a seat of its own.
+fn crowd<R: Threads + Wait + Sync>(rt: &R, alloc: Global, all: u32, count: u64) -> Option<Diary>
+    requires some { 0 < all }
+    requires few { all ≤ 1000 }
+    requires room { count ≤ 2 ^ 48 }
 {
     let Ok((lock, mut first)) = TurnLock::make(alloc, Diary::new(alloc)) else {
         return None;
     };
-    let mut seats = eight_seats(alloc, &lock, &mut first)?;
-    let good = all_turns(rt, &lock, &mut seats, count);
+    let mut seats = some_seats(alloc, &lock, &mut first, all)?;
+    let good = all_turns(rt, &lock, &mut seats, all, count);
     let diary = lock.take(rt, &mut first);
     if good { Some(diary) } else { None }
 }
@@ -226,21 +253,31 @@ fn turns_two(rt: HostRuntime) -> Result<(), Fail> {
     Ok(())
 }
 
+// Four threads, of which three sleep while the first has the turn.
 #[test]
 fn a_turn_given_late(rt: HostRuntime) -> Result<(), Fail> {
-    let diary = late(&rt, rt.alloc()).ok_or("memory was wanting, or the threads did not meet")?;
-    assert_eq!(rt; diary.seats.as_slice(), [1, 2].as_slice());
+    let diary = late(&rt, rt.alloc(), 4).ok_or("memory was wanting, or the threads did not meet")?;
+    assert_eq!(rt; diary.seats.first(), Some(&1));
+    for seat in 1..5 {
+        assert_eq!(rt; diary.seats.iter().filter(|&&s| s == seat).count(), 1);
+    }
     Ok(())
 }
 
+// The second has more seats than there are places to sleep at, and than processors.
 #[test]
-fn eight_threads_of_a_thousand_turns(rt: HostRuntime) -> Result<(), Fail> {
-    let diary = eight(&rt, rt.alloc(), 1000).ok_or(
-        "memory was wanting, or the threads did not meet",
-    )?;
-    assert_eq!(rt; diary.turns, 8000);
-    for seat in 1..9 {
-        assert_eq!(rt; diary.seats.iter().filter(|&&s| s == seat).count(), 1000);
+fn crowds_end(rt: HostRuntime) -> Result<(), Fail> {
+    for (seats, count) in [(8u32, 1000u64), (40, 500)] {
+        let diary = crowd(&rt, rt.alloc(), seats, count).ok_or(
+            "memory was wanting, or the threads did not meet",
+        )?;
+        assert_eq!(rt; diary.turns, u64::from(seats) * count);
+        for seat in 1..seats + 1 {
+            assert_eq!(rt;
+                diary.seats.iter().filter(|&&s| s == seat).count() as u64,
+                count
+            );
+        }
     }
     Ok(())
 }
