@@ -1,15 +1,20 @@
 -- Files come to one font, or have one first fault.
-use Rattle.std.proofs.Common.{◌≡◌, ◌∙◌, ℕ, List, Bool, true, false, Option, Some, None, sym, ap, subst, rules}
+use Rattle.std.proofs.Common.{◌≡◌, ◌∙◌, inl, inr, ℕ, ℤ, List, Bool, true, false, Option, Some, None, refl, sym, ap, subst, rules}
 use Rattle.std.specs.Prelude.{MatchBool, MatchOption}
+use Rattle.std.proofs.lemmas.Bool.{true≢false}
 use Rattle.outside.specs.declared.keys.FontKey.{FontKey}
 use Rattle.pixel_round.specs.declared.units.Units.{Units}
 use Rattle.pk_packets.proofs.OneMeaning.{answers_are_one, files_have_no_fault, first_faults_are_one}
 use Rattle.tfm_reader.specs.Tfm.{tfm_fault}
+use Rattle.vf_reader.specs.declared.faults.VfFault.{VfFault}
+use Rattle.vf_reader.proofs.OneMeaning as vf_file
 use Rattle.font_decode.specs.Names.{is_valid_name, dpi, is_resolution}
 use Rattle.font_decode.specs.Files.{FontFiles}
-use Rattle.font_decode.specs.Fonts.{FontSeen, glyph_at}
+use Rattle.font_decode.specs.Fonts.{FontSeen, first_in, glyph_at, glyph_in, is_virtual_shape, local_in, packet_in}
+use Rattle.font_decode.specs.declared.shapes.Shapes.{Shapes}
+use Rattle.font_decode.specs.declared.shapes.Shapes.TheVariants.{Packed, Virtual}
 use Rattle.font_decode.specs.Laws.{OneIsFound, OneOfItsFiles, OneInALibrary}
-use Rattle.font_decode.specs.Decoding.{IsPackedFont, is_too_long, DecodesPk, DecodesShortPk, DecodesPacked, DecodesSound, DecodesTfm, IsDecodingOf, AreAlike, AreAlikeFonts}
+use Rattle.font_decode.specs.Decoding.{IsPackedFont, IsVirtualFont, is_too_long, DecodesPk, DecodesShortPk, DecodesPacked, DecodesItems, DecodesVf, DecodesShortVf, DecodesSound, DecodesTfm, IsDecodingOf, AreAlike, AreAlikeFonts}
 use Rattle.font_decode.specs.declared.decoded.Decoded.{Decoded}
 use Rattle.font_decode.specs.declared.decoded.Decoded.TheVariants.{Font, Fault}
 use Rattle.font_decode.specs.declared.faults.FontFault.{FontFault}
@@ -34,12 +39,44 @@ one_of_option : {A : Type 0} (o : Option A) (P : Decoded → Type 0) (Q : A → 
 one_of_option None P Q p q d e x y = p d e x y
 one_of_option (Some a) P Q p q d e x y = q a d e x y
 
+-- a packed font has no packets and no local fonts, and a virtual font no glyphs
+no_packet : (s : Shapes) (c : ℕ) → is_virtual_shape s ≡ false → packet_in s c ≡ None
+no_packet (Packed glyphs) c packed = refl
+no_packet (Virtual file keys) c packed = cc
+
+no_local : (s : Shapes) (n : ℤ) → is_virtual_shape s ≡ false → local_in s n ≡ None
+no_local (Packed glyphs) n packed = refl
+no_local (Virtual file keys) n packed = cc
+
+no_first : (s : Shapes) → is_virtual_shape s ≡ false → first_in s ≡ None
+no_first (Packed glyphs) packed = refl
+no_first (Virtual file keys) packed = cc
+
+no_glyph : (s : Shapes) (c : ℕ) → is_virtual_shape s ≡ true → glyph_in s c ≡ None
+no_glyph (Packed glyphs) c virtual = cc
+no_glyph (Virtual file keys) c virtual = refl
+
 -- the fonts of two sound files are alike
 alike_fonts : (k : FontKey) (tfm pk : List ℕ) (f g : FontSeen) → IsPackedFont k tfm pk f → IsPackedFont k tfm pk g → AreAlikeFonts f g
 alike_fonts k tfm pk f g p q = record {
   size = p.size ∙ sym q.size;
   widths = λ c. p.widths c ∙ sym (q.widths c);
+  virtual = p.packed ∙ sym q.packed;
   glyphs = λ c. answers_are_one pk p.items q.items c (glyph_at f c) (glyph_at g c) p.file q.file (p.glyphs c) (q.glyphs c);
+  packets = λ c. no_packet f.shapes c p.packed ∙ sym (no_packet g.shapes c q.packed);
+  locals = λ n. no_local f.shapes n p.packed ∙ sym (no_local g.shapes n q.packed);
+  first = no_first f.shapes p.packed ∙ sym (no_first g.shapes q.packed);
+}
+
+alike_virtual : (u : Units) (k : FontKey) (tfm : List ℕ) (items : List (List ℕ)) (f g : FontSeen) → IsVirtualFont u k tfm items f → IsVirtualFont u k tfm items g → AreAlikeFonts f g
+alike_virtual u k tfm items f g p q = record {
+  size = p.size ∙ sym q.size;
+  widths = λ c. p.widths c ∙ sym (q.widths c);
+  virtual = p.virtual ∙ sym q.virtual;
+  glyphs = λ c. no_glyph f.shapes c p.virtual ∙ sym (no_glyph g.shapes c q.virtual);
+  packets = λ c. p.packets c ∙ sym (q.packets c);
+  locals = λ n. p.locals n ∙ sym (q.locals n);
+  first = p.first ∙ sym q.first;
 }
 
 one_of_pk : (k : FontKey) (tfm pk : List ℕ) → IsOne (DecodesPk k tfm pk)
@@ -55,8 +92,25 @@ module _ (u : Units) (k : FontKey) where
   one_of_packed : (tfm : List ℕ) (pk : Option (List ℕ)) → IsOne (DecodesPacked u k tfm pk)
   one_of_packed tfm pk = one_of_two (is_resolution (dpi u k)) _ _ (one_of_option pk _ _ (one_fault _) (one_of_short_pk tfm)) (one_fault _)
 
+  one_of_items : (tfm : List ℕ) (items : List (List ℕ)) → IsOne (DecodesItems u k tfm items)
+  one_of_items tfm items (Font f) (Font g) p q = alike_virtual u k tfm items f g p.1 q.1
+  one_of_items tfm items (Font f) (Fault g) p q = absurd (true≢false (sym p.0 ∙ q.0))
+  one_of_items tfm items (Fault f) (Font g) p q = absurd (true≢false (sym q.0 ∙ p.0))
+  one_of_items tfm items (Fault f) (Fault g) p q = p.1 ∙ sym q.1
+
+  one_of_vf : (tfm vf : List ℕ) → IsOne (DecodesVf u k tfm vf)
+  one_of_vf tfm vf d e (inl p) (inl q) =
+      one_fault (fault.Vf p.0) d e p.2 (q.2 ∙ ap (λ (f : VfFault). Fault (fault.Vf f)) (vf_file.first_faults_are_one vf q.0 p.0 q.1 p.1))
+  one_of_vf tfm vf d e (inl p) (inr q) = absurd (vf_file.files_have_no_fault vf q.0 p.0 q.1 p.1)
+  one_of_vf tfm vf d e (inr p) (inl q) = absurd (vf_file.files_have_no_fault vf p.0 q.0 p.1 q.1)
+  one_of_vf tfm vf d e (inr p) (inr q) =
+      one_of_items tfm q.0 d e (subst (λ (items : List (List ℕ)). DecodesItems u k tfm items d) (vf_file.files_are_read_one_way vf p.0 q.0 p.1 q.1) p.2) q.2
+
+  one_of_short_vf : (tfm vf : List ℕ) → IsOne (DecodesShortVf u k tfm vf)
+  one_of_short_vf tfm vf = one_of_two (is_too_long vf) _ _ (one_fault _) (one_of_vf tfm vf)
+
   one_of_sound : (tfm : List ℕ) (files : FontFiles) → IsOne (DecodesSound u k tfm files)
-  one_of_sound tfm files = one_of_option files.vf _ _ (one_of_packed tfm files.pk) (λ vf. one_fault _)
+  one_of_sound tfm files = one_of_option files.vf _ _ (one_of_packed tfm files.pk) (one_of_short_vf tfm)
 
   one_of_tfm : (tfm : List ℕ) (files : FontFiles) → IsOne (DecodesTfm u k tfm files)
   one_of_tfm tfm files = one_of_two (is_too_long tfm) _ _ (one_fault _) (one_of_option (tfm_fault tfm) _ _ (one_of_sound tfm files) (λ f. one_fault _))

@@ -1,7 +1,12 @@
 pub mod Asking
+pub mod KeyTables
+pub mod LocalKeys
+pub mod SoundVf
+pub mod VfTotal
 pub mod Plain
 pub mod Distinct
 pub mod Alike
 pub mod Scaled
 pub mod Trails
 pub mod Total
+pub mod Rows

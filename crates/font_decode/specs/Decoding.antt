@@ -1,18 +1,24 @@
 -- What the font of a key is, by its files, or what is wrong with it first. The order in which name and files are judged is this driver's
--- own; what the files hold is told by Knuth's TFtoPL and Rokicki's PKtype, and the widths by DVItype, "Reading the font information".
-use Rattle.std.specs.Prelude.{◌≡◌, ℕ, ℤ, Bool, List, length, nat_lt, Option, IfSome, MatchBool, MatchOption}
+-- own; what the files hold is told by Knuth's TFtoPL and VFtoVP and Rokicki's PKtype, and the widths by DVItype, "Reading the font
+-- information".
+use Rattle.std.specs.Prelude.{◌≡◌, ◌⊎◌, ℕ, ℤ, Bool, List, length, nat_lt, slice_get, Option, IfSome, IsFalse, IsTrue, MatchBool, MatchOption}
 use Rattle.std.specs.Option.{option_map}
 use Rattle.fix_word.specs.Scale.{scale}
 use Rattle.tfm_reader.specs.Tfm.{tfm_fault, tfm_width}
-use Rattle.pk_packets.specs.Fonts.{IsPkFile, HasGlyphsOf}
+use Rattle.pk_packets.specs.Fonts.{IsPkFile, IsAnswer}
 use Rattle.pk_packets.specs.Faults.{IsFirstFault}
 use Rattle.pk_packets.specs.declared.faults.PkFault.{PkFault}
+use Rattle.vf_reader.specs.Fonts.{IsVfFile, program_with}
+use Rattle.vf_reader.specs.Locals.{local_with, locals_of}
+use Rattle.vf_reader.specs.Faults as vf_file
+use Rattle.vf_reader.specs.declared.faults.VfFault.{VfFault}
 use Rattle.outside.specs.Library as library
 use Rattle.outside.specs.declared.keys.FontKey.{FontKey}
 use Rattle.pixel_round.specs.declared.units.Units.{Units}
 use Rattle.font_decode.specs.Names.{is_valid_name, dpi, is_resolution}
 use Rattle.font_decode.specs.Files.{FontFiles, IsFound, IsInOrder}
-use Rattle.font_decode.specs.Fonts.{FontSeen, width_of, glyph_at}
+use Rattle.font_decode.specs.Fonts.{FontSeen, width_of, glyph_at, is_virtual_of, packet_of, local_of, first_local_of}
+use Rattle.font_decode.specs.Locals.{are_local_sizes, local_key}
 use Rattle.font_decode.specs.declared.decoded.Decoded.{Decoded}
 use Rattle.font_decode.specs.declared.decoded.Decoded.TheVariants.{Font, Fault}
 use Rattle.font_decode.specs.declared.faults.FileKind.TheVariants as kind
@@ -28,11 +34,21 @@ scaled_width size tfm c = option_map (λ w. scale w size) (tfm_width tfm c)
 pub record IsPackedFont (k : FontKey) (tfm pk : List ℕ) (f : FontSeen) : Type 0 where
   pub size : f.size ≡ k.size
   pub widths : (c : ℤ) → width_of f c ≡ scaled_width k.size tfm c
+  pub packed : IsFalse (is_virtual_of f)
   pub items : List (List ℕ)
   pub file : IsPkFile pk items
-  pub glyphs : HasGlyphsOf items f.glyphs
+  pub glyphs : (c : ℕ) → IsAnswer items c (glyph_at f c)
 
--- ---- what a key's files come to: each definition goes on where the one behind it has found no fault
+-- the font of a key with a sound TFM file and these items of a sound VF file, whose local fonts have sizes in range
+pub record IsVirtualFont (u : Units) (k : FontKey) (tfm : List ℕ) (items : List (List ℕ)) (f : FontSeen) : Type 0 where
+  pub size : f.size ≡ k.size
+  pub widths : (c : ℤ) → width_of f c ≡ scaled_width k.size tfm c
+  pub virtual : IsTrue (is_virtual_of f)
+  pub packets : (c : ℕ) → packet_of f c ≡ program_with items c
+  pub locals : (n : ℤ) → local_of f n ≡ option_map (local_key u k.size) (local_with (locals_of items) n)
+  pub first : first_local_of f ≡ option_map (λ local. local.number) (slice_get (locals_of items) 0)
+
+-- ---- what a key's files come to: each definition goes on where the one after it has found no fault
 
 -- more than 8,388,608 bytes, whatever they are
 abbrev pub is_too_long : List ℕ → Bool
@@ -52,9 +68,23 @@ DecodesPacked u k tfm pk d = MatchBool (is_resolution (dpi u k))
     (MatchOption pk (d ≡ Fault (fault.Missing kind.Pk)) (λ pk. DecodesShortPk k tfm pk d))
     (d ≡ Fault fault.Size)
 
--- behind a sound TFM file: virtual fonts aren't read yet
+-- the items of a sound VF file: the font, or a local font's size or design size out of range
+abbrev pub DecodesItems : Units → FontKey → List ℕ → List (List ℕ) → Decoded → Type 0
+DecodesItems u k tfm items (Font f) = IsTrue (are_local_sizes u k.size (locals_of items)) × IsVirtualFont u k tfm items f
+DecodesItems u k tfm items (Fault f) = IsFalse (are_local_sizes u k.size (locals_of items)) × (f ≡ fault.Size)
+
+-- a VF file: its first fault, or what its items come to
+abbrev pub DecodesVf : Units → FontKey → List ℕ → List ℕ → Decoded → Type 0
+DecodesVf u k tfm vf d =
+    ((found : VfFault) × vf_file.IsFirstFault vf found × (d ≡ Fault (fault.Vf found)))
+    ⊎ ((items : List (List ℕ)) × IsVfFile vf items × DecodesItems u k tfm items d)
+
+abbrev pub DecodesShortVf : Units → FontKey → List ℕ → List ℕ → Decoded → Type 0
+DecodesShortVf u k tfm vf d = MatchBool (is_too_long vf) (d ≡ Fault (fault.TooLong kind.Vf)) (DecodesVf u k tfm vf d)
+
+-- after a sound TFM file: where there is a VF file, no PK file is looked at
 abbrev pub DecodesSound : Units → FontKey → List ℕ → FontFiles → Decoded → Type 0
-DecodesSound u k tfm files d = MatchOption files.vf (DecodesPacked u k tfm files.pk d) (λ _. d ≡ Fault fault.NotYet)
+DecodesSound u k tfm files d = MatchOption files.vf (DecodesPacked u k tfm files.pk d) (λ vf. DecodesShortVf u k tfm vf d)
 
 -- a TFM file: too long before what it holds
 abbrev pub DecodesTfm : Units → FontKey → List ℕ → FontFiles → Decoded → Type 0
@@ -90,9 +120,13 @@ IsFontOf told units k d = IfSome units (λ u. MatchOption told (IsFontBySome u k
 pub record AreAlikeFonts (f g : FontSeen) : Type 0 where
   pub size : f.size ≡ g.size
   pub widths : (c : ℤ) → width_of f c ≡ width_of g c
+  pub virtual : is_virtual_of f ≡ is_virtual_of g
   pub glyphs : (c : ℕ) → glyph_at f c ≡ glyph_at g c
+  pub packets : (c : ℕ) → packet_of f c ≡ packet_of g c
+  pub locals : (n : ℤ) → local_of f n ≡ local_of g n
+  pub first : first_local_of f ≡ first_local_of g
 
--- one fault, or fonts with one size, and one width and one glyph for each code
+-- one fault, or fonts with one size, with one width, glyph and packet for each code, and with the same local fonts
 abbrev pub AreAlike : Decoded → Decoded → Type 0
 AreAlike (Font f) (Font g) = AreAlikeFonts f g
 AreAlike (Font f) (Fault g) = ⊥

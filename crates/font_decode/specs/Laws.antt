@@ -1,5 +1,5 @@
 -- What is true of the names of files, and of what is found.
-use Rattle.std.specs.Prelude.{◌≡◌, ◌≢◌, ℕ, List, length, take, ◌<◌, ◌≤◌, Some, IsTrue, IfSome, All, AllPairs, slice_index}
+use Rattle.std.specs.Prelude.{◌≡◌, ◌≢◌, ◌↔◌, ℕ, List, length, take, ◌<◌, ◌≤◌, Some, IsTrue, IfSome, All, AllPairs, slice_index}
 use Rattle.std.specs.FinMap.{get}
 use Rattle.big_endian.specs.Numbers.{AreBytes}
 use Rattle.std.specs.List.{list_all}
@@ -10,6 +10,7 @@ use Rattle.pixel_round.specs.declared.units.Units.{Units}
 use Rattle.font_decode.specs.Names.{is_name_byte, is_valid_name, is_resolution, dpi, file_names}
 use Rattle.font_decode.specs.Files.{FontFiles, IsFound, looked_for}
 use Rattle.font_decode.specs.Asked.{choices}
+use Rattle.font_decode.specs.Rows.{IsFirstRow}
 use Rattle.font_decode.specs.Decoding.{IsDecodingOf, IsFontIn, AreAlike}
 use Rattle.font_decode.specs.declared.decoded.Decoded.{Decoded}
 
@@ -55,3 +56,7 @@ AreByteFiles l = (name : List ℕ) → IfSome (get l name) AreBytes
 -- each key has a decoding in a library
 abbrev pub EachKeyIsDecoded : Type 0
 EachKeyIsDecoded = (l : library.Files) (u : Units) (k : FontKey) → AreByteFiles l → (d : Decoded) × IsFontIn l u k d
+
+-- the decoding of files is told by one list of rows: the fault of the first row that holds, and where none holds the font
+abbrev pub RowsTellTheDecoding : Type 0
+RowsTellTheDecoding = (u : Units) (k : FontKey) (files : FontFiles) (d : Decoded) → IsDecodingOf u k files d ↔ IsFirstRow u k files d

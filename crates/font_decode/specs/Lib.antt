@@ -2,8 +2,10 @@ pub mod Names
 pub mod Files
 pub mod Loads
 pub mod Fonts
+pub mod Locals
 pub mod Decoding
 pub mod Reading
 pub mod Desks
+pub mod Rows
 pub mod Laws
 pub mod Asked

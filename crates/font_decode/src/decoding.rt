@@ -3,10 +3,13 @@ ghost use Rattle.std.specs.Prelude.{◌≡◌, List, ℕ, IfOk};
 ghost use Rattle.outside.specs.FontKeys.{IsFontKey};
 ghost use Rattle.pixel_round.specs.Preamble.{AreUnits};
 ghost use Rattle.font_decode.specs.Files.{bytes_of};
-ghost use Rattle.font_decode.specs.Decoding.{is_too_long, DecodesShortPk, DecodesPacked, DecodesSound, DecodesTfm, IsDecodingOf};
-ghost use Rattle.font_decode.specs.Reading.{IsTfmOf};
+ghost use Rattle.font_decode.specs.Decoding.{is_too_long, DecodesShortPk, DecodesPacked, DecodesItems, DecodesShortVf, DecodesSound, DecodesTfm, IsDecodingOf};
+ghost use Rattle.font_decode.specs.Reading.{IsTfmOf, IsVfRead};
+ghost use Rattle.vf_reader.specs.Fonts.{IsFontOf};
 
+use crate::locals::local_keys;
 use crate::names::{dpi, is_resolution, is_valid_name};
+use crate::shapes::Shapes;
 use crate::widths::scaled_widths;
 use crate::{Decoded, FileKind, Files, Font, FontFault};
 use outside::FontKey;
@@ -14,6 +17,7 @@ use pixel_round::Units;
 use pk_packets::{PkFont, PkStop};
 use std::alloc::{AllocError as NoMemory, Global};
 use tfm_reader::{Tfm, TfmStop};
+use vf_reader::{VfFont, VfStop};
 
 // The most bytes that a file may have.
 const LONGEST_FILE: usize = 8_388_608;
@@ -26,11 +30,15 @@ fn is_too_long(bytes: &[u8]) -> bool
 }
 
 /// The font of a key, by its files, or its first fault: `Name`; then `Missing`, `TooLong` and `Tfm` of
-/// the TFM file; then `NotYet` where there is a VF file; then `Size`, and `Missing`, `TooLong` and `Pk`
-/// of the PK file. A file behind the first fault isn't looked at.
+/// the TFM file. Where there is a VF file follow its `TooLong` and `Vf`, and `Size` where the size or
+/// the design size of a local font lies outside 1 to 2^27 - 1 DVI units; where there is none, `Size` of
+/// the resolution, and `Missing`, `TooLong` and `Pk` of the PK file. A file after the first fault isn't
+/// looked at, nor is a PK file beside a VF file.
 ///
 /// The widths are those of the TFM file (Knuth, TFtoPL, "Font metric data"), scaled to the key's size,
-/// and the glyphs those of the PK file (Rokicki, PKtype, "Packed file format").
+/// the glyphs those of the PK file (Rokicki, PKtype, "Packed file format"), and the packets those of the
+/// VF file (Knuth, VFtoVP, "Virtual fonts"). A local font's key has the size that its factor makes of
+/// the key's size, and its design size in DVI units; both are scaled here, once.
 pub fn decode(
     alloc: Global,
     key: &FontKey,
@@ -50,7 +58,7 @@ pub fn decode(
     }
 }
 
-// Behind a valid name: judges the TFM file.
+// After a valid name: judges the TFM file.
 fn decode_tfm(
     alloc: Global,
     key: &FontKey,
@@ -72,7 +80,7 @@ fn decode_tfm(
     }
 }
 
-// Behind a sound TFM file: looks for a VF file.
+// After a sound TFM file: looks for a VF file.
 fn decode_sound(
     alloc: Global,
     key: &FontKey,
@@ -86,8 +94,55 @@ fn decode_sound(
         DecodesSound units.now key.now bytes (bytes_of files.now) d) }
 {
     match &files.vf {
-        Some(_) => Ok(Decoded::Fault(FontFault::NotYet)),
+        Some(vf) => decode_vf(alloc, key, tfm, vf, units),
         None => decode_packed(alloc, key, tfm, files, units),
+    }
+}
+
+// Judges the VF file.
+fn decode_vf(
+    alloc: Global,
+    key: &FontKey,
+    tfm: &Tfm,
+    vf: &[u8],
+    units: &Units,
+) -> Result<Decoded, NoMemory>
+    requires units { AreUnits units.now }
+    requires key { IsFontKey key.now }
+    ensures { IfOk result (λ d. (bytes : List ℕ) → IsTfmOf bytes tfm.now →
+        DecodesShortVf units.now key.now bytes vf.now d) }
+{
+    if is_too_long(vf) {
+        return Ok(Decoded::Fault(FontFault::TooLong(FileKind::Vf)));
+    }
+    match VfFont::read(alloc, vf) {
+        Ok(file) => decode_locals(alloc, key, tfm, file, units),
+        Err(VfStop::Fault(fault)) => Ok(Decoded::Fault(FontFault::Vf(fault))),
+        Err(VfStop::NoMemory) => Err(NoMemory),
+    }
+}
+
+// Judges the sizes of the local fonts of a sound VF file, and makes the font.
+fn decode_locals(
+    alloc: Global,
+    key: &FontKey,
+    tfm: &Tfm,
+    file: VfFont,
+    units: &Units,
+) -> Result<Decoded, NoMemory>
+    requires units { AreUnits units.now }
+    requires key { IsFontKey key.now }
+    requires file { IsVfRead file }
+    ensures { IfOk result (λ d. (bytes : List ℕ) (items : List (List ℕ)) → IsTfmOf bytes tfm.now →
+        IsFontOf items file → DecodesItems units.now key.now bytes items d) }
+{
+    match local_keys(alloc, file.locals(), key.size, units)? {
+        Some(keys) => {
+            let widths = scaled_widths(alloc, tfm, key.size)?;
+            let shapes = Shapes::Virtual { file, keys };
+            Ok(Decoded::Font(Font::new(key.size, widths, shapes)))
+        }
+        None => Ok(Decoded::Fault(FontFault::Size)),
     }
 }
 
@@ -125,7 +180,7 @@ fn decode_pk(alloc: Global, key: &FontKey, tfm: &Tfm, pk: &[u8]) -> Result<Decod
     match PkFont::read(alloc, pk) {
         Ok(glyphs) => {
             let widths = scaled_widths(alloc, tfm, key.size)?;
-            Ok(Decoded::Font(Font::new(key.size, widths, glyphs)))
+            Ok(Decoded::Font(Font::new(key.size, widths, Shapes::Packed(glyphs))))
         }
         Err(PkStop::Fault(fault)) => Ok(Decoded::Fault(FontFault::Pk(fault))),
         Err(PkStop::NoMemory) => Err(NoMemory),

@@ -19,7 +19,7 @@ use std::sync::{Arc, Wait};
 pub enum DeskStop {
     /// The source of the font files failed.
     SourceFault,
-    /// Memory was wanting.
+    /// Out of memory.
     NoMemory,
 }
 

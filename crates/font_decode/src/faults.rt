@@ -1,6 +1,7 @@
 //! What can be wrong with a font.
 use pk_packets::PkFault;
 use tfm_reader::TfmFault;
+use vf_reader::VfFault;
 
 /// A kind of a font's files.
 #[derive(Clone, Copy, Debug, PartialEq, Eq)]
@@ -14,22 +15,24 @@ pub enum FileKind {
 }
 
 /// What is wrong with a font: the first fault, in the order in which its name and its files are
-/// judged. First comes its name, then its TFM file, then whether it has a VF file, then its resolution
-/// and its PK file; of a file that it isn't there, then that it is too long, then what it holds.
+/// judged. First comes its name, then its TFM file. With a VF file follow that file and the sizes of
+/// its local fonts; without one the resolution, and the PK file. Of a file that is looked for it comes
+/// first that it isn't there, then that it is too long, then what it holds.
 #[derive(Clone, Copy, Debug, PartialEq, Eq)]
 pub enum FontFault {
     /// There is no such file.
     Missing(FileKind),
     /// This is wrong with the TFM file.
     Tfm(TfmFault),
+    /// This is wrong with the VF file.
+    Vf(VfFault),
     /// This is wrong with the PK file.
     Pk(PkFault),
     /// Files with this name aren't looked for.
     Name,
-    /// The resolution of its PK file lies outside 1 to 1,000,000 dots to the inch.
+    /// The resolution of its PK file lies outside 1 to 1,000,000 dots to the inch, or the size or the
+    /// design size of a local font of its VF file outside 1 to 2^27 - 1 DVI units.
     Size,
     /// The file has more than 8,388,608 bytes.
     TooLong(FileKind),
-    /// It has a VF file, and virtual fonts aren't read yet.
-    NotYet,
 }

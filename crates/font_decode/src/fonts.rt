@@ -1,18 +1,24 @@
 //! A font whose files were read.
-ghost use Rattle.std.specs.Prelude.{◌≡◌, ◌≤◌, ◌<◌, ◌^◌, ℕ, pos, length, unsigned_abs, IfSome, MatchOption, None, Some};
-ghost use Rattle.font_decode.specs.Fonts.{AreWidths, glyph_at, width_of};
+ghost use Rattle.std.specs.Prelude.{◌≡◌, ◌≤◌, ◌<◌, ◌^◌, ℕ, pos, length, unsigned_abs, IfSome, IsSome, MatchOption, None, Some};
+ghost use Rattle.std.specs.Arc.{arc_value};
+ghost use Rattle.outside.specs.FontKeys.{IsFontKey};
+ghost use Rattle.font_decode.specs.Fonts.{AreShapes, AreWidths, IsProgram, first_local_of, glyph_at, is_virtual_of, local_of, packet_of, width_of};
 
-use pk_packets::PkFont;
+use crate::shapes::Shapes;
+use outside::FontKey;
 use pk_runs::Glyph;
 use std::marker::Model;
+use std::sync::Arc;
 
-/// A packed font at a size: its widths, and its glyphs in dots. A contract sees it as its size, the
-/// widths of the codes from 0 on, and its glyphs; `width_of` and `glyph_at` say which ones a code has.
+/// A font at a size: its widths, and its glyphs in dots or, of a virtual font, its packets of commands
+/// and its local fonts. A contract sees it as its size, the widths of the codes from 0 on, and what
+/// its characters are; `width_of`, `glyph_at` and `packet_of` say which ones a code has, and `local_of`
+/// which font a number.
 #[derive(Drop)]
 pub struct Font {
     size: u32,
     widths: Vec<Option<i64>>,
-    glyphs: PkFont,
+    shapes: Shapes,
 }
 
 impl Model for Font {
@@ -20,24 +26,25 @@ impl Model for Font {
 
     ghost Value = { FontSeen };
 
-    ghost view = { λ f. record { size = f.size; widths = f.widths.items; glyphs = f.glyphs } };
+    ghost view = { λ f. record { size = f.size; widths = f.widths.items; shapes = f.shapes } };
 
-    ghost invariant = { λ f. IsFontSeen (record { size = f.size; widths = f.widths.items; glyphs = f.glyphs }) };
+    ghost invariant = { λ f. IsFontSeen (record { size = f.size; widths = f.widths.items; shapes = f.shapes }) };
 }
 
 impl Font {
-    // A font of this size, with these widths and glyphs.
-    pub(crate) fn new(size: u32, widths: Vec<Option<i64>>, glyphs: PkFont) -> Font
+    // A font of this size, with these widths and characters.
+    pub(crate) fn new(size: u32, widths: Vec<Option<i64>>, shapes: Shapes) -> Font
         requires some { 1 ≤ size }
         requires fits { size < 2 ^ 27 }
         requires codes { length widths.items ≤ 256 }
         requires widths { AreWidths widths.items }
-        ensures { result ≡ record { size = size; widths = widths.items; glyphs = glyphs } }
+        requires shapes { AreShapes shapes }
+        ensures { result ≡ record { size = size; widths = widths.items; shapes = shapes } }
     {
         Font {
             size,
             widths,
-            glyphs,
+            shapes,
         }
     }
 
@@ -53,12 +60,66 @@ impl Font {
         *self.widths.get(code)?
     }
 
+    /// Whether the font is a virtual one, of which each character is a packet of commands (Knuth,
+    /// VFtoVP, "Virtual fonts"). Every other font is a packed one, of which each is a glyph.
+    pub fn is_virtual(&self) -> bool
+        ensures { result ≡ is_virtual_of self.now }
+    {
+        match &self.shapes {
+            Shapes::Packed(_) => false,
+            Shapes::Virtual { .. } => true,
+        }
+    }
+
     /// The glyph of a character: that of the last packet with its code. `None` where no packet has
-    /// the code.
+    /// the code, and in a virtual font.
     pub fn glyph(&self, c: u32) -> Option<&Glyph>
         ensures { MatchOption result (glyph_at self.now c ≡ None) (λ g. glyph_at self.now c ≡ Some g.now) }
     {
-        self.glyphs.glyph(c)
+        match &self.shapes {
+            Shapes::Packed(glyphs) => glyphs.glyph(c),
+            Shapes::Virtual { .. } => None,
+        }
+    }
+
+    /// The commands of a character of a virtual font: the bytes of the last packet with its code.
+    /// They are whole commands, each of which may stand in a packet; their dimensions are fix_words
+    /// from -2^24 to 2^24 - 1, and each push has its pop. `None` where no packet has the code, and in
+    /// a packed font.
+    pub fn packet(&self, c: u32) -> Option<&[u8]>
+        ensures packet { MatchOption result (packet_of self.now c ≡ None)
+            (λ packet. packet_of self.now c ≡ Some packet.now) }
+        ensures commands { IfSome result (λ packet. IsProgram c packet.now) }
+    {
+        match &self.shapes {
+            Shapes::Packed(_) => None,
+            Shapes::Virtual { file, .. } => file.packet(c),
+        }
+    }
+
+    /// The key of the local font with a number. Both of its sizes are above 0 and below 2^27 DVI
+    /// units. `None` where the VF file doesn't define the number, and in a packed font.
+    pub fn local(&self, k: i32) -> Option<&Arc<FontKey>>
+        ensures key { MatchOption result (local_of self.now k ≡ None)
+            (λ key. local_of self.now k ≡ Some (arc_value key.now)) }
+        ensures fits { IfSome result (λ key. IsFontKey (arc_value key.now)) }
+    {
+        match &self.shapes {
+            Shapes::Packed(_) => None,
+            Shapes::Virtual { keys, .. } => keys.get(k),
+        }
+    }
+
+    /// The number of the first local font of the VF file, which is current where a packet begins.
+    /// `None` where the file defines no local font, and in a packed font.
+    pub fn first_local(&self) -> Option<i32>
+        ensures number { result ≡ first_local_of self.now }
+        ensures there { IfSome result (λ k. IsSome (local_of self.now k)) }
+    {
+        match &self.shapes {
+            Shapes::Packed(_) => None,
+            Shapes::Virtual { file, .. } => file.first_local(),
+        }
     }
 
     /// The size, in DVI units.

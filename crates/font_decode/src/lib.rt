@@ -13,7 +13,10 @@ mod files;
 mod fonts;
 pub mod laws;
 mod loading;
+mod local_keys;
+mod locals;
 mod names;
+mod shapes;
 mod widths;
 
 pub use decoded::Decoded;

@@ -4,6 +4,7 @@ ghost use Rattle.outside.specs.FontKeys.{IsFontKey};
 
 mod asking;
 mod decodings;
+mod virtual_fonts;
 
 use crate::names::is_resolution;
 use crate::{Files, dpi, fetch, file_name, is_valid_name, laws};

@@ -9,15 +9,16 @@ use pk_packets::PkFault;
 use pk_runs::Glyph;
 use std::test::Fail;
 use tfm_reader::TfmFault;
+use vf_reader::VfFault;
 
 // The code 65 alone, 1/16 of the size wide.
-const DOT_TFM: [u8; 56] = [
+pub const DOT_TFM: [u8; 56] = [
     0, 14, 0, 2, 0, 65, 0, 65, 0, 2, 0, 1, 0, 1, 0, 1, 0, 0, 0, 0, 0, 0, 0, 0, 0, 0, 0, 0, 0, 160,
     0, 0, 1, 0, 0, 0, 0, 0, 0, 0, 0, 1, 0, 0, 0, 0, 0, 0, 0, 0, 0, 0, 0, 0, 0, 0,
 ];
 
 // The code 65 alone, two by two black dots.
-const DOT_PK: [u8; 32] = [
+pub const DOT_PK: [u8; 32] = [
     0xf7, 0x59, 0x00, 0x00, 0xa0, 0x00, 0x00, 0x00, 0x00, 0x00, 0x00, 0x00, 0x04, 0x26, 0xae, 0x00,
     0x04, 0x26, 0xae, 0xe0, 0x09, 0x41, 0x01, 0x00, 0x00, 0x04, 0x02, 0x02, 0x00, 0x01, 0xf0, 0xf5,
 ];
@@ -36,7 +37,7 @@ fn file(rt: &HostRuntime, bytes: &[u8]) -> Result<Option<Vec<u8>>, Fail> {
 }
 
 // What these files come to.
-fn decoded(
+pub fn decoded(
     rt: &HostRuntime,
     key: &FontKey,
     tfm: &[u8],
@@ -54,7 +55,7 @@ fn decoded(
 }
 
 // What is wrong with these files first.
-fn fault(
+pub fn fault(
     rt: &HostRuntime,
     key: &FontKey,
     tfm: &[u8],
@@ -152,7 +153,7 @@ fn names_and_missing_files(rt: HostRuntime) -> Result<(), Fail> {
     let found = fault(&rt, &dot, &DOT_TFM, b"", b"")?;
     assert_eq!(rt; found, Some(FontFault::Missing(FileKind::Pk)));
     let found = fault(&rt, &dot, &DOT_TFM, b"?", b"")?;
-    assert_eq!(rt; found, Some(FontFault::NotYet));
+    assert_eq!(rt; found, Some(FontFault::Vf(VfFault::Preamble)));
     Ok(())
 }
 
@@ -205,9 +206,13 @@ fn files_that_are_too_long(rt: HostRuntime) -> Result<(), Fail> {
     assert_eq!(rt; found, Some(FontFault::Tfm(TfmFault::Counts)));
     let found = fault(&rt, &dot, &DOT_TFM, b"", &longest)?;
     assert_eq!(rt; found, Some(FontFault::Pk(PkFault::Preamble)));
+    let found = fault(&rt, &dot, &DOT_TFM, &longest, b"")?;
+    assert_eq!(rt; found, Some(FontFault::Vf(VfFault::Preamble)));
     let too_long = zeros(&rt, TOO_LONG)?;
     let found = fault(&rt, &dot, &too_long, b"", &DOT_PK)?;
     assert_eq!(rt; found, Some(FontFault::TooLong(FileKind::Tfm)));
+    let found = fault(&rt, &dot, &DOT_TFM, &too_long, b"")?;
+    assert_eq!(rt; found, Some(FontFault::TooLong(FileKind::Vf)));
     let found = fault(&rt, &dot, &DOT_TFM, b"", &too_long)?;
     assert_eq!(rt; found, Some(FontFault::TooLong(FileKind::Pk)));
     Ok(())
@@ -223,7 +228,7 @@ fn the_first_of_several_faults(rt: HostRuntime) -> Result<(), Fail> {
     let found = fault(&rt, &huge, b"?", b"?", b"?")?;
     assert_eq!(rt; found, Some(FontFault::Tfm(TfmFault::Short)));
     let found = fault(&rt, &huge, &DOT_TFM, b"?", b"?")?;
-    assert_eq!(rt; found, Some(FontFault::NotYet));
+    assert_eq!(rt; found, Some(FontFault::Vf(VfFault::Preamble)));
     let found = fault(&rt, &huge, &DOT_TFM, b"", b"")?;
     assert_eq!(rt; found, Some(FontFault::Size));
     let found = fault(&rt, &huge, &DOT_TFM, b"", b"?")?;
