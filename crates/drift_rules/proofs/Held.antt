@@ -7,8 +7,8 @@ use Rattle.pixel_round.specs.Pixels.{Fraction, round}
 use Rattle.drift_rules.specs.declared.flat.Registers.{Registers}
 use Rattle.drift_rules.specs.declared.faults.PenFault.{PenFault}
 use Rattle.drift_rules.specs.declared.faults.PenFault.TheVariants.{Overflow}
-use Rattle.drift_rules.specs.Position.{State, AreNear, KeepsNear, drifted, at_h, at_v, zeros}
-use Rattle.drift_rules.specs.Bounds.{AreHeld, IsHeldState, IsNumber}
+use Rattle.drift_rules.specs.Position.{State, AreNear, KeepsNear, drifted, at_h, at_v, entered, zeros}
+use Rattle.drift_rules.specs.Bounds.{AreHeld, IsHeldState}
 use Rattle.drift_rules.proofs.Near.{near_drifted, zeros_are_near}
 
 -- a number of at most 42 bits is read as it was written
@@ -81,23 +81,19 @@ saved_are_near c (r ∷ saved) held = (held.0.near, saved_are_near c saved held.
 pub held_is_near : (c : Fraction) (s : State) → IsHeldState c s → KeepsNear c s
 held_is_near c s held = record { now = held.now.near; saved = saved_are_near c s.saved held.saved }
 
--- ---- with one register set
-
-pub held_w : (c : Fraction) (r : Registers) (by : ℤ) → AreHeld c r → IsNumber by → AreHeld c (record r { w = by })
-held_w c r by held number =
-    record { h = held.h; v = held.v; w = number; x = held.x; y = held.y; z = held.z; hh = held.hh; vv = held.vv; near = record { across = held.near.across; down = held.near.down } }
-
-pub held_x : (c : Fraction) (r : Registers) (by : ℤ) → AreHeld c r → IsNumber by → AreHeld c (record r { x = by })
-held_x c r by held number =
-    record { h = held.h; v = held.v; w = held.w; x = number; y = held.y; z = held.z; hh = held.hh; vv = held.vv; near = record { across = held.near.across; down = held.near.down } }
-
-pub held_y : (c : Fraction) (r : Registers) (by : ℤ) → AreHeld c r → IsNumber by → AreHeld c (record r { y = by })
-held_y c r by held number =
-    record { h = held.h; v = held.v; w = held.w; x = held.x; y = number; z = held.z; hh = held.hh; vv = held.vv; near = record { across = held.near.across; down = held.near.down } }
-
-pub held_z : (c : Fraction) (r : Registers) (by : ℤ) → AreHeld c r → IsNumber by → AreHeld c (record r { z = by })
-held_z c r by held number =
-    record { h = held.h; v = held.v; w = held.w; x = held.x; y = held.y; z = number; hh = held.hh; vv = held.vv; near = record { across = held.near.across; down = held.near.down } }
+-- the registers as a packet begins
+pub held_entered : (c : Fraction) (r : Registers) → AreHeld c r → AreHeld c (entered r)
+held_entered c r held = record {
+  h = held.h;
+  v = held.v;
+  w = omega arith;
+  x = omega arith;
+  y = omega arith;
+  z = omega arith;
+  hh = held.hh;
+  vv = held.vv;
+  near = record { across = held.near.across; down = held.near.down };
+}
 
 -- ---- at a new place
 

@@ -3,7 +3,7 @@ use Rattle.std.proofs.Common.{◌≡◌, ℕ, ◌+◌, ◌*◌, ◌/◌, ◌<◌
 use Rattle.std.specs.List.{AllByRecursion}
 use Rattle.std.proofs.lemmas.Int.{ints}
 use Rattle.pixel_round.specs.Pixels.{Fraction, round}
-use Rattle.drift_rules.specs.Position.{State, IsNear, AreNear, KeepsNear, Step, StepsKeepNear, drifted, at_h, at_v, PagesKeepNear, FlatCommand, at_origin, zeros, Leads, Skip, Char, Rule, Right, W, X, Down, Y, Z, W0, X0, Y0, Z0, Push, Pop, restoring}
+use Rattle.drift_rules.specs.Position.{State, IsNear, AreNear, KeepsNear, Step, StepsKeepNear, drifted, at_h, at_v, PagesKeepNear, FlatCommand, at_origin, zeros, Leads, Skip, Char, Rule, Right, W, X, Down, Y, Z, W0, X0, Y0, Z0, Push, Pop, Enter, Leave, Advance, restoring}
 use Rattle.drift_rules.specs.declared.flat.Registers.{Registers}
 use Rattle.drift_rules.specs.declared.faults.PenFault.TheVariants.{Overflow, StackDeep}
 
@@ -56,6 +56,10 @@ steps_keep_near c s t (Y0 space) k e = subst (λ (x : State). KeepsNear c x) (he
 steps_keep_near c s t (Z0 space) k e = subst (λ (x : State). KeepsNear c x) (held _ _ t e) (near_down c s s.now _ _ k refl refl)
 steps_keep_near c s t Push k e = subst (λ (x : State). KeepsNear c x) (saved_is _ _ t e) (record { now = k.now; saved = (k.now, k.saved) })
 steps_keep_near c s t Pop k e = near_restored c s.saved t k.saved e
+steps_keep_near c s t Enter k e =
+    subst (λ (x : State). KeepsNear c x) (saved_is _ _ t e) (record { now = record { across = k.now.across; down = k.now.down }; saved = (k.now, k.saved) })
+steps_keep_near c s t Leave k e = near_restored c s.saved t k.saved e
+steps_keep_near c s t (Advance width) k e = subst (λ (x : State). KeepsNear c x) (held _ _ t e) (near_across c s s.now _ _ k refl refl)
 
 -- a page begins near: 0 is rounded to 0
 half_of : (b : ℕ) → 0 < b → b / (2 * b) ≤ 1

@@ -1,14 +1,14 @@
 -- What pushes and pops leave of the saved registers.
 use Rattle.std.proofs.Common.{◌≡◌, ◌∙◌, ℕ, ◌+◌, ◌≤◌, suc, Bool, true, false, cond, arith, Result, Ok, Err, List, [], ◌∷◌, ◌++◌, length, refl, sym, ap}
-use Rattle.std.specs.Prelude.{nat_le}
+use Rattle.std.specs.Prelude.{nat_le, IsTrue}
 use Rattle.std.proofs.lemmas.Bool.Decides.{nat_tests}
 use Rattle.std.proofs.lemmas.List.Sums.{sum_by-cons}
 use Rattle.pixel_round.specs.Pixels.{Fraction}
 use Rattle.drift_rules.specs.declared.flat.Registers.{Registers}
 use Rattle.drift_rules.specs.declared.faults.PenFault.{PenFault}
 use Rattle.drift_rules.specs.declared.faults.PenFault.TheVariants.{Overflow, StackEmpty, StackDeep}
-use Rattle.drift_rules.specs.Position.{State, FlatCommand, Leads, MAX_SAVED, Step, after, restoring, Skip, Char, Rule, Right, W, X, Down, Y, Z, W0, X0, Y0, Z0, Push, Pop}
-use Rattle.drift_rules.specs.Stack.{is_push, is_pop, pushes, pops, PopsItsOwn, IsBalanced, PopsGiveBack, SavedStay, FewAreSaved, EmptyAtAPop, DeepAtAPush}
+use Rattle.drift_rules.specs.Position.{State, FlatCommand, Leads, MAX_SAVED, Step, after, restoring, Skip, Char, Rule, Right, W, X, Down, Y, Z, W0, X0, Y0, Z0, Push, Pop, Enter, Leave, Advance}
+use Rattle.drift_rules.specs.Stack.{is_push, is_pop, pushes, pops, PopsItsOwn, IsBalanced, PopsGiveBack, PacketsMoveAsCharacters, SavedStay, FewAreSaved, EmptyAtAPop, DeepAtAPush}
 use Rattle.drift_rules.proofs.Near.{held, saved_is}
 
 abbrev saved_of : State → List Registers
@@ -16,11 +16,17 @@ saved_of s = s.saved
 
 -- ---- one command
 
-abbrev with_saved : State → State
-with_saved s = record { now = s.now; saved = s.now ∷ s.saved }
+-- what a push or a packet's beginning leaves saved
+pushed : (c : Fraction) (s t : State) (f : FlatCommand) → IsTrue (is_push f) → Step c s f t → s.now ∷ s.saved ≡ t.saved
+pushed c s t Push push e = ap saved_of (saved_is _ _ t e)
+pushed c s t Enter push e = ap saved_of (saved_is _ _ t e)
+pushed c s t _ push e = absurd cc
 
-pushed : (c : Fraction) (s t : State) → Step c s Push t → with_saved s ≡ t
-pushed c s t e = saved_is _ _ t e
+-- a pop or a packet's end takes the last saved set
+taken : (c : Fraction) (s t : State) (f : FlatCommand) → IsTrue (is_pop f) → Step c s f t → restoring s.saved ≡ Ok t
+taken c s t Pop pop e = e
+taken c s t Leave pop e = e
+taken c s t _ pop e = absurd cc
 
 popped : (saved : List Registers) (t : State) → restoring saved ≡ Ok t → saved ≡ t.now ∷ t.saved
 popped [] t e = absurd cc
@@ -50,6 +56,9 @@ saved_stays c s t (Y0 space) _ _ e = same_saved _ _ t e
 saved_stays c s t (Z0 space) _ _ e = same_saved _ _ t e
 saved_stays c s t Push p _ e = absurd cc
 saved_stays c s t Pop _ q e = absurd cc
+saved_stays c s t Enter p _ e = absurd cc
+saved_stays c s t Leave _ q e = absurd cc
+saved_stays c s t (Advance width) _ _ e = same_saved _ _ t e
 
 -- ---- a list of commands
 
@@ -68,11 +77,15 @@ record Counted (f : FlatCommand) (flats : List FlatCommand) (push pop : ℕ) : T
   pub pushes : pushes (f ∷ flats) ≡ push + pushes flats
   pub pops : pops (f ∷ flats) ≡ pop + pops flats
 
-counted_push : (flats : List FlatCommand) → Counted Push flats 1 0
-counted_push flats = record { pushes = pushes_cons Push flats; pops = pops_cons Push flats }
+counted_push : (f : FlatCommand) (flats : List FlatCommand) → IsTrue (is_push f) → Counted f flats 1 0
+counted_push Push flats push = record { pushes = pushes_cons Push flats; pops = pops_cons Push flats }
+counted_push Enter flats push = record { pushes = pushes_cons Enter flats; pops = pops_cons Enter flats }
+counted_push _ flats push = absurd cc
 
-counted_pop : (flats : List FlatCommand) → Counted Pop flats 0 1
-counted_pop flats = record { pushes = pushes_cons Pop flats; pops = pops_cons Pop flats }
+counted_pop : (f : FlatCommand) (flats : List FlatCommand) → IsTrue (is_pop f) → Counted f flats 0 1
+counted_pop Pop flats pop = record { pushes = pushes_cons Pop flats; pops = pops_cons Pop flats }
+counted_pop Leave flats pop = record { pushes = pushes_cons Leave flats; pops = pops_cons Leave flats }
+counted_pop _ flats pop = absurd cc
 
 counted_other : (f : FlatCommand) (flats : List FlatCommand) → is_push f ≡ false → is_pop f ≡ false → Counted f flats 0 0
 counted_other f flats p q = record {
@@ -80,20 +93,20 @@ counted_other f flats p q = record {
   pops = pops_cons f flats ∙ ap (λ (b : Bool). cond b 1 0 + pops flats) q;
 }
 
-behind_push : (n : ℕ) (flats : List FlatCommand) → PopsAtMost n (Push ∷ flats) → PopsAtMost (suc n) flats
-behind_push n flats h first rest e =
-    let all = h (Push ∷ first) rest (ap (λ (l : List FlatCommand). Push ∷ l) e) in
-    let many = counted_push first in
+after_push : (n : ℕ) (f : FlatCommand) (flats : List FlatCommand) → IsTrue (is_push f) → PopsAtMost n (f ∷ flats) → PopsAtMost (suc n) flats
+after_push n f flats push h first rest e =
+    let all = h (f ∷ first) rest (ap (λ (l : List FlatCommand). f ∷ l) e) in
+    let many = counted_push f first push in
     omega (arith, all, many.pushes, many.pops)
 
-behind_pop : (n : ℕ) (flats : List FlatCommand) → PopsAtMost (suc n) (Pop ∷ flats) → PopsAtMost n flats
-behind_pop n flats h first rest e =
-    let all = h (Pop ∷ first) rest (ap (λ (l : List FlatCommand). Pop ∷ l) e) in
-    let many = counted_pop first in
+after_pop : (n : ℕ) (f : FlatCommand) (flats : List FlatCommand) → IsTrue (is_pop f) → PopsAtMost (suc n) (f ∷ flats) → PopsAtMost n flats
+after_pop n f flats pop h first rest e =
+    let all = h (f ∷ first) rest (ap (λ (l : List FlatCommand). f ∷ l) e) in
+    let many = counted_pop f first pop in
     omega (arith, all, many.pushes, many.pops)
 
-behind_other : (n : ℕ) (f : FlatCommand) (flats : List FlatCommand) → is_push f ≡ false → is_pop f ≡ false → PopsAtMost n (f ∷ flats) → PopsAtMost n flats
-behind_other n f flats p q h first rest e =
+after_other : (n : ℕ) (f : FlatCommand) (flats : List FlatCommand) → is_push f ≡ false → is_pop f ≡ false → PopsAtMost n (f ∷ flats) → PopsAtMost n flats
+after_other n f flats p q h first rest e =
     let all = h (f ∷ first) rest (ap (λ (l : List FlatCommand). f ∷ l) e) in
     let many = counted_other f first p q in
     omega (arith, all, many.pushes, many.pops)
@@ -109,27 +122,54 @@ stays_by_other t f flats above below p q r =
     let many = counted_other f flats p q in
     record { more = r.more; is = r.is; many = omega (arith, r.many, many.pushes, many.pops) }
 
-no_pop : (flats : List FlatCommand) → PopsAtMost 0 (Pop ∷ flats) → ⊥
-no_pop flats h = omega (arith, h (Pop ∷ []) flats refl)
+no_pop : (f : FlatCommand) (flats : List FlatCommand) → IsTrue (is_pop f) → PopsAtMost 0 (f ∷ flats) → ⊥
+no_pop Pop flats pop h = omega (arith, h (Pop ∷ []) flats refl)
+no_pop Leave flats pop h = omega (arith, h (Leave ∷ []) flats refl)
+no_pop _ flats pop h = absurd cc
 
 tail_is : (r q : Registers) (a b : List Registers) → r ∷ a ≡ q ∷ b → a ≡ b
 tail_is r q a b e = cc
 
+-- the same, where a push, or a pop, stands first
+stays_by_push : (t : State) (f : FlatCommand) (flats : List FlatCommand) (r : Registers) (above below : List Registers) → IsTrue (is_push f) → Stays t flats (r ∷ above) below
+    → Stays t (f ∷ flats) above below
+stays_by_push t f flats r above below push stays =
+    let many = counted_push f flats push in
+    record { more = stays.more; is = stays.is; many = omega (arith, stays.many, many.pushes, many.pops) }
+
+stays_by_pop : (t : State) (f : FlatCommand) (flats : List FlatCommand) (q : Registers) (above below : List Registers) → IsTrue (is_pop f) → Stays t flats above below
+    → Stays t (f ∷ flats) (q ∷ above) below
+stays_by_pop t f flats q above below pop stays =
+    let many = counted_pop f flats pop in
+    record { more = stays.more; is = stays.is; many = omega (arith, stays.many, many.pushes, many.pops) }
+
+on_push : (c : Fraction) (s mid : State) (f : FlatCommand) (above below : List Registers) → IsTrue (is_push f) → s.saved ≡ above ++ below → Step c s f mid
+    → mid.saved ≡ (s.now ∷ above) ++ below
+on_push c s mid f above below push e step = sym (pushed c s mid f push step) ∙ ap (λ (l : List Registers). s.now ∷ l) e
+
+on_pop : (c : Fraction) (s mid : State) (f : FlatCommand) (q : Registers) (above below : List Registers) → IsTrue (is_pop f) → s.saved ≡ (q ∷ above) ++ below → Step c s f mid
+    → mid.saved ≡ above ++ below
+on_pop c s mid f q above below pop e step =
+    tail_is mid.now q mid.saved (above ++ below) (sym (popped s.saved mid (taken c s mid f pop step)) ∙ e)
+
 along : (c : Fraction) (s t : State) (flats : List FlatCommand) (above below : List Registers) → s.saved ≡ above ++ below → PopsAtMost (length above) flats → Leads c s flats t → Stays t flats above below
 along c s t [] above below e h leads = record { more = above; is = ap saved_of leads ∙ e; many = omega arith }
 along c s t (Push ∷ flats) above below e h (mid, step, rest) =
-    let on : mid.saved ≡ (s.now ∷ above) ++ below = sym (ap saved_of (pushed c s mid step)) ∙ ap (λ (l : List Registers). s.now ∷ l) e in
-    let r = along c mid t flats (s.now ∷ above) below on (behind_push (length above) flats h) rest in
-    let many = counted_push flats in
-    record { more = r.more; is = r.is; many = omega (arith, r.many, many.pushes, many.pops) }
-along c s t (Pop ∷ flats) [] below e h leads = absurd (no_pop flats h)
+    stays_by_push t Push flats s.now above below refl
+    (along c mid t flats (s.now ∷ above) below (on_push c s mid Push above below refl e step) (after_push (length above) Push flats refl h) rest)
+along c s t (Enter ∷ flats) above below e h (mid, step, rest) =
+    stays_by_push t Enter flats s.now above below refl
+    (along c mid t flats (s.now ∷ above) below (on_push c s mid Enter above below refl e step) (after_push (length above) Enter flats refl h) rest)
+along c s t (Pop ∷ flats) [] below e h leads = absurd (no_pop Pop flats refl h)
 along c s t (Pop ∷ flats) (q ∷ above) below e h (mid, step, rest) =
-    let on : mid.saved ≡ above ++ below = tail_is mid.now q mid.saved (above ++ below) (sym (popped s.saved mid step) ∙ e) in
-    let r = along c mid t flats above below on (behind_pop (length above) flats h) rest in
-    let many = counted_pop flats in
-    record { more = r.more; is = r.is; many = omega (arith, r.many, many.pushes, many.pops) }
+    stays_by_pop t Pop flats q above below refl
+    (along c mid t flats above below (on_pop c s mid Pop q above below refl e step) (after_pop (length above) Pop flats refl h) rest)
+along c s t (Leave ∷ flats) [] below e h leads = absurd (no_pop Leave flats refl h)
+along c s t (Leave ∷ flats) (q ∷ above) below e h (mid, step, rest) =
+    stays_by_pop t Leave flats q above below refl
+    (along c mid t flats above below (on_pop c s mid Leave q above below refl e step) (after_pop (length above) Leave flats refl h) rest)
 along c s t (f ∷ flats) above below e h (mid, step, rest) =
-    stays_by_other t f flats above below refl refl (along c mid t flats above below (saved_stays c s mid f refl refl step ∙ e) (behind_other (length above) f flats refl refl h) rest)
+    stays_by_other t f flats above below refl refl (along c mid t flats above below (saved_stays c s mid f refl refl step ∙ e) (after_other (length above) f flats refl refl h) rest)
 
 own_at_most : (flats : List FlatCommand) → PopsItsOwn flats → PopsAtMost 0 flats
 own_at_most flats own first rest e = omega (arith, own first rest e)
@@ -168,12 +208,24 @@ same_good s t e = cc
 back : (saved : List Registers) (s u : State) → saved ≡ s.now ∷ s.saved → restoring saved ≡ Ok u → u ≡ s
 back saved s u is e = same_good s u (sym (ap restoring is) ∙ e)
 
+given_back : (c : Fraction) (s begun mid u : State) (push pop : FlatCommand) (flats : List FlatCommand) → IsTrue (is_push push) → IsTrue (is_pop pop) → IsBalanced flats
+    → Step c s push begun → Leads c begun flats mid → Step c mid pop u → u ≡ s
+given_back c s begun mid u push pop flats saves restores balanced first within last =
+    let at_push : begun.saved ≡ s.now ∷ s.saved = sym (pushed c s begun push saves first) in
+    let below : mid.saved ≡ s.now ∷ s.saved = balanced_saved c begun mid flats balanced within ∙ at_push in
+    back mid.saved s u below (taken c mid u pop restores last)
+
 pub pops_give_back : PopsGiveBack
-pops_give_back c s t flats balanced (begun, push, leads) =
-    let p = parted c begun t flats (Pop ∷ []) leads in
-    let at_push : begun.saved ≡ s.now ∷ s.saved = sym (ap saved_of (pushed c s begun push)) in
-    let below : p.mid.saved ≡ s.now ∷ s.saved = balanced_saved c begun p.mid flats balanced p.first ∙ at_push in
-    p.rest.2 ∙ back p.mid.saved s p.rest.0 below p.rest.1
+pops_give_back c s t push pop flats saves restores balanced (begun, step, leads) =
+    let p = parted c begun t flats (pop ∷ []) leads in
+    p.rest.2 ∙ given_back c s begun p.mid p.rest.0 push pop flats saves restores balanced step p.first p.rest.1
+
+pub packets_move_as_characters : PacketsMoveAsCharacters
+packets_move_as_characters c s t packet key code width balanced (begun, step, leads) =
+    let p = parted c begun t packet (Leave ∷ Advance width ∷ []) leads in
+    let is_s : p.rest.0 ≡ s = given_back c s begun p.mid p.rest.0 Enter Leave packet refl refl balanced step p.first p.rest.1 in
+    let moved : after c s (Advance width) ≡ Ok p.rest.2.0 = rw is_s at p.rest.2.1 in
+    moved ∙ ap good (sym p.rest.2.2)
 
 -- ---- the bounds
 
@@ -194,15 +246,22 @@ many_at n e = grind (arith, nat_tests)
 at_many : (n : ℕ) → MAX_SAVED ≤ n → nat_le MAX_SAVED n ≡ true
 at_many n h = grind (arith, nat_tests)
 
-few_step : (c : Fraction) (s t : State) (f : FlatCommand) → length s.saved ≤ MAX_SAVED → Step c s f t → length t.saved ≤ MAX_SAVED
-few_step c s t Push few e =
-    let added : s.now ∷ s.saved ≡ t.saved = ap saved_of (pushed c s t e) in
+few_pushed : (s t : State) → s.now ∷ s.saved ≡ t.saved → nat_le MAX_SAVED (length s.saved) ≡ false → length t.saved ≤ MAX_SAVED
+few_pushed s t added some =
     let long : length s.saved + 1 ≡ length t.saved = omega (arith, ap length added) in
-    let room = few_after (length s.saved) (some_room _ _ t e) in
+    let room = few_after (length s.saved) some in
     omega (arith, long, room)
-few_step c s t Pop few e =
-    let long : length s.saved ≡ length t.saved + 1 = omega (arith, ap length (popped s.saved t e)) in
+
+few_popped : (s t : State) → length s.saved ≤ MAX_SAVED → s.saved ≡ t.now ∷ t.saved → length t.saved ≤ MAX_SAVED
+few_popped s t few popped =
+    let long : length s.saved ≡ length t.saved + 1 = omega (arith, ap length popped) in
     omega (arith, long, few)
+
+few_step : (c : Fraction) (s t : State) (f : FlatCommand) → length s.saved ≤ MAX_SAVED → Step c s f t → length t.saved ≤ MAX_SAVED
+few_step c s t Push few e = few_pushed s t (pushed c s t Push refl e) (some_room _ _ t e)
+few_step c s t Enter few e = few_pushed s t (pushed c s t Enter refl e) (some_room _ _ t e)
+few_step c s t Pop few e = few_popped s t few (popped s.saved t e)
+few_step c s t Leave few e = few_popped s t few (popped s.saved t e)
 few_step c s t f few e =
     let long : length t.saved ≡ length s.saved = ap length (saved_stays c s t f refl refl e) in
     omega (arith, long, few)
@@ -242,6 +301,9 @@ only_overflow c s (Y0 space) fault _ _ e = overflow_by _ _ fault e
 only_overflow c s (Z0 space) fault _ _ e = overflow_by _ _ fault e
 only_overflow c s Push fault p _ e = absurd cc
 only_overflow c s Pop fault _ q e = absurd cc
+only_overflow c s Enter fault p _ e = absurd cc
+only_overflow c s Leave fault _ q e = absurd cc
+only_overflow c s (Advance width) fault _ _ e = overflow_by _ _ fault e
 
 only_empty : (saved : List Registers) (fault : PenFault) → restoring saved ≡ Err fault → (fault ≡ StackEmpty) × (saved ≡ [])
 only_empty [] fault e = (cc, refl)
@@ -263,24 +325,32 @@ deep_is_overflow e = cc
 empty_is_overflow : StackEmpty ≡ Overflow → ⊥
 empty_is_overflow e = cc
 
-deep_at : (c : Fraction) (s : State) (f : FlatCommand) → after c s f ≡ Err StackDeep → (f ≡ Push) × (MAX_SAVED ≤ length s.saved)
+deep_at : (c : Fraction) (s : State) (f : FlatCommand) → after c s f ≡ Err StackDeep → IsTrue (is_push f) × (MAX_SAVED ≤ length s.saved)
 deep_at c s Push e = (refl, many_at (length s.saved) (no_room _ _ e))
+deep_at c s Enter e = (refl, many_at (length s.saved) (no_room _ _ e))
 deep_at c s Pop e = absurd (deep_is_empty (only_empty s.saved StackDeep e).0)
+deep_at c s Leave e = absurd (deep_is_empty (only_empty s.saved StackDeep e).0)
 deep_at c s f e = absurd (deep_is_overflow (only_overflow c s f StackDeep refl refl e))
 
-at_deep : (c : Fraction) (s : State) (f : FlatCommand) → (f ≡ Push) × (MAX_SAVED ≤ length s.saved) → after c s f ≡ Err StackDeep
-at_deep c s f (push, many) = ap (after c s) push ∙ rw (at_many (length s.saved) many) refl
+at_deep : (c : Fraction) (s : State) (f : FlatCommand) → IsTrue (is_push f) → MAX_SAVED ≤ length s.saved → after c s f ≡ Err StackDeep
+at_deep c s Push push many = rw (at_many (length s.saved) many) refl
+at_deep c s Enter push many = rw (at_many (length s.saved) many) refl
+at_deep c s _ push many = absurd cc
 
 pub deep_at_a_push : DeepAtAPush
-deep_at_a_push c s f = (deep_at c s f, at_deep c s f)
+deep_at_a_push c s f = (deep_at c s f, λ h. at_deep c s f h.0 h.1)
 
-empty_at : (c : Fraction) (s : State) (f : FlatCommand) → after c s f ≡ Err StackEmpty → (f ≡ Pop) × (s.saved ≡ [])
+empty_at : (c : Fraction) (s : State) (f : FlatCommand) → after c s f ≡ Err StackEmpty → IsTrue (is_pop f) × (s.saved ≡ [])
 empty_at c s Pop e = (refl, (only_empty s.saved StackEmpty e).1)
+empty_at c s Leave e = (refl, (only_empty s.saved StackEmpty e).1)
 empty_at c s Push e = absurd (empty_is_deep (only_deep _ _ StackEmpty e))
+empty_at c s Enter e = absurd (empty_is_deep (only_deep _ _ StackEmpty e))
 empty_at c s f e = absurd (empty_is_overflow (only_overflow c s f StackEmpty refl refl e))
 
-at_empty : (c : Fraction) (s : State) (f : FlatCommand) → (f ≡ Pop) × (s.saved ≡ []) → after c s f ≡ Err StackEmpty
-at_empty c s f (pop, none) = ap (after c s) pop ∙ ap restoring none
+at_empty : (c : Fraction) (s : State) (f : FlatCommand) → IsTrue (is_pop f) → s.saved ≡ [] → after c s f ≡ Err StackEmpty
+at_empty c s Pop pop none = ap restoring none
+at_empty c s Leave pop none = ap restoring none
+at_empty c s _ pop none = absurd cc
 
 pub empty_at_a_pop : EmptyAtAPop
-empty_at_a_pop c s f = (empty_at c s f, at_empty c s f)
+empty_at_a_pop c s f = (empty_at c s f, λ h. at_empty c s f h.0 h.1)

@@ -5,7 +5,7 @@ use Rattle.pixel_round.specs.Pixels.{Fraction}
 use Rattle.drift_rules.specs.declared.flat.Registers.{Registers}
 use Rattle.drift_rules.specs.declared.flat.Mark.{Mark}
 use Rattle.drift_rules.specs.declared.flat.Mark.TheVariants as code
-use Rattle.drift_rules.specs.Position.{AreNear, FlatCommand, Skip, Char, Rule, Right, W, X, Down, Y, Z, W0, X0, Y0, Z0, Push, Pop, State}
+use Rattle.drift_rules.specs.Position.{AreNear, FlatCommand, Skip, Char, Rule, Right, W, X, Down, Y, Z, W0, X0, Y0, Z0, Push, Pop, Enter, Leave, Advance, State}
 
 -- a number of a command: four bytes in two's complement hold nothing farther from 0
 abbrev pub IsNumber : ℤ → Type 0
@@ -33,6 +33,9 @@ IsInReach (Y0 space) = IsSpace space
 IsInReach (Z0 space) = IsSpace space
 IsInReach Push = Unit {0}
 IsInReach Pop = Unit {0}
+IsInReach Enter = Unit {0}
+IsInReach Leave = Unit {0}
+IsInReach (Advance width) = IsNumber width
 
 -- registers that a pen may have
 pub record AreHeld (c : Fraction) (r : Registers) : Type 0 where

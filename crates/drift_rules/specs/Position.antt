@@ -29,6 +29,9 @@ pub data FlatCommand : Type 0 where
   Z0 : ℤ → FlatCommand
   Push : FlatCommand
   Pop : FlatCommand
+  Enter : FlatCommand
+  Leave : FlatCommand
+  Advance : ℤ → FlatCommand
 
 -- the registers, and those that were saved, the last ones first
 pub record State : Type 0 where
@@ -102,9 +105,13 @@ over c s width pixels = if_held (s.now.h +ℤ width) (record s { now = moved_ove
 abbrev pub MAX_SAVED : ℕ
 MAX_SAVED = 1000
 
--- all eight registers are saved, and stay as they are
-abbrev pub saving : State → Result State PenFault
-saving s = if nat_le MAX_SAVED (length s.saved) then Err StackDeep else Ok (record { now = s.now; saved = s.now ∷ s.saved })
+-- all eight registers are saved, and these are the next
+abbrev pub saving : State → Registers → Result State PenFault
+saving s next = if nat_le MAX_SAVED (length s.saved) then Err StackDeep else Ok (record { now = next; saved = s.now ∷ s.saved })
+
+-- the registers as a packet begins: where they were, with no motion remembered
+abbrev pub entered : Registers → Registers
+entered r = record r { w = pos 0; x = pos 0; y = pos 0; z = pos 0 }
 
 -- all eight registers become those that were saved last, which are saved no longer; nothing is rounded
 abbrev pub restoring : List Registers → Result State PenFault
@@ -128,14 +135,17 @@ after c s (Y p space) = down_by c s (record s.now { y = p }) p space
 after c s (Z p space) = down_by c s (record s.now { z = p }) p space
 after c s (Y0 space) = down_by c s s.now s.now.y space
 after c s (Z0 space) = down_by c s s.now s.now.z space
-after c s Push = saving s
+after c s Push = saving s s.now
 after c s Pop = restoring s.saved
+after c s Enter = saving s (entered s.now)
+after c s Leave = restoring s.saved
+after c s (Advance width) = over c s width (round c width)
 
 -- one state may come after another, by a flat command
 abbrev pub Step : Fraction → State → FlatCommand → State → Type 0
 Step c s f t = after c s f ≡ Ok t
 
--- the states that a list of flat commands leads through, each with the one behind it, to the last
+-- the states that a list of flat commands leads through, each with the one after it, to the last
 abbrev pub Leads : Fraction → State → List FlatCommand → State → Type 0
 Leads c s [] t = t ≡ s
 Leads c s (f ∷ flats) t = (mid : State) × Step c s f mid × Leads c mid flats t
@@ -158,6 +168,9 @@ seen_flat (code.Y0 space) = Y0 space
 seen_flat (code.Z0 space) = Z0 space
 seen_flat code.Push = Push
 seen_flat code.Pop = Pop
+seen_flat code.Enter = Enter
+seen_flat code.Leave = Leave
+seen_flat (code.Advance width) = Advance width
 
 -- ---- a law: hh is never farther than 2 from h converted, nor vv from v
 

@@ -32,6 +32,10 @@ row h hh = Ok (at h (pos 0) hh (pos 0))
 abbrev pub drifted_place : Registers
 drifted_place = record { h = pos 6; v = pos 14; w = pos 1; x = pos 3; y = pos 5; z = pos 7; hh = pos 5; vv = pos 9 }
 
+-- where a packet begins there: w, x, y and z are 0, all else is as it was
+abbrev pub entered_place : Registers
+entered_place = record { h = pos 6; v = pos 14; w = pos 0; x = pos 0; y = pos 0; z = pos 0; hh = pos 5; vv = pos 9 }
+
 abbrev pub char_mark : ℤ → ℤ → Mark
 char_mark hh vv = code.Char hh vv
 

@@ -1,4 +1,4 @@
-//! A page without virtual characters, and what a step of the pen marks.
+//! A page with its virtual characters expanded, and what a step of the pen marks.
 use outside::FontKey;
 use std::sync::Arc;
 
@@ -72,6 +72,17 @@ pub enum Flat {
     Push,
     /// All eight registers become those that were saved last, which are saved no longer. Nothing is rounded.
     Pop,
+    /// The packet of a virtual character begins: all eight registers are saved, and w, x, y and z
+    /// become 0.
+    Enter,
+    /// The packet ends: all eight registers become those that were saved last, which are saved no
+    /// longer. Nothing is rounded.
+    Leave,
+    /// To the right by the width of a virtual character that was set, after its packet: as far as
+    /// over a character of that width.
+    Advance {
+        width: i64,
+    },
 }
 
 /// What a step marks, in dots, columns from the left and rows from the top.

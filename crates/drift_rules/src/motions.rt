@@ -36,7 +36,8 @@ pub(crate) fn moved(conv: &Conv, now: Registers, flat: &Flat) -> Result<Register
             width,
             put: false,
             ..
-        } => over(conv, now, *width, conv.round(*width)),
+        }
+        | Flat::Advance { width } => over(conv, now, *width, conv.round(*width)),
         Flat::Rule { put: true, .. } => Ok(now),
         Flat::Rule {
             width,
@@ -53,7 +54,7 @@ pub(crate) fn moved(conv: &Conv, now: Registers, flat: &Flat) -> Result<Register
         Flat::X0 { space } => right(conv, now, now.x, *space),
         Flat::Y0 { space } => down(conv, now, now.y, *space),
         Flat::Z0 { space } => down(conv, now, now.z, *space),
-        Flat::Push | Flat::Pop => unreachable!(),
+        Flat::Push | Flat::Pop | Flat::Enter | Flat::Leave => unreachable!(),
     }
 }
 

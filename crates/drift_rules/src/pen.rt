@@ -1,8 +1,8 @@
 //! The machine that takes a page's flat commands.
 
-ghost use Rattle.std.specs.Prelude.{◌≡◌, ◌↔◌, [], IsOk, Ok, Err, IfOk, IfErr, IfSome, OnErr, false};
+ghost use Rattle.std.specs.Prelude.{◌≡◌, ◌↔◌, [], IsOk, Ok, Err, IfOk, IfErr, IfSome, OnErr, IsTrue, false};
 ghost use Rattle.drift_rules.specs.declared.faults.PenFault.{PenFault};
-ghost use Rattle.drift_rules.specs.Position.{after, at_origin, seen_flat, KeepsNear, Push, Pop};
+ghost use Rattle.drift_rules.specs.Position.{after, at_origin, seen_flat, KeepsNear, Push, Pop, Enter};
 ghost use Rattle.drift_rules.specs.Stack.{is_pop, is_push};
 ghost use Rattle.drift_rules.specs.Marks.{mark_of};
 ghost use Rattle.drift_rules.specs.Bounds.{AreHeld, IsInReach, IsPaintable};
@@ -60,9 +60,9 @@ impl Pen {
     /// Takes one command, and answers with the mark that it makes at the place before it, if it makes one.
     ///
     /// The command's lengths and motions are numbers of four bytes, and a space is from 0 to 2^27. `Overflow` is answered exactly
-    /// where h or v would leave -2147483647..2147483647, `StackDeep` exactly at a push where 1000 sets of registers are saved,
-    /// and `StackEmpty` exactly at a pop where none is saved. `NoMemory` comes only at a push that has no fault. After each of
-    /// them the pen is as it was.
+    /// where h or v would leave -2147483647..2147483647, `StackDeep` exactly at a push or a packet's beginning where 1000 sets of
+    /// registers are saved, and `StackEmpty` exactly at a pop or a packet's end where none is saved. `NoMemory` comes only at a push
+    /// or a packet's beginning that has no fault. After each of them the pen is as it was.
     ///
     /// Knuth, DVItype, "Translation to symbolic form".
     pub fn step(&mut self, flat: &Flat) -> Result<Option<Mark>, PenStop>
@@ -74,10 +74,10 @@ impl Pen {
         ensures paintable { IfOk result (λ mark. IfSome mark IsPaintable) }
         ensures same_conversion { self.new.conv ≡ self.old.conv }
 
-        // A fault is the one that the rules name, and only a push may want memory. No stop changes anything.
+        // A fault is the one that the rules name, and only what saves registers may want memory. No stop changes anything.
         ensures fault { (fault : PenFault) → (result ≡ Err (PenStop.Fault fault))
             ↔ (after self.old.conv self.old.state (seen_flat flat.now) ≡ Err fault) }
-        ensures memory { result ≡ Err PenStop.NoMemory → seen_flat flat.now ≡ Push }
+        ensures memory { result ≡ Err PenStop.NoMemory → IsTrue (is_push (seen_flat flat.now)) }
         ensures unchanged { OnErr result (self.new ≡ self.old) }
 
         // The place in dots stays within two of the rounded one, here and in the saved registers.
@@ -98,8 +98,9 @@ impl Pen {
     {
         match flat {
             Flat::Push => self.push(),
-            Flat::Pop => self.pop(),
-            _ => self.advance(flat),
+            Flat::Enter => self.enter(),
+            Flat::Pop | Flat::Leave => self.pop(),
+            _ => self.move_registers(flat),
         }
     }
 
@@ -111,6 +112,21 @@ impl Pen {
         ensures unchanged { OnErr result (self.new ≡ self.old) }
     {
         self.saved.push(self.registers)
+    }
+
+    // Saves the registers; w, x, y and z become 0, as a packet begins.
+    fn enter(&mut self) -> Result<(), PenStop>
+        ensures moved { IfOk result (λ _. after self.old.conv self.old.state Enter ≡ Ok self.new.state) }
+        ensures same_conversion { self.new.conv ≡ self.old.conv }
+        ensures stop { IfErr result (Stops (after self.old.conv self.old.state Enter) Enter) }
+        ensures unchanged { OnErr result (self.new ≡ self.old) }
+    {
+        self.push()?;
+        self.registers.w = 0;
+        self.registers.x = 0;
+        self.registers.y = 0;
+        self.registers.z = 0;
+        Ok(())
     }
 
     // Restores the registers that were saved last.
@@ -130,7 +146,7 @@ impl Pen {
     }
 
     // Any other command moves the registers alone.
-    fn advance(&mut self, flat: &Flat) -> Result<(), PenStop>
+    fn move_registers(&mut self, flat: &Flat) -> Result<(), PenStop>
         requires reach { IsInReach (seen_flat flat.now) }
         requires no_push { is_push (seen_flat flat.now) ≡ false }
         requires no_pop { is_pop (seen_flat flat.now) ≡ false }
@@ -169,6 +185,8 @@ impl Pen {
     }
 }
 
+#[cfg(test)]
+mod packet_tests;
 #[cfg(test)]
 mod stack_tests;
 #[cfg(test)]

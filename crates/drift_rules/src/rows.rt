@@ -1,11 +1,11 @@
-//! Worked characters, motions, pushes and pops at one half of a dot for a unit and a space of 2, by computation.
+//! Worked characters, motions, pushes, pops and packets at one half of a dot for a unit and a space of 2, by computation.
 
-ghost use Rattle.std.specs.Prelude.{◌≡◌, ℕ, Bool, pos, negsuc, true, false, Ok, Err, Some, [], ◌∷◌};
+ghost use Rattle.std.specs.Prelude.{◌≡◌, ℕ, Bool, pos, negsuc, true, false, Ok, Err, Some, None, [], ◌∷◌};
 ghost use Rattle.outside.specs.declared.keys.FontKey.{FontKey};
 ghost use Rattle.drift_rules.specs.declared.faults.PenFault.{PenFault};
-ghost use Rattle.drift_rules.specs.Position.{after, at_origin, zeros, Char, Right, Down, Push, Pop};
+ghost use Rattle.drift_rules.specs.Position.{after, at_origin, zeros, Char, Right, Down, Push, Pop, Enter, Leave, Advance};
 ghost use Rattle.drift_rules.specs.Marks.{mark_of};
-ghost use Rattle.drift_rules.specs.Rows.{half, at, at_h_2, at_h_5, at_v_2, char_mark, drifted_place, row, with_saved};
+ghost use Rattle.drift_rules.specs.Rows.{half, at, at_h_2, at_h_5, at_v_2, char_mark, drifted_place, entered_place, row, with_saved};
 
 /// A set character moves hh by its rounded width, and the drift rule holds it: of h = 6 and hh = 6 it makes hh = 5. A width of -3 is
 /// -1.5 dots, of which hh takes -2. A put one moves nothing, and both are marked where they stand, whatever their font and code are.
@@ -32,9 +32,21 @@ pub fn down()
     ensures up_10 { after half at_v_2 (Down (negsuc 9) (pos 2)) ≡ Ok (at (pos 0) (negsuc 7) (pos 0) (negsuc 3)) }
 {}
 
-/// A push saves a place that has drifted, and a pop gives it back with its drift; where none is saved it has no state behind it.
+/// A push saves a place that has drifted, and a pop gives it back with its drift; where none is saved no state comes after it.
 pub fn stack()
     ensures saved { after half (with_saved drifted_place []) Push ≡ Ok (with_saved drifted_place (drifted_place ∷ [])) }
     ensures restored { after half (with_saved zeros (drifted_place ∷ zeros ∷ [])) Pop ≡ Ok (with_saved drifted_place (zeros ∷ [])) }
     ensures empty { after half at_origin Pop ≡ Err PenFault.StackEmpty }
+{}
+
+/// A packet begins at the place where its character stands, with its drift and with w, x, y and z 0, and its end gives back all eight.
+/// Over its character of 6 units hh then grows by 3 dots, also where a motion as wide would be rounded anew: of h = 6 and hh = 5 it makes
+/// hh = 8, not 6.
+pub fn packets()
+    ensures begins { after half (with_saved drifted_place []) Enter ≡ Ok (with_saved entered_place (drifted_place ∷ [])) }
+    ensures ends { after half (with_saved entered_place (drifted_place ∷ zeros ∷ [])) Leave ≡ Ok (with_saved drifted_place (zeros ∷ [])) }
+    ensures ends_once { after half at_origin Leave ≡ Err PenFault.StackEmpty }
+    ensures advances { after half at_h_5 (Advance (pos 1)) ≡ row (pos 6) (pos 5) }
+    ensures drifts { after half (at (pos 6) (pos 0) (pos 5) (pos 0)) (Advance (pos 6)) ≡ row (pos 12) (pos 8) }
+    ensures marks_nothing { mark_of half drifted_place (Advance (pos 6)) ≡ None }
 {}

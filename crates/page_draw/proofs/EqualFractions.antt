@@ -4,7 +4,7 @@ use Rattle.std.specs.Prelude.{◌&&◌, if◌then◌else◌}
 use Rattle.outside.specs.declared.keys.FontKey.{FontKey}
 use Rattle.pixel_round.specs.Pixels.{AreEqual, Fraction, round, ceil}
 use Rattle.pixel_round.proofs.Equal.{equal_fractions_convert_alike}
-use Rattle.drift_rules.specs.Position.{FlatCommand, Skip, Char, Rule, Right, W, X, W0, X0, Down, Y, Z, Y0, Z0, Push, Pop, State, after, at_origin, down_by, drifted, if_held, is_line_space, is_word_space, over, right_by}
+use Rattle.drift_rules.specs.Position.{FlatCommand, Skip, Char, Rule, Right, W, X, W0, X0, Down, Y, Z, Y0, Z0, Push, Pop, Enter, Leave, Advance, State, after, at_origin, down_by, drifted, if_held, is_line_space, is_word_space, over, right_by}
 use Rattle.drift_rules.specs.Marks.{is_positive, mark_of}
 use Rattle.drift_rules.specs.declared.faults.PenFault.{PenFault}
 use Rattle.drift_rules.specs.declared.flat.Mark.{Mark}
@@ -58,6 +58,9 @@ module _ (c d : Fraction) (same : AreEqual c d) where
   after_alike s (Z0 space) = down_alike s s.now s.now.z space
   after_alike s Push = refl
   after_alike s Pop = refl
+  after_alike s Enter = refl
+  after_alike s Leave = refl
+  after_alike s (Advance width) = over_alike s width (round c width) (round d width) (rounds width)
 
   mark_alike : (r : Registers) (f : FlatCommand) → mark_of c r f ≡ mark_of d r f
   mark_alike r (Rule height width put) =
@@ -76,6 +79,9 @@ module _ (c d : Fraction) (same : AreEqual c d) where
   mark_alike r (Z0 space) = refl
   mark_alike r Push = refl
   mark_alike r Pop = refl
+  mark_alike r Enter = refl
+  mark_alike r Leave = refl
+  mark_alike r (Advance width) = refl
 
   -- ---- a list of members
 

@@ -7,3 +7,4 @@ pub mod OneValue
 pub mod Alone
 pub mod SomeValue
 pub mod Begun
+pub mod Packets

@@ -1,13 +1,17 @@
 -- What is true of the values of pages.
-use Rattle.std.specs.Prelude.{◌≡◌, ℕ, List, ◌++◌, Option, Some}
+use Rattle.std.specs.Prelude.{◌≡◌, ℕ, List, [], ◌∷◌, ◌++◌, Option, Some, Ok}
 use Rattle.outside.specs.Library as library
 use Rattle.outside.specs.declared.keys.FontKey.{FontKey}
+use Rattle.pixel_round.specs.Pixels.{Fraction}
 use Rattle.pixel_round.specs.declared.units.Units.{Units}
+use Rattle.drift_rules.specs.Position.{FlatCommand, Enter, Leave, State, entered}
+use Rattle.drift_rules.specs.Stack.{IsBalanced}
 use Rattle.page_index.specs.Pages.{Indexed, document_units}
+use Rattle.pk_runs.specs.declared.glyph.Glyph.{Glyph}
 use Rattle.font_decode.specs.Decoding.{IsFontIn}
 use Rattle.font_decode.specs.Laws.{AreByteFiles}
 use Rattle.font_decode.specs.Desks.{GrewBy}
-use Rattle.page_draw.specs.Members.{Finding}
+use Rattle.page_draw.specs.Members.{Finding, Flat, Look, Member, last_state, marks_from}
 use Rattle.page_draw.specs.Values.{PageValue}
 use Rattle.page_draw.specs.Drawn.{IsBroken, IsPageValue}
 use Rattle.page_draw.specs.declared.sheet.Sheet.{Sheet}
@@ -34,3 +38,20 @@ abbrev pub BrokenPagesBegin : Type 0
 BrokenPagesBegin = (l : library.Files) (u : Units) (indexed : Indexed) (sheet : Sheet) (i : ℕ) (value : PageValue) (looks : List FontKey) (old new : Option (List FontKey))
     → IsPageValue (IsFontIn l u) indexed sheet i value looks → IsBroken (IsFontIn l u) indexed i old new
     → (asked : List FontKey) × (later : List FontKey) × (looks ≡ asked ++ later) × GrewBy old new asked
+
+-- ---- packets
+
+abbrev pub flats_of : List Member → List FlatCommand
+flats_of [] = []
+flats_of (Flat f g at ∷ members) = f ∷ flats_of members
+flats_of (Look k at ∷ members) = flats_of members
+
+-- what a packet sets stands as on a page that begins at the packet's character, with w, x, y and z 0;
+-- what comes after the packet is set as if it weren't there
+abbrev pub PacketsAreSetInPlace : Type 0
+PacketsAreSetInPlace = (c : Fraction) (sheet : Sheet) (s t : State) (g h : Option Glyph) (at end : ℕ)
+    → (packet rest : List Member) → IsBalanced (flats_of packet)
+    → last_state c s (Flat Enter g at ∷ packet ++ Flat Leave h end ∷ []) ≡ Ok t
+    → marks_from c sheet s (Flat Enter g at ∷ packet ++ Flat Leave h end ∷ rest)
+    ≡ marks_from c sheet (record { now = entered s.now; saved = s.now ∷ s.saved }) packet
+    ++ marks_from c sheet s rest

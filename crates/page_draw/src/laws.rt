@@ -1,5 +1,5 @@
 //! What is true of the values of pages.
-ghost use Rattle.page_draw.specs.Laws.{PagesHaveOneValue, EachPageHasOneValue, BrokenPagesBegin};
+ghost use Rattle.page_draw.specs.Laws.{PagesHaveOneValue, EachPageHasOneValue, BrokenPagesBegin, PacketsAreSetInPlace};
 
 /// Over a library a page has exactly one value, and its keys are looked up in one order; a page that
 /// was broken off asked for the first of them.
@@ -7,4 +7,9 @@ pub fn values()
     ensures one { PagesHaveOneValue }
     ensures exactly { EachPageHasOneValue }
     ensures begun { BrokenPagesBegin }
+{}
+
+/// The packet of a virtual character is set where the character stands, and moves nothing of the rest.
+pub fn packets()
+    ensures in_place { PacketsAreSetInPlace }
 {}

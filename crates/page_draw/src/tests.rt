@@ -31,10 +31,19 @@ fn end_of(stop: &PageStop) -> (&'static str, i32, usize) {
     }
 }
 
+// The bytes of all rows, one after another.
+fn rows_of(alloc: Global, page: &Page) -> Result<Vec<u8>, Fail> {
+    let mut rows = Vec::new(alloc);
+    for y in 0..page.height() {
+        rows.extend_from_slice(page.row(y))?;
+    }
+    Ok(rows)
+}
+
 fn outcome_of(alloc: Global, drawn: Result<Page, PageStop>) -> Result<Outcome, Fail> {
     match drawn {
         Ok(page) => Ok(Outcome {
-            rows: Vec::from_slice(alloc, page.rows())?,
+            rows: rows_of(alloc, &page)?,
             end: ("drawn", 0, 0),
         }),
         Err(stop) => Ok(Outcome {

@@ -1,83 +1,154 @@
 -- A page's course comes to its list.
-use Rattle.std.proofs.Common.{◌≡◌, ℕ, zero, suc, ℤ, Bool, true, false, List, [], ◌∷◌, ◌++◌, refl, sym, ap, subst, ◌∙◌, Option, Some, None}
+use Rattle.std.proofs.Common.{◌≡◌, ℕ, zero, suc, ℤ, Bool, true, false, List, [], ◌∷◌, ◌++◌, refl, sym, ap, subst, ◌∙◌, Option, Some, None, append_assoc}
 use Rattle.std.specs.Prelude.{unwrap_or}
 use Rattle.outside.specs.declared.keys.FontKey.{FontKey}
 use Rattle.dvi_commands.specs.Spelling.{DviCommand, Set, Put, SetRule, PutRule, Push, Pop, Right, W0, W, X0, X, Down, Y0, Y, Z0, Z, Font}
-use Rattle.dvi_commands.specs.Reading.{Placed}
+use Rattle.dvi_commands.specs.Reading.{Placed, commands_of}
+use Rattle.drift_rules.specs.Position as flat
 use Rattle.page_index.specs.Document.{Reading, font_table}
 use Rattle.page_index.specs.Pages.{eop_at, page_commands}
 use Rattle.pk_runs.specs.declared.glyph.Glyph.{Glyph}
-use Rattle.font_decode.specs.Decoding.{AreAlike, IsFontIn}
-use Rattle.font_decode.specs.Fonts.{FontSeen, width_of, glyph_at}
+use Rattle.font_decode.specs.Decoding.{AreAlike}
+use Rattle.font_decode.specs.Fonts.{FontSeen, width_of, glyph_at, is_virtual_of, packet_of, local_of, first_local_of}
 use Rattle.font_decode.specs.declared.decoded.Decoded.{Decoded}
 use Rattle.font_decode.specs.declared.decoded.Decoded.TheVariants as decoded
-use Rattle.font_decode.proofs.Alike.{one_in_a_library}
-use Rattle.font_decode.proofs.Total.{each_key_is_decoded}
-use Rattle.vf_expand.specs.Course.{Course, Gives, Asks, Ends, Stops, Current, NoFont, Chosen, Known, MOST, changed_to, number_of, with_glyph, with_width, found, character, expand_one, page_from, cut, course_of}
+use Rattle.vf_expand.specs.Faults.{PageFaultSeen}
+use Rattle.vf_expand.specs.Faults as fault
+use Rattle.vf_expand.specs.Course.{Course, Gives, Asks, Ends, Stops, Place, OnPage, InPacket, Current, NoFont, Chosen, Known, Deeper, MOST, MOST_DEEP, changed_to, no_local, font_change, first_font, gap_of, leave, packet, virtual, number_of, with_glyph, by_kind, with_width, found, character, expand_one, expand_list, deeper, page_from, cut, course_of}
 use Rattle.vf_expand.specs.Members.{Member, Flat, Look, Finding, Leads, looks_of}
-use Rattle.vf_expand.specs.PageLists.{Fonts, PageList, Outcome, Goes, Faults, before, no_more, joined, limited, full_list, list_from, list_of, after_look, of_glyph, of_width, of_found, of_character, of_change, of_command}
-use Rattle.vf_expand.specs.Laws.{CoursesAreLists, LibrariesHaveFonts, ListsAreFollowed, LooksAreThePages, MembersAreTheList}
-use Rattle.vf_expand.proofs.Alike.{Respects, course_respects}
+use Rattle.vf_expand.specs.PageLists.{Fonts, PageList, Outcome, Goes, Faults, before, no_more, joined, limited, full_list, list_from, list_of, after, followed, of_list, Packets, leaving, framed, of_packet, of_virtual, of_glyph, of_kind, of_width, of_found, of_character, of_change, of_font, of_command, packets_in}
+use Rattle.vf_expand.proofs.Similar.{Similar}
 
 joined_same : (at : ℕ) (o : Outcome) (f g : Current → PageList) → ((next : Current) → f next ≡ g next) → joined at o f ≡ joined at o g
 joined_same at (Goes members next) f g same = ap (before members) (same next)
 joined_same at (Faults members fault) f g same = refl
 
+before_both : (first second : List Member) (list : PageList) → before (first ++ second) list ≡ before first (before second list)
+before_both first second list = ap (λ (members : List Member). record { members = members; ending = list.ending }) (append_assoc first second list.members)
+
+after_joined : (at : ℕ) (members : List Member) (o : Outcome) (rest : Current → PageList) → joined at (after members o) rest ≡ before members (joined at o rest)
+after_joined at first (Goes members next) rest = before_both first members (rest next)
+after_joined at first (Faults members fault) rest = refl
+
+followed_joined : (at : ℕ) (o : Outcome) (others : Current → Outcome) (rest : Current → PageList) → joined at (followed o others) rest ≡ joined at o (λ next. joined at (others next) rest)
+followed_joined at (Goes members next) others rest = after_joined at members (others next) rest
+followed_joined at (Faults members fault) others rest = refl
+
+framed_joined : (at : ℕ) (current : Current) (gap : Option ℤ) (o : Outcome) (rest : Current → PageList)
+    → joined at (framed at current gap o) rest ≡ before (Flat flat.Enter None at ∷ []) (joined at o (λ last. before (leaving gap at) (rest current)))
+framed_joined at current gap (Goes members last) rest = ap (before (Flat flat.Enter None at ∷ [])) (before_both members (leaving gap at) (rest current))
+framed_joined at current gap (Faults members fault) rest = refl
+
 module _ (fonts : Fonts) where
+  leave_list : (gap : Option ℤ) (at : ℕ) (behind : Course) → list_from fonts (leave gap at behind) ≡ before (leaving gap at) (list_from fonts behind)
+  leave_list None at behind = refl
+  leave_list (Some width) at behind = refl
+
+  -- packets come to their lists
+  abbrev ArePackets : ℕ → Deeper → Packets → Type 0
+  ArePackets at None None = Unit {0}
+  ArePackets at (Some i) (Some p) = (k : FontKey) (f : FontSeen) (commands : List DviCommand) (behind : Course)
+      → list_from fonts (i k f commands behind) ≡ joined at (p k f commands) (λ last. list_from fonts behind)
+  ArePackets at _ _ = ⊥
+
+  packet_joined : (at : ℕ) (i : FontKey → FontSeen → List DviCommand → Course → Course) (p : FontKey → FontSeen → List DviCommand → Outcome) → ArePackets at (Some i) (Some p)
+      → (others : Current → Course) (k : FontKey) (f : FontSeen) (c : ℤ) (gap : Option ℤ) (text : Option (List ℕ))
+      → list_from fonts (packet i at k f c gap text (others (Known k (decoded.Font f)))) ≡ joined at (of_packet p at k f c gap text) (λ next. list_from fonts (others next))
+  packet_joined at i p deep others k f c gap None = refl
+  packet_joined at i p deep others k f c gap (Some text) =
+      let behind = others (Known k (decoded.Font f)) in
+      let inside = p k f (commands_of text) in
+      ap (before (Flat flat.Enter None at ∷ [])) (deep k f (commands_of text) (leave gap at behind)
+      ∙ joined_same at inside (λ last. list_from fonts (leave gap at behind)) (λ last. before (leaving gap at) (list_from fonts behind)) (λ last. leave_list gap at behind))
+      ∙ sym (framed_joined at (Known k (decoded.Font f)) gap inside (λ next. list_from fonts (others next)))
+
+  virtual_joined : (at : ℕ) (d : Deeper) (p : Packets) → ArePackets at d p → (others : Current → Course) (k : FontKey) (f : FontSeen) (c : ℤ) (gap : Option ℤ)
+      → list_from fonts (virtual d at k f c gap (others (Known k (decoded.Font f)))) ≡ joined at (of_virtual p at k f c gap) (λ next. list_from fonts (others next))
+  virtual_joined at None None deep others k f c gap = refl
+  virtual_joined at None (Some p) deep others k f c gap = absurd deep
+  virtual_joined at (Some i) None deep others k f c gap = absurd deep
+  virtual_joined at (Some i) (Some p) deep others k f c gap = packet_joined at i p deep others k f c gap (packet_of f (number_of c))
+
   -- ---- one command
 
-  module _ (others : Current → Course) where
+  module _ (at : ℕ) (d : Deeper) (p : Packets) (deep : ArePackets at d p) (others : Current → Course) where
     abbrev rest : Current → PageList
     rest next = list_from fonts (others next)
 
-    glyph_joined : (at : ℕ) (k : FontKey) (d : Decoded) (c width : ℤ) (put : Bool) (glyph : Option Glyph)
-        → list_from fonts (with_glyph at k c width put glyph (others (Known k d))) ≡ joined at (of_glyph at k d c width put glyph) rest
-    glyph_joined at k d c width put None = refl
-    glyph_joined at k d c width put (Some g) = refl
+    glyph_joined : (k : FontKey) (found : Decoded) (c width : ℤ) (put : Bool) (glyph : Option Glyph)
+        → list_from fonts (with_glyph at k c width put glyph (others (Known k found))) ≡ joined at (of_glyph at k found c width put glyph) rest
+    glyph_joined k found c width put None = refl
+    glyph_joined k found c width put (Some g) = refl
 
-    width_joined : (at : ℕ) (k : FontKey) (f : FontSeen) (c : ℤ) (put : Bool) (width : Option ℤ)
-        → list_from fonts (with_width at k f c put width (others (Known k (decoded.Font f)))) ≡ joined at (of_width at k f c put width) rest
-    width_joined at k f c put None = refl
-    width_joined at k f c put (Some width) = glyph_joined at k (decoded.Font f) c width put (glyph_at f (number_of c))
+    kind_joined : (k : FontKey) (f : FontSeen) (c width : ℤ) (put is_virtual : Bool)
+        → list_from fonts (by_kind d at k f c width put is_virtual (others (Known k (decoded.Font f)))) ≡ joined at (of_kind p at k f c width put is_virtual) rest
+    kind_joined k f c width put false = glyph_joined k (decoded.Font f) c width put (glyph_at f (number_of c))
+    kind_joined k f c width put true = virtual_joined at d p deep others k f c (gap_of width put)
 
-    found_joined : (at : ℕ) (k : FontKey) (d : Decoded) (c : ℤ) (put : Bool) → list_from fonts (found at k d c put (others (Known k d))) ≡ joined at (of_found at k d c put) rest
-    found_joined at k (decoded.Fault f) c put = refl
-    found_joined at k (decoded.Font f) c put = width_joined at k f c put (width_of f c)
+    width_joined : (k : FontKey) (f : FontSeen) (c : ℤ) (put : Bool) (width : Option ℤ)
+        → list_from fonts (with_width d at k f c put width (others (Known k (decoded.Font f)))) ≡ joined at (of_width p at k f c put width) rest
+    width_joined k f c put None = refl
+    width_joined k f c put (Some width) = kind_joined k f c width put (is_virtual_of f)
 
-    look_joined : (at : ℕ) (look : Member) (o : Outcome) → before (look ∷ []) (joined at o rest) ≡ joined at (after_look look o) rest
-    look_joined at look (Goes members next) = refl
-    look_joined at look (Faults members fault) = refl
+    found_joined : (k : FontKey) (it : Decoded) (c : ℤ) (put : Bool) → list_from fonts (found d at k it c put (others (Known k it))) ≡ joined at (of_found p at k it c put) rest
+    found_joined k (decoded.Fault f) c put = refl
+    found_joined k (decoded.Font f) c put = width_joined k f c put (width_of f c)
 
-    character_joined : (at : ℕ) (current : Current) (c : ℤ) (put : Bool) → list_from fonts (character at current c put others) ≡ joined at (of_character fonts at current c put) rest
-    character_joined at NoFont c put = refl
-    character_joined at (Chosen k) c put =
-        ap (before (Look k at ∷ [])) (found_joined at k (fonts k) c put) ∙ look_joined at (Look k at) (of_found at k (fonts k) c put)
-    character_joined at (Known k d) c put = found_joined at k d c put
+    character_joined : (place : Place) (current : Current) (c : ℤ) (put : Bool)
+        → list_from fonts (character d place at current c put others) ≡ joined at (of_character fonts p place at current c put) rest
+    character_joined place NoFont c put = refl
+    character_joined place (Chosen k) c put =
+        ap (before (Look k at ∷ [])) (found_joined k (fonts k) c put) ∙ sym (after_joined at (Look k at ∷ []) (of_found p at k (fonts k) c put) rest)
+    character_joined place (Known k it) c put = found_joined k it c put
 
-    change_joined : (k : Option FontKey) (at : ℕ) (n : ℤ) → list_from fonts (changed_to k at n others) ≡ joined at (of_change at n k) rest
-    change_joined None at n = refl
-    change_joined (Some k) at n = refl
+    change_joined : (k : Option FontKey) (f : PageFaultSeen) → list_from fonts (changed_to k f at others) ≡ joined at (of_change at f k) rest
+    change_joined None f = refl
+    change_joined (Some k) f = refl
 
-    one_joined : (reading : Reading) (at : ℕ) (current : Current) (c : DviCommand)
-        → list_from fonts (expand_one reading at current c others) ≡ joined at (of_command fonts reading at current c) rest
-    one_joined reading at current (Set c) = character_joined at current c false
-    one_joined reading at current (Put c) = character_joined at current c true
-    one_joined reading at current (Font n) = change_joined (font_table reading n) at n
-    one_joined reading at current (SetRule a b) = refl
-    one_joined reading at current (PutRule a b) = refl
-    one_joined reading at current (Right b) = refl
-    one_joined reading at current (W b) = refl
-    one_joined reading at current (X b) = refl
-    one_joined reading at current (Down a) = refl
-    one_joined reading at current (Y a) = refl
-    one_joined reading at current (Z a) = refl
-    one_joined reading at current W0 = refl
-    one_joined reading at current X0 = refl
-    one_joined reading at current Y0 = refl
-    one_joined reading at current Z0 = refl
-    one_joined reading at current Push = refl
-    one_joined reading at current Pop = refl
-    one_joined reading at current _ = refl
+    font_joined : (place : Place) (n : ℤ) → list_from fonts (font_change place at n others) ≡ joined at (of_font place at n) rest
+    font_joined (OnPage reading) n = change_joined (font_table reading n) (fault.NoFont n)
+    font_joined (InPacket k f) n = change_joined (local_of f n) (no_local k (first_local_of f) n)
+
+    one_joined : (place : Place) (current : Current) (c : DviCommand)
+        → list_from fonts (expand_one d place at current c others) ≡ joined at (of_command fonts p place at current c) rest
+    one_joined place current (Set c) = character_joined place current c false
+    one_joined place current (Put c) = character_joined place current c true
+    one_joined place current (Font n) = font_joined place n
+    one_joined place current (SetRule a b) = refl
+    one_joined place current (PutRule a b) = refl
+    one_joined place current (Right b) = refl
+    one_joined place current (W b) = refl
+    one_joined place current (X b) = refl
+    one_joined place current (Down a) = refl
+    one_joined place current (Y a) = refl
+    one_joined place current (Z a) = refl
+    one_joined place current W0 = refl
+    one_joined place current X0 = refl
+    one_joined place current Y0 = refl
+    one_joined place current Z0 = refl
+    one_joined place current Push = refl
+    one_joined place current Pop = refl
+    one_joined place current _ = refl
+
+  -- ---- packets
+
+  packets_joined : (at : ℕ) (d : Deeper) (p : Packets) (place : Place) → ArePackets at d p → (commands : List DviCommand) (current : Current) (behind : Course)
+      → list_from fonts (expand_list (expand_one d place at) current commands behind)
+      ≡ joined at (of_list (of_command fonts p place at) current commands) (λ last. list_from fonts behind)
+  packets_joined at d p place deep [] current behind = refl
+  packets_joined at d p place deep (c ∷ commands) current behind =
+      let one = of_command fonts p place at in
+      let course = expand_list (expand_one d place at) in
+      one_joined at d p deep (λ next. course next commands behind) place current c
+      ∙ joined_same at (one current c) (λ next. list_from fonts (course next commands behind)) (λ next. joined at (of_list one next commands) (λ last. list_from fonts behind))
+      (λ next. packets_joined at d p place deep commands next behind)
+      ∙ sym (followed_joined at (one current c) (λ next. of_list one next commands) (λ last. list_from fonts behind))
+
+  are_packets : (n at : ℕ) → ArePackets at (deeper n at) (packets_in fonts n at)
+  unfolding deeper packets_in
+  are_packets zero at = tt
+  are_packets (suc n) at = λ k f commands behind.
+      packets_joined at (deeper n at) (packets_in fonts n at) (InPacket k f) (are_packets n at) commands (first_font f) behind
 
   -- ---- a page
 
@@ -85,8 +156,8 @@ module _ (fonts : Fonts) where
       → list_from fonts (page_from reading eop current commands) ≡ full_list fonts reading eop current commands
   page_joined reading eop [] current = refl
   page_joined reading eop (p ∷ commands) current =
-      one_joined (λ next. page_from reading eop next commands) reading p.at current p.command
-      ∙ joined_same p.at (of_command fonts reading p.at current p.command) (λ next. list_from fonts (page_from reading eop next commands))
+      one_joined p.at (deeper MOST_DEEP p.at) (packets_in fonts MOST_DEEP p.at) (are_packets MOST_DEEP p.at) (λ next. page_from reading eop next commands) (OnPage reading) current p.command
+      ∙ joined_same p.at (of_command fonts (packets_in fonts MOST_DEEP p.at) (OnPage reading) p.at current p.command) (λ next. list_from fonts (page_from reading eop next commands))
       (λ next. full_list fonts reading eop next commands) (page_joined reading eop commands)
 
   cut_limited : (n : ℕ) (x : Course) → list_from fonts (cut n x) ≡ limited n (list_from fonts x).members (list_from fonts x).ending
@@ -107,50 +178,41 @@ module _ (fonts : Fonts) where
 
   -- ---- members
 
-  led : (Finds : Finding) → ((k : FontKey) (d : Decoded) → Finds k d → AreAlike d (fonts k)) → (from : Course) (members : List Member) (to : Course) → Respects from
-      → Leads Finds from members to → list_from fonts from ≡ before members (list_from fonts to)
-  led Finds alike from [] to respects leads = ap (list_from fonts) leads
-  led Finds alike from (Flat f g at ∷ members) to respects leads =
-      ap (list_from fonts) leads.1 ∙ ap (before (Flat f g at ∷ [])) (led Finds alike leads.0 members to (subst Respects leads.1 respects) leads.2)
-  led Finds alike from (Look k at ∷ members) to respects leads =
-      let own = subst Respects leads.2 respects in
-      let d = leads.1 in
-      let same : leads.0 (fonts k) ≡ leads.0 d = sym (own.0 d (fonts k) (alike k d leads.3)) in
-      ap (list_from fonts) leads.2
-      ∙ ap (before (Look k at ∷ [])) (ap (list_from fonts) same ∙ led Finds alike (leads.0 d) members to (own.1 d) leads.4)
+  -- courses that come to the same have one list
+  same_lists : (self : (d : Decoded) → AreAlike d d) (x y : Course) → Similar x y → list_from fonts x ≡ list_from fonts y
+  same_lists self (Gives f g at x) (Gives f2 g2 at2 y) h =
+      let rest = same_lists self x y h.3 in
+      ap (before (Flat f g at ∷ [])) rest ∙ ap (λ (m : Member). before (m ∷ []) (list_from fonts y))
+      (ap (λ (c : flat.FlatCommand). Flat c g at) h.0 ∙ ap (λ (o : Option Glyph). Flat f2 o at) h.1 ∙ ap (Flat f2 g2) h.2)
+  same_lists self (Asks k at x) (Asks k2 at2 y) h =
+      ap (before (Look k at ∷ [])) (same_lists self (x (fonts k)) (y (fonts k)) (h.2 (fonts k) (fonts k) (self (fonts k))))
+      ∙ ap (λ (l : FontKey). before (Look l at ∷ []) (list_from fonts (y (fonts l)))) h.0
+      ∙ ap (λ (n : ℕ). before (Look k2 n ∷ []) (list_from fonts (y (fonts k2)))) h.1
+  same_lists self (Ends at) (Ends at2) h = ap (λ (n : ℕ). list_from fonts (Ends n)) h
+  same_lists self (Stops f at) (Stops f2 at2) h = ap (λ (c : PageFaultSeen). list_from fonts (Stops c at)) h.0 ∙ ap (λ (n : ℕ). list_from fonts (Stops f2 n)) h.1
+  same_lists self _ _ h = absurd h
 
-  followed : (Finds : Finding) → ((k : FontKey) → Finds k (fonts k)) → (from : Course)
+  pub led : (self : (d : Decoded) → AreAlike d d) (Finds : Finding) → ((k : FontKey) (d : Decoded) → Finds k d → AreAlike d (fonts k)) → (from : Course) (members : List Member) (to : Course)
+      → Similar from from → Leads Finds from members to → list_from fonts from ≡ before members (list_from fonts to)
+  led self Finds alike from [] to similar leads = ap (list_from fonts) leads
+  led self Finds alike from (Flat f g at ∷ members) to similar leads =
+      let own = subst (λ (x : Course). Similar x x) leads.1 similar in
+      ap (list_from fonts) leads.1 ∙ ap (before (Flat f g at ∷ [])) (led self Finds alike leads.0 members to own.3 leads.2)
+  led self Finds alike from (Look k at ∷ members) to similar leads =
+      let own = subst (λ (x : Course). Similar x x) leads.2 similar in
+      let d = leads.1 in
+      let same : list_from fonts (leads.0 (fonts k)) ≡ list_from fonts (leads.0 d) = sym (same_lists self (leads.0 d) (leads.0 (fonts k)) (own.2 d (fonts k) (alike k d leads.3))) in
+      ap (list_from fonts) leads.2
+      ∙ ap (before (Look k at ∷ [])) (same ∙ led self Finds alike (leads.0 d) members to (own.2 d d (self d)) leads.4)
+
+  pub to_the_end : (Finds : Finding) → ((k : FontKey) → Finds k (fonts k)) → (from : Course)
       → (to : Course) × Leads Finds from (list_from fonts from).members to × (list_from fonts to ≡ no_more (list_from fonts from).ending)
-  followed Finds each (Gives f g at rest) = let r = followed Finds each rest in (r.0, (rest, refl, r.1), r.2)
-  followed Finds each (Asks k at rest) = let r = followed Finds each (rest (fonts k)) in (r.0, (rest, fonts k, refl, each k, r.1), r.2)
-  followed Finds each (Ends at) = (Ends at, refl, refl)
-  followed Finds each (Stops f at) = (Stops f at, refl, refl)
+  to_the_end Finds each (Gives f g at rest) = let r = to_the_end Finds each rest in (r.0, (rest, refl, r.1), r.2)
+  to_the_end Finds each (Asks k at rest) = let r = to_the_end Finds each (rest (fonts k)) in (r.0, (rest, fonts k, refl, each k, r.1), r.2)
+  to_the_end Finds each (Ends at) = (Ends at, refl, refl)
+  to_the_end Finds each (Stops f at) = (Stops f at, refl, refl)
 
 pub looks_append : (first second : List Member) → looks_of (first ++ second) ≡ looks_of first ++ looks_of second
 looks_append [] second = refl
 looks_append (Flat f g at ∷ first) second = looks_append first second
 looks_append (Look k at ∷ first) second = ap (λ (keys : List FontKey). k ∷ keys) (looks_append first second)
-
--- ---- over a library
-
-pub courses_are_lists : CoursesAreLists
-courses_are_lists fonts reading i = course_is_list fonts reading i
-
-pub libraries_have_fonts : LibrariesHaveFonts
-libraries_have_fonts l u bytes = (λ k. (each_key_is_decoded l u k bytes).0, λ k. (each_key_is_decoded l u k bytes).1)
-
-pub members_are_the_list : MembersAreTheList
-members_are_the_list l u fonts reading i members to are leads =
-    sym (course_is_list fonts reading i)
-    ∙ led fonts (IsFontIn l u) (λ k d finds. one_in_a_library l u k d (fonts k) finds (are k)) (course_of reading i) members to (course_respects reading i) leads
-
-pub looks_are_the_pages : LooksAreThePages
-looks_are_the_pages l u fonts reading i members to are leads =
-    ap (λ (list : PageList). looks_of list.members) (members_are_the_list l u fonts reading i members to are leads)
-    ∙ looks_append members (list_from fonts to).members
-
-pub lists_are_followed : ListsAreFollowed
-lists_are_followed l u fonts reading i are =
-    let r = followed fonts (IsFontIn l u) are (course_of reading i) in
-    let whole = course_is_list fonts reading i in
-    (r.0, subst (λ (list : PageList). Leads (IsFontIn l u) (course_of reading i) list.members r.0) whole r.1, r.2 ∙ ap (λ (list : PageList). no_more list.ending) whole)

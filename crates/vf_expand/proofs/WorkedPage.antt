@@ -1,35 +1,53 @@
 -- The worked page, from the definition.
-use Rattle.std.proofs.Common.{◌≡◌, ℕ, ◌/◌, pos, Bool, true, false, List, [], ◌∷◌, refl, ap, ◌∙◌, Option, Some, None}
+use Rattle.std.proofs.Common.{◌≡◌, ℕ, ◌/◌, ℤ, pos, Bool, true, false, List, [], ◌∷◌, refl, ap, ◌∙◌, Some, None}
 use Rattle.outside.specs.declared.keys.FontKey.{FontKey}
 use Rattle.dvi_commands.specs.Spelling.{Font, Put, Right, Set}
 use Rattle.dvi_commands.specs.Reading.{Placed, placed}
 use Rattle.drift_rules.specs.Position as flat
 use Rattle.page_index.specs.Document.{Reading, font_table}
 use Rattle.pk_runs.specs.declared.glyph.Glyph.{Glyph}
-use Rattle.font_decode.specs.Fonts.{FontSeen, width_of, glyph_at}
+use Rattle.font_decode.specs.Fonts.{FontSeen, width_of, glyph_at, glyph_in, is_virtual_of, is_virtual_shape}
+use Rattle.font_decode.specs.declared.shapes.Shapes.{Shapes}
+use Rattle.font_decode.specs.declared.shapes.Shapes.TheVariants as shapes
 use Rattle.font_decode.specs.declared.decoded.Decoded.{Decoded}
 use Rattle.font_decode.specs.declared.decoded.Decoded.TheVariants as decoded
-use Rattle.vf_expand.specs.Course.{Current, Known, NoFont, Chosen}
+use Rattle.vf_expand.specs.Faults as fault
+use Rattle.vf_expand.specs.Course.{Current, Known, NoFont, Chosen, MOST_DEEP, OnPage}
 use Rattle.vf_expand.specs.Members.{Member, Flat, Look}
-use Rattle.vf_expand.specs.PageLists.{AtEnd, Fonts, Outcome, Goes, PageList, after_look, before, full_list, joined, limited, no_more, of_change, of_command, of_found, of_glyph, of_width}
-use Rattle.vf_expand.specs.Laws.{IsWorked, ThePageIsWorked, worked}
+use Rattle.vf_expand.specs.PageLists.{AtEnd, Fonts, Outcome, Goes, PageList, Packets, after, before, full_list, joined, limited, no_more, of_change, of_command, of_found, of_glyph, of_kind, of_width, packets_in}
+use Rattle.vf_expand.specs.Laws.{ThePageIsWorked, worked}
+
+-- a font with a glyph is no virtual one
+packed_shape : (s : Shapes) (c : ℕ) (g : Glyph) → glyph_in s c ≡ Some g → is_virtual_shape s ≡ false
+packed_shape (shapes.Packed glyphs) c g e = refl
+packed_shape (shapes.Virtual file keys) c g e = absurd cc
+
+is_packed : (f : FontSeen) (c : ℕ) (g : Glyph) → glyph_at f c ≡ Some g → is_virtual_of f ≡ false
+is_packed f c g e = packed_shape f.shapes c g e
+
+-- a character of a packed font
+pub gives_glyph : (packets : Packets) (at : ℕ) (k : FontKey) (f : FontSeen) (g : Glyph) (width : ℤ) (put : Bool) → width_of f (pos 65) ≡ Some width → glyph_at f 65 ≡ Some g
+    → of_found packets at k (decoded.Font f) (pos 65) put ≡ Goes (Flat (flat.Char k 65 width put) (Some g) at ∷ []) (Known k (decoded.Font f))
+gives_glyph packets at k f g width put wide glyph =
+    ap (of_width packets at k f (pos 65) put) wide ∙ ap (of_kind packets at k f (pos 65) width put) (is_packed f 65 g glyph)
+    ∙ ap (of_glyph at k (decoded.Font f) (pos 65) width put) glyph
 
 -- the character of the font
 char_at : ℕ → FontKey → Glyph → Bool → Member
 char_at at k g put = Flat (flat.Char k 65 (pos 8) put) (Some g) at
 
-gives : (at : ℕ) (k : FontKey) (f : FontSeen) (g : Glyph) (put : Bool) → width_of f (pos 65) ≡ Some (pos 8) → glyph_at f 65 ≡ Some g
-    → of_found at k (decoded.Font f) (pos 65) put ≡ Goes (char_at at k g put ∷ []) (Known k (decoded.Font f))
+gives : (packets : Packets) (at : ℕ) (k : FontKey) (f : FontSeen) (g : Glyph) (put : Bool) → width_of f (pos 65) ≡ Some (pos 8) → glyph_at f 65 ≡ Some g
+    → of_found packets at k (decoded.Font f) (pos 65) put ≡ Goes (char_at at k g put ∷ []) (Known k (decoded.Font f))
 unfolding char_at
-gives at k f g put width glyph = ap (of_width at k f (pos 65) put) width ∙ ap (of_glyph at k (decoded.Font f) (pos 65) (pos 8) put) glyph
+gives packets at k f g put width glyph = gives_glyph packets at k f g (pos 8) put width glyph
 
 module _ (fonts : Fonts) (reading : Reading) where
   -- one command more
-  goes : (p : Placed) (commands : List Placed) (current next : Current) (members : List Member) (list : PageList)
-      → of_command fonts reading p.at current p.command ≡ Goes members next → full_list fonts reading 68 next commands ≡ list
-      → full_list fonts reading 68 current (p ∷ commands) ≡ before members list
-  goes p commands current next members list e rest =
-      ap (λ (o : Outcome). joined p.at o (λ now. full_list fonts reading 68 now commands)) e ∙ ap (before members) rest
+  pub goes : (eop : ℕ) (p : Placed) (commands : List Placed) (current next : Current) (members : List Member) (list : PageList)
+      → of_command fonts (packets_in fonts MOST_DEEP p.at) (OnPage reading) p.at current p.command ≡ Goes members next → full_list fonts reading eop next commands ≡ list
+      → full_list fonts reading eop current (p ∷ commands) ≡ before members list
+  goes eop p commands current next members list e rest =
+      ap (λ (o : Outcome). joined p.at o (λ now. full_list fonts reading eop now commands)) e ∙ ap (before members) rest
 
   module _ (k : FontKey) (f : FontSeen) (g : Glyph) (table : font_table reading (pos 7) ≡ Some k) (found : fonts k ≡ decoded.Font f)
       (width : width_of f (pos 65) ≡ Some (pos 8)) (glyph : glyph_at f 65 ≡ Some g) where
@@ -37,12 +55,12 @@ module _ (fonts : Fonts) (reading : Reading) where
     known = Known k (decoded.Font f)
 
     -- a change to the font, and the look-up that stands before the character
-    changes : (at : ℕ) → of_change at (pos 7) (font_table reading (pos 7)) ≡ Goes (Flat flat.Skip None at ∷ []) (Chosen k)
-    changes at = ap (of_change at (pos 7)) table
+    changes : (at : ℕ) → of_change at (fault.NoFont (pos 7)) (font_table reading (pos 7)) ≡ Goes (Flat flat.Skip None at ∷ []) (Chosen k)
+    changes at = ap (of_change at (fault.NoFont (pos 7))) table
 
-    looks : (at : ℕ) → after_look (Look k at) (of_found at k (fonts k) (pos 65) false) ≡ Goes (Look k at ∷ char_at at k g false ∷ []) known
-    looks at =
-        ap (λ (d : Decoded). after_look (Look k at) (of_found at k d (pos 65) false)) found ∙ ap (after_look (Look k at)) (gives at k f g false width glyph)
+    looks : (packets : Packets) (at : ℕ) → after (Look k at ∷ []) (of_found packets at k (fonts k) (pos 65) false) ≡ Goes (Look k at ∷ char_at at k g false ∷ []) known
+    looks packets at =
+        ap (λ (d : Decoded). after (Look k at ∷ []) (of_found packets at k d (pos 65) false)) found ∙ ap (after (Look k at ∷ [])) (gives packets at k f g false width glyph)
 
     abbrev last : List Placed
     last = placed 67 (Set (pos 65)) (65 ∷ []) ∷ []
@@ -63,15 +81,15 @@ module _ (fonts : Fonts) (reading : Reading) where
     list_66 = before (Flat flat.Skip None 66 ∷ []) (before (Look k 67 ∷ char_at 67 k g false ∷ []) (no_more (AtEnd 68)))
 
     from_font : full_list fonts reading 68 known from_66 ≡ list_66
-    from_font = goes (placed 66 (Font (pos 7)) (178 ∷ [])) last known (Chosen k) (Flat flat.Skip None 66 ∷ []) _ (changes 66)
-        (goes (placed 67 (Set (pos 65)) (65 ∷ [])) [] (Chosen k) known (Look k 67 ∷ char_at 67 k g false ∷ []) _ (looks 67) refl)
+    from_font = goes 68 (placed 66 (Font (pos 7)) (178 ∷ [])) last known (Chosen k) (Flat flat.Skip None 66 ∷ []) _ (changes 66)
+        (goes 68 (placed 67 (Set (pos 65)) (65 ∷ [])) [] (Chosen k) known (Look k 67 ∷ char_at 67 k g false ∷ []) _ (looks _ 67) refl)
 
     all_of_it : full_list fonts reading 68 NoFont worked ≡ before (Flat flat.Skip None 60 ∷ []) (before (Look k 61 ∷ char_at 61 k g false ∷ [])
         (before (char_at 62 k g true ∷ []) (before (Flat (flat.Right (pos 9) (pos (k.size / 6))) None 64 ∷ []) list_66)))
-    all_of_it = goes (placed 60 (Font (pos 7)) (178 ∷ [])) from_61 NoFont (Chosen k) (Flat flat.Skip None 60 ∷ []) _ (changes 60)
-        (goes (placed 61 (Set (pos 65)) (65 ∷ [])) from_62 (Chosen k) known (Look k 61 ∷ char_at 61 k g false ∷ []) _ (looks 61)
-        (goes (placed 62 (Put (pos 65)) (133 ∷ 65 ∷ [])) from_64 known known (char_at 62 k g true ∷ []) _ (gives 62 k f g true width glyph)
-        (goes (placed 64 (Right (pos 9)) (143 ∷ 9 ∷ [])) from_66 known known (Flat (flat.Right (pos 9) (pos (k.size / 6))) None 64 ∷ []) _ refl from_font)))
+    all_of_it = goes 68 (placed 60 (Font (pos 7)) (178 ∷ [])) from_61 NoFont (Chosen k) (Flat flat.Skip None 60 ∷ []) _ (changes 60)
+        (goes 68 (placed 61 (Set (pos 65)) (65 ∷ [])) from_62 (Chosen k) known (Look k 61 ∷ char_at 61 k g false ∷ []) _ (looks _ 61)
+        (goes 68 (placed 62 (Put (pos 65)) (133 ∷ 65 ∷ [])) from_64 known known (char_at 62 k g true ∷ []) _ (gives _ 62 k f g true width glyph)
+        (goes 68 (placed 64 (Right (pos 9)) (143 ∷ 9 ∷ [])) from_66 known known (Flat (flat.Right (pos 9) (pos (k.size / 6))) None 64 ∷ []) _ refl from_font)))
 
 pub the_page_is_worked : ThePageIsWorked
 unfolding char_at

@@ -1,28 +1,37 @@
 -- What one command gives, by the definition.
-use Rattle.std.specs.Prelude.{◌≡◌, ℕ, ℤ, Bool, Some}
+use Rattle.std.specs.Prelude.{◌≡◌, ◌<◌, ℕ, ◌-◌, ℤ, pos, negsuc, ◌≤ℤ◌, ◌<ℤ◌, Bool, List, Option, Some, IfSome}
 use Rattle.std.specs.Arc.{arc_value}
 use Rattle.outside.specs.declared.keys.FontKey.{FontKey}
-use Rattle.dvi_commands.specs.Spelling.{DviCommand}
+use Rattle.dvi_commands.specs.Spelling.{DviCommand, SetRule, PutRule, Right, W, X, Down, Y, Z}
+use Rattle.dvi_commands.specs.Reading.{commands_of}
 use Rattle.drift_rules.specs.Position.{FlatCommand, Char, seen_flat}
 use Rattle.drift_rules.specs.Position as flat
-use Rattle.drift_rules.specs.Bounds.{IsInReach}
-use Rattle.page_index.specs.Document.{Reading, font_table}
+use Rattle.drift_rules.specs.Bounds.{IsInReach, IsNumber}
 use Rattle.outside.specs.FontKeys.{IsFontKey}
 use Rattle.pk_runs.specs.declared.glyph.Glyph.{Glyph}
+use Rattle.font_decode.specs.Fonts.{FontSeen, packet_of, IsProgram}
 use Rattle.font_decode.specs.declared.decoded.Decoded.{Decoded}
+use Rattle.font_decode.specs.declared.decoded.Decoded.TheVariants as decoded
 use Rattle.vf_expand.specs.Faults.{seen_fault}
-use Rattle.vf_expand.specs.Course.{Course, Gives, Asks, Stops, plain, expand_one, character, changed_to}
+use Rattle.vf_expand.specs.Course.{Course, Gives, Asks, Stops, plain, Place, OnPage, InPacket, deeper, expand_one, expand_list, character, first_font, font_change, leave, virtual}
 use Rattle.vf_expand.specs.Course as course
 use Rattle.vf_expand.specs.Doing.{glyph_in}
-use Rattle.vf_expand.specs.declared.act.Current.{Current}
-use Rattle.vf_expand.specs.declared.act.Current.TheVariants as code
+use Rattle.vf_expand.specs.declared.current.Current.{Current}
+use Rattle.vf_expand.specs.declared.current.Current.TheVariants as code
+use Rattle.vf_expand.specs.declared.frames.Frame.{Frame}
+use Rattle.vf_expand.specs.declared.act.Source.{Source}
+use Rattle.vf_expand.specs.declared.act.Source.TheVariants.{Page, Packet}
 use Rattle.vf_expand.specs.declared.act.Act.{Act}
-use Rattle.vf_expand.specs.declared.act.Act.TheVariants.{Flat, Mark, Change, Ask, Stop}
+use Rattle.vf_expand.specs.declared.act.Act.TheVariants.{Flat, Mark, Change, Ask, Enter, Stop}
 
 abbrev pub seen_current : Current → course.Current
 seen_current code.NoFont = course.NoFont
 seen_current (code.Chosen key) = course.Chosen (arc_value key)
 seen_current (code.Known key font) = course.Known (arc_value key) (arc_value font)
+
+abbrev pub seen_place : Source → Place
+seen_place (Page index) = OnPage index.now.reading
+seen_place (Packet key font) = InPacket (arc_value key.now) font.now
 
 -- the current font's key is one of a document
 abbrev pub HasKey : course.Current → Type 0
@@ -30,7 +39,23 @@ HasKey course.NoFont = Unit {0}
 HasKey (course.Chosen k) = IsFontKey k
 HasKey (course.Known k d) = IsFontKey k
 
--- what a command makes of the current font, its position and what stands behind it
+-- in a packet dimensions are fix_words from -16 up to 16
+abbrev pub IsDimension : Place → ℤ → Type 0
+IsDimension (OnPage reading) z = Unit {0}
+IsDimension (InPacket k f) z = (negsuc 16777215 ≤ℤ z) × (z <ℤ pos 16777216)
+
+abbrev pub HasDimensions : Place → DviCommand → Type 0
+HasDimensions place (SetRule a b) = IsDimension place a × IsDimension place b
+HasDimensions place (PutRule a b) = IsDimension place a × IsDimension place b
+HasDimensions place (Right b) = IsDimension place b
+HasDimensions place (W b) = IsDimension place b
+HasDimensions place (X b) = IsDimension place b
+HasDimensions place (Down a) = IsDimension place a
+HasDimensions place (Y a) = IsDimension place a
+HasDimensions place (Z a) = IsDimension place a
+HasDimensions place _ = Unit {0}
+
+-- what a command makes of the current font, its position and what stands after it
 abbrev pub Part : Type 0
 Part = course.Current → ℕ → (course.Current → Course) → Course
 
@@ -47,27 +72,50 @@ pub record IsMark (part : Part) (current : course.Current) (f : FlatCommand) : T
   pub has : glyph_in (Some font) code ≡ Some glyph
   pub gives : (at : ℕ) (others : course.Current → Course) → part current at others ≡ Gives f (Some glyph) at (others current)
 
+-- the front of a packet of the font that was found, where one packet fewer may then stand inside it
+pub record IsEntry (n : ℕ) (part : Part) (current : course.Current) (level : Frame) : Type 0 where
+  pub key : FontKey
+  pub font : FontSeen
+  pub text : List ℕ
+  pub known : current ≡ course.Known key (decoded.Font font)
+  pub some : 0 < n
+  pub packet : packet_of font level.code ≡ Some text
+  pub program : IsProgram level.code text
+  pub front : level.pos ≡ 0
+  pub first : seen_current level.current ≡ first_font font
+  pub gives : (at : ℕ) (others : course.Current → Course) → part current at others
+      ≡ plain flat.Enter at (expand_list (expand_one (deeper (n - 1) at) (InPacket key font) at) (first_font font) (commands_of text) (leave level.gap at (others current)))
+
 -- any flat command but a character
 abbrev pub IsPlain : FlatCommand → Type 0
 IsPlain f = (k : FontKey) (c : ℕ) (width : ℤ) (put : Bool) → f ≡ Char k c width put → ⊥
 
--- an act is what a command gives, whatever stands behind it
-abbrev pub IsPart : Part → course.Current → Act → Type 0
-IsPart part current (Flat f) = (at : ℕ) (others : course.Current → Course) → part current at others ≡ plain (seen_flat f) at (others current)
-IsPart part current (Mark f) = IsMark part current (seen_flat f)
-IsPart part current (Change key) = (at : ℕ) (others : course.Current → Course) → part current at others ≡ plain flat.Skip at (others (course.Chosen (arc_value key)))
-IsPart part current (Ask key) = (current ≡ course.Chosen (arc_value key))
+-- an act is what a command gives, whatever stands after it, where so many packets may stand inside one another
+abbrev pub IsPart : ℕ → Part → course.Current → Act → Type 0
+IsPart n part current (Flat f) = (at : ℕ) (others : course.Current → Course) → part current at others ≡ plain (seen_flat f) at (others current)
+IsPart n part current (Mark f) = IsMark part current (seen_flat f)
+IsPart n part current (Change key) = (at : ℕ) (others : course.Current → Course) → part current at others ≡ plain flat.Skip at (others (course.Chosen (arc_value key)))
+IsPart n part current (Ask key) = (current ≡ course.Chosen (arc_value key))
     × ((at : ℕ) (others : course.Current → Course) → part current at others ≡ Asks (arc_value key) at (λ d. part (course.Known (arc_value key) d) at others))
-IsPart part current (Stop fault) = (at : ℕ) (others : course.Current → Course) → part current at others ≡ Stops (seen_fault fault) at
+IsPart n part current (Enter level) = IsEntry n part current level
+IsPart n part current (Stop fault) = (at : ℕ) (others : course.Current → Course) → part current at others ≡ Stops (seen_fault fault) at
 
-abbrev pub Acts : Reading → course.Current → DviCommand → Act → Type 0
-Acts reading current c act = IsPart (λ now at others. expand_one reading at now c others) current act
+abbrev pub Acts : Place → ℕ → course.Current → DviCommand → Act → Type 0
+Acts place n current c act = IsPart n (λ now at others. expand_one (deeper n at) place at now c others) current act
 
-abbrev pub CharacterActs : course.Current → ℤ → Bool → Act → Type 0
-CharacterActs current c put act = IsPart (λ now at others. character at now c put others) current act
+abbrev pub CharacterActs : Place → ℕ → course.Current → ℤ → Bool → Act → Type 0
+CharacterActs place n current c put act = IsPart n (λ now at others. character (deeper n at) place at now c put others) current act
 
-abbrev pub ChangeActs : Reading → course.Current → ℤ → Act → Type 0
-ChangeActs reading current n act = IsPart (λ now at others. changed_to (font_table reading n) at n others) current act
+-- a character of a virtual font that was found
+abbrev pub VirtualActs : ℕ → FontKey → FontSeen → ℤ → Option ℤ → Act → Type 0
+VirtualActs n k f c gap act = IsPart n (λ now at others. virtual (deeper n at) at k f c gap (others now)) (course.Known k (decoded.Font f)) act
+
+-- a character of a font that was found, wherever it stands
+abbrev pub FoundActs : ℕ → FontKey → Decoded → ℤ → Bool → Act → Type 0
+FoundActs n k d c put act = (place : Place) → CharacterActs place n (course.Known k d) c put act
+
+abbrev pub ChangeActs : Place → ℕ → course.Current → ℤ → Act → Type 0
+ChangeActs place n current number act = IsPart n (λ now at others. font_change place at number others) current act
 
 -- a flat command may be handed to a pen, and a key to a decoder
 abbrev pub FitsAct : Act → Type 0
@@ -75,4 +123,5 @@ FitsAct (Flat f) = IsInReach (seen_flat f) × IsPlain (seen_flat f)
 FitsAct (Mark f) = IsInReach (seen_flat f)
 FitsAct (Change key) = IsFontKey (arc_value key)
 FitsAct (Ask key) = IsFontKey (arc_value key)
+FitsAct (Enter level) = HasKey (seen_current level.current) × IfSome level.gap IsNumber
 FitsAct (Stop fault) = Unit {0}

@@ -1,24 +1,26 @@
--- A page as flat commands and look-ups of fonts: Knuth, DVItype, "Translation to symbolic form", and the task of Breitenlohner's
--- DVIcopy, "Terminating the page" and "Interpreting DVI commands". By cases on the list of the page's commands.
--- What a page becomes depends on fonts, each from its look-up on. So it is seen as a course: what comes next, and behind a look-up what
+-- A page as flat commands and look-ups of fonts: Knuth, DVItype, "Translation to symbolic form"; Knuth, VFtoVP, "Virtual fonts"; and the
+-- task of Breitenlohner's DVIcopy, "Terminating the page", "Interpreting DVI commands" and "Interpreting VF packets". By cases on the list
+-- of the page's commands; the commands of a packet are expanded where its character stands.
+-- What a page becomes depends on fonts, each from its look-up on. So it is seen as a course: what comes next, and after a look-up what
 -- each font that may be found makes of the rest.
 use Rattle.std.specs.Prelude.{ℕ, zero, suc, ◌/◌, ℤ, pos, negsuc, Bool, true, false, List, [], ◌∷◌, Option, Some, None, unwrap_or}
 use Rattle.outside.specs.declared.keys.FontKey.{FontKey}
+use Rattle.fix_word.specs.Scale.{scale}
 use Rattle.dvi_commands.specs.Spelling.{DviCommand, Set, Put, SetRule, PutRule, Push, Pop, Right, W0, W, X0, X, Down, Y0, Y, Z0, Z, Font}
-use Rattle.dvi_commands.specs.Reading.{Placed}
+use Rattle.dvi_commands.specs.Reading.{Placed, commands_of}
 use Rattle.drift_rules.specs.Position.{FlatCommand}
 use Rattle.drift_rules.specs.Position as flat
 use Rattle.page_index.specs.Document.{Reading, font_table}
 use Rattle.page_index.specs.Pages.{eop_at, page_commands}
 use Rattle.pk_runs.specs.declared.glyph.Glyph.{Glyph}
-use Rattle.font_decode.specs.Fonts.{FontSeen, width_of, glyph_at}
+use Rattle.font_decode.specs.Fonts.{FontSeen, width_of, glyph_at, is_virtual_of, packet_of, local_of, first_local_of}
 use Rattle.font_decode.specs.declared.decoded.Decoded.{Decoded}
 use Rattle.font_decode.specs.declared.decoded.Decoded.TheVariants as decoded
 use Rattle.vf_expand.specs.Faults.{PageFaultSeen}
 use Rattle.vf_expand.specs.Faults as fault
 
 -- what comes: a flat command, that of a character with its glyph; a look-up of a key, with what each font makes of the rest; or the end.
--- Each has the position of the page's command that it comes from; a page's end has that of its Eop
+-- Each has the position of the page's own command that it comes from; a page's end has that of its Eop
 pub data Course : Type 0 where
   Gives : FlatCommand → Option Glyph → ℕ → Course → Course
   Asks : FontKey → ℕ → (Decoded → Course) → Course
@@ -27,6 +29,11 @@ pub data Course : Type 0 where
 
 abbrev pub plain : FlatCommand → ℕ → Course → Course
 plain f at rest = Gives f None at rest
+
+-- where a command stands: on a page of a document, or in a packet of the virtual font with this key
+pub data Place : Type 0 where
+  OnPage : Reading → Place
+  InPacket : FontKey → FontSeen → Place
 
 -- the current font: none, a key that was not looked up since it became current, or a key with what was found
 pub data Current : Type 0 where
@@ -40,66 +47,141 @@ space NoFont = pos 0
 space (Chosen k) = pos (k.size / 6)
 space (Known k d) = pos (k.size / 6)
 
+-- a dimension in DVI units: in a packet it is a fix_word at the virtual font's size
+abbrev pub dimension : Place → ℤ → ℤ
+dimension (OnPage reading) z = z
+dimension (InPacket k f) z = scale z f.size
+
 -- ---- font changes
 
 -- a font becomes current, also where it is so already
-abbrev pub changed_to : Option FontKey → ℕ → ℤ → (Current → Course) → Course
-changed_to None at n others = Stops (fault.NoFont n) at
-changed_to (Some k) at n others = plain flat.Skip at (others (Chosen k))
+abbrev pub changed_to : Option FontKey → PageFaultSeen → ℕ → (Current → Course) → Course
+changed_to None f at others = Stops f at
+changed_to (Some k) f at others = plain flat.Skip at (others (Chosen k))
 
--- ---- characters
+-- a number that no local font has; it is named only where there are local fonts
+abbrev pub no_local : FontKey → Option ℤ → ℤ → PageFaultSeen
+no_local k None n = fault.NoLocalFont k None
+no_local k (Some first) n = fault.NoLocalFont k (Some n)
+
+abbrev pub font_change : Place → ℕ → ℤ → (Current → Course) → Course
+font_change (OnPage reading) at n others = changed_to (font_table reading n) (fault.NoFont n) at others
+font_change (InPacket k f) at n others = changed_to (local_of f n) (no_local k (first_local_of f) n) at others
+
+-- the first local font is current as a packet begins, and none where there are no local fonts
+abbrev pub local_key : FontSeen → Option ℤ → Option FontKey
+local_key f None = None
+local_key f (Some n) = local_of f n
+
+abbrev pub chosen : Option FontKey → Current
+chosen None = NoFont
+chosen (Some k) = Chosen k
+
+abbrev pub first_font : FontSeen → Current
+first_font f = chosen (local_key f (first_local_of f))
+
+-- ---- virtual characters
+
+-- what the commands of a packet of a font become, before what comes after them; None where no packet may stand any deeper
+abbrev pub Deeper : Type 0
+Deeper = Option (FontKey → FontSeen → List DviCommand → Course → Course)
+
+-- how far a character moves after its packet: not at all where it is put
+abbrev pub gap_of : ℤ → Bool → Option ℤ
+gap_of width true = None
+gap_of width false = Some width
+
+-- after a packet's commands
+abbrev pub leave : Option ℤ → ℕ → Course → Course
+leave None at behind = plain flat.Leave at behind
+leave (Some width) at behind = plain flat.Leave at (plain (flat.Advance width) at behind)
+
+abbrev pub packet : (FontKey → FontSeen → List DviCommand → Course → Course) → ℕ → FontKey → FontSeen → ℤ → Option ℤ → Option (List ℕ) → Course → Course
+packet inner at k f c gap None behind = Stops (fault.NoPacket k c) at
+packet inner at k f c gap (Some text) behind = plain flat.Enter at (inner k f (commands_of text) (leave gap at behind))
 
 -- the code as a number from 0
 abbrev pub number_of : ℤ → ℕ
 number_of (pos c) = c
 number_of (negsuc c) = 0
 
+-- too deep comes before a packet that isn't there
+abbrev pub virtual : Deeper → ℕ → FontKey → FontSeen → ℤ → Option ℤ → Course → Course
+virtual None at k f c gap behind = Stops (fault.Depth k c) at
+virtual (Some inner) at k f c gap behind = packet inner at k f c gap (packet_of f (number_of c)) behind
+
+-- ---- characters
+
 abbrev pub with_glyph : ℕ → FontKey → ℤ → ℤ → Bool → Option Glyph → Course → Course
 with_glyph at k c width put None behind = Stops (fault.NoGlyph k c) at
 with_glyph at k c width put (Some g) behind = Gives (flat.Char k (number_of c) width put) (Some g) at behind
 
-abbrev pub with_width : ℕ → FontKey → FontSeen → ℤ → Bool → Option ℤ → Course → Course
-with_width at k f c put None behind = Stops (fault.NoCharacter k c) at
-with_width at k f c put (Some width) behind = with_glyph at k c width put (glyph_at f (number_of c)) behind
+-- of a packed font, or of a virtual one
+abbrev pub by_kind : Deeper → ℕ → FontKey → FontSeen → ℤ → ℤ → Bool → Bool → Course → Course
+by_kind deeper at k f c width put false behind = with_glyph at k c width put (glyph_at f (number_of c)) behind
+by_kind deeper at k f c width put true behind = virtual deeper at k f c (gap_of width put) behind
+
+abbrev pub with_width : Deeper → ℕ → FontKey → FontSeen → ℤ → Bool → Option ℤ → Course → Course
+with_width deeper at k f c put None behind = Stops (fault.NoCharacter k c) at
+with_width deeper at k f c put (Some width) behind = by_kind deeper at k f c width put (is_virtual_of f) behind
 
 -- a character of the font that was found
-abbrev pub found : ℕ → FontKey → Decoded → ℤ → Bool → Course → Course
-found at k (decoded.Fault f) c put behind = Stops (fault.Font k f) at
-found at k (decoded.Font f) c put behind = with_width at k f c put (width_of f c) behind
+abbrev pub found : Deeper → ℕ → FontKey → Decoded → ℤ → Bool → Course → Course
+found deeper at k (decoded.Fault f) c put behind = Stops (fault.Font k f) at
+found deeper at k (decoded.Font f) c put behind = with_width deeper at k f c put (width_of f c) behind
 
--- the current font is looked up at the first character behind its change, and there alone
-abbrev pub character : ℕ → Current → ℤ → Bool → (Current → Course) → Course
-character at NoFont c put others = Stops fault.NoCurrentFont at
-character at (Chosen k) c put others = Asks k at (λ d. found at k d c put (others (Known k d)))
-character at (Known k d) c put others = found at k d c put (others (Known k d))
+-- a character where no font is current; in a packet the font then has no local fonts
+abbrev pub no_font : Place → PageFaultSeen
+no_font (OnPage reading) = fault.NoCurrentFont
+no_font (InPacket k f) = fault.NoLocalFont k None
+
+-- the current font is looked up at the first character after its change, and there alone
+abbrev pub character : Deeper → Place → ℕ → Current → ℤ → Bool → (Current → Course) → Course
+character deeper place at NoFont c put others = Stops (no_font place) at
+character deeper place at (Chosen k) c put others = Asks k at (λ d. found deeper at k d c put (others (Known k d)))
+character deeper place at (Known k d) c put others = found deeper at k d c put (others (Known k d))
 
 -- ---- commands
 
--- one case for each command that moves or marks; the others of a page do nothing
-abbrev pub expand_one : Reading → ℕ → Current → DviCommand → (Current → Course) → Course
-expand_one reading at current (Set c) others = character at current c false others
-expand_one reading at current (Put c) others = character at current c true others
-expand_one reading at current (Font n) others = changed_to (font_table reading n) at n others
-expand_one reading at current (SetRule a b) others = plain (flat.Rule a b false) at (others current)
-expand_one reading at current (PutRule a b) others = plain (flat.Rule a b true) at (others current)
-expand_one reading at current (Right b) others = plain (flat.Right b (space current)) at (others current)
-expand_one reading at current (W b) others = plain (flat.W b (space current)) at (others current)
-expand_one reading at current (X b) others = plain (flat.X b (space current)) at (others current)
-expand_one reading at current (Down a) others = plain (flat.Down a (space current)) at (others current)
-expand_one reading at current (Y a) others = plain (flat.Y a (space current)) at (others current)
-expand_one reading at current (Z a) others = plain (flat.Z a (space current)) at (others current)
-expand_one reading at current W0 others = plain (flat.W0 (space current)) at (others current)
-expand_one reading at current X0 others = plain (flat.X0 (space current)) at (others current)
-expand_one reading at current Y0 others = plain (flat.Y0 (space current)) at (others current)
-expand_one reading at current Z0 others = plain (flat.Z0 (space current)) at (others current)
-expand_one reading at current Push others = plain flat.Push at (others current)
-expand_one reading at current Pop others = plain flat.Pop at (others current)
-expand_one reading at current _ others = plain flat.Skip at (others current)
+-- one case for each command that moves or marks; the others of a page and of a packet do nothing
+abbrev pub expand_one : Deeper → Place → ℕ → Current → DviCommand → (Current → Course) → Course
+expand_one deeper place at current (Set c) others = character deeper place at current c false others
+expand_one deeper place at current (Put c) others = character deeper place at current c true others
+expand_one deeper place at current (Font n) others = font_change place at n others
+expand_one deeper place at current (SetRule a b) others = plain (flat.Rule (dimension place a) (dimension place b) false) at (others current)
+expand_one deeper place at current (PutRule a b) others = plain (flat.Rule (dimension place a) (dimension place b) true) at (others current)
+expand_one deeper place at current (Right b) others = plain (flat.Right (dimension place b) (space current)) at (others current)
+expand_one deeper place at current (W b) others = plain (flat.W (dimension place b) (space current)) at (others current)
+expand_one deeper place at current (X b) others = plain (flat.X (dimension place b) (space current)) at (others current)
+expand_one deeper place at current (Down a) others = plain (flat.Down (dimension place a) (space current)) at (others current)
+expand_one deeper place at current (Y a) others = plain (flat.Y (dimension place a) (space current)) at (others current)
+expand_one deeper place at current (Z a) others = plain (flat.Z (dimension place a) (space current)) at (others current)
+expand_one deeper place at current W0 others = plain (flat.W0 (space current)) at (others current)
+expand_one deeper place at current X0 others = plain (flat.X0 (space current)) at (others current)
+expand_one deeper place at current Y0 others = plain (flat.Y0 (space current)) at (others current)
+expand_one deeper place at current Z0 others = plain (flat.Z0 (space current)) at (others current)
+expand_one deeper place at current Push others = plain flat.Push at (others current)
+expand_one deeper place at current Pop others = plain flat.Pop at (others current)
+expand_one deeper place at current _ others = plain flat.Skip at (others current)
+
+-- the commands of a packet, one after another, and what comes after them; the font that is then current is the packet's own
+abbrev pub expand_list : (Current → DviCommand → (Current → Course) → Course) → Current → List DviCommand → Course → Course
+expand_list one current [] behind = behind
+expand_list one current (c ∷ commands) behind = one current c (λ next. expand_list one next commands behind)
+
+-- where so many packets may still stand inside one another; all that a packet gives has the position of the page's own command
+unfoldable pub deeper : ℕ → ℕ → Deeper
+deeper zero at = None
+deeper (suc n) at = Some (λ k f commands behind. expand_list (expand_one (deeper n at) (InPacket k f) at) (first_font f) commands behind)
+
+abbrev pub MOST_DEEP : ℕ
+MOST_DEEP = 10
 
 -- a page's commands from one on, with the position of its Eop
 abbrev pub page_from : Reading → ℕ → Current → List Placed → Course
 page_from reading eop current [] = Ends eop
-page_from reading eop current (p ∷ commands) = expand_one reading p.at current p.command (λ next. page_from reading eop next commands)
+page_from reading eop current (p ∷ commands) =
+    expand_one (deeper MOST_DEEP p.at) (OnPage reading) p.at current p.command (λ next. page_from reading eop next commands)
 
 -- ---- at most so many flat commands: where no more may be given, only the end may stand
 

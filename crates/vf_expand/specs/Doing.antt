@@ -1,14 +1,66 @@
 -- A page that is being expanded, as its calls see it: what stands to be expanded, and what the last step was.
-use Rattle.std.specs.Prelude.{ℕ, ◌+◌, ◌-◌, Bool, List, Option, Some, None, if◌then◌else◌}
-use Rattle.outside.specs.declared.keys.FontKey.{FontKey}
+use Rattle.std.specs.Prelude.{◌≡◌, ℕ, suc, ◌+◌, ◌-◌, ℤ, Bool, List, [], ◌∷◌, length, Option, Some, None, if◌then◌else◌}
+use Rattle.dvi_commands.specs.Spelling.{DviCommand}
 use Rattle.dvi_commands.specs.Reading.{Placed}
-use Rattle.drift_rules.specs.Position.{FlatCommand, Char}
+use Rattle.drift_rules.specs.Position.{FlatCommand, Char, Advance}
 use Rattle.page_index.specs.Document.{Reading}
 use Rattle.pk_runs.specs.declared.glyph.Glyph.{Glyph}
 use Rattle.font_decode.specs.Fonts.{glyph_at}
 use Rattle.font_decode.specs.declared.decoded.Decoded.{Decoded}
 use Rattle.font_decode.specs.declared.decoded.Decoded.TheVariants as decoded
-use Rattle.vf_expand.specs.Course.{Course, Gives, Asks, Ends, Stops, Current, NoFont, Chosen, Known, page_from, cut}
+use Rattle.vf_expand.specs.Course.{Course, Gives, Asks, Ends, Stops, plain, Place, OnPage, InPacket, Current, NoFont, Chosen, Known, MOST_DEEP, deeper, expand_one, expand_list, leave, page_from, cut}
+
+-- a packet that is read: the font that is current outside it, which is its own, how far its character moves after it, and the commands
+-- that are left
+pub record Packet : Type 0 where
+  pub outside : Current
+  pub gap : Option ℤ
+  pub commands : List DviCommand
+
+-- what is read: the page's own commands that are left, and the packets inside one another, the innermost first
+pub record Stack : Type 0 where
+  pub page : List Placed
+  pub packets : List Packet
+
+-- the page alone
+abbrev pub Page : List Placed → Stack
+Page commands = record { page = commands; packets = [] }
+
+-- a packet inside all others
+abbrev pub Within : Packet → Stack → Stack
+Within p outer = record { page = outer.page; packets = p ∷ outer.packets }
+
+-- how many packets stand inside one another
+abbrev pub depth : Stack → ℕ
+depth stack = length stack.packets
+
+-- nothing is left of the packet that is read, or of the page
+abbrev pub AreEnded : List Placed → List Packet → Type 0
+AreEnded commands [] = commands ≡ []
+AreEnded commands (p ∷ outer) = p.commands ≡ []
+
+abbrev pub IsEnded : Stack → Type 0
+IsEnded stack = AreEnded stack.page stack.packets
+
+-- in a packet of the virtual font that was found
+abbrev pub place_in : Reading → Current → Place
+place_in reading (Known k (decoded.Font f)) = InPacket k f
+place_in reading _ = OnPage reading
+
+-- what is left of the packets and of the page, where the page's own command at a position is being expanded
+abbrev pub packets_left : Reading → ℕ → ℕ → List Placed → Current → List Packet → Course
+packets_left reading eop at commands current [] = page_from reading eop current commands
+packets_left reading eop at commands current (p ∷ outer) =
+    expand_list (expand_one (deeper (MOST_DEEP - suc (length outer)) at) (place_in reading p.outside) at) current p.commands
+    (leave p.gap at (packets_left reading eop at commands p.outside outer))
+
+abbrev pub stack_left : Reading → ℕ → ℕ → Current → Stack → Course
+stack_left reading eop at current stack = packets_left reading eop at stack.page current stack.packets
+
+-- a motion that is still to come after a packet's end
+abbrev pub due_left : Option ℤ → ℕ → Course → Course
+due_left None at rest = rest
+due_left (Some width) at rest = plain (Advance width) at rest
 
 -- `at` is the position of the last step, and `budget` how many flat commands may still be given. The last step gave a character where
 -- it is marked
@@ -18,15 +70,16 @@ pub record Doing : Type 0 where
   pub at : ℕ
   pub budget : ℕ
   pub marked : Bool
+  pub due : Option ℤ
   pub current : Current
-  pub commands : List Placed
+  pub stack : Stack
 
 -- what is still to come
-unfoldable pub course_left : Reading → ℕ → ℕ → Current → List Placed → Course
-course_left reading eop budget current commands = cut budget (page_from reading eop current commands)
+unfoldable pub course_left : Reading → ℕ → ℕ → ℕ → Option ℤ → Current → Stack → Course
+course_left reading eop at budget due current stack = cut budget (due_left due at (stack_left reading eop at current stack))
 
 abbrev pub left : Doing → Course
-left v = course_left v.reading v.eop v.budget v.current v.commands
+left v = course_left v.reading v.eop v.at v.budget v.due v.current v.stack
 
 -- a look-up stands next
 abbrev pub IsAtLook : Course → Type 0

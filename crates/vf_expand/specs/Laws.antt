@@ -1,5 +1,5 @@
 -- What is true of a page's course and its list.
-use Rattle.std.specs.Prelude.{◌≡◌, ℕ, ◌/◌, pos, true, false, List, [], ◌∷◌, ◌++◌, Some, None}
+use Rattle.std.specs.Prelude.{◌≡◌, ℕ, zero, suc, ◌/◌, ℤ, pos, negsuc, true, false, List, [], ◌∷◌, ◌++◌, Some, None}
 use Rattle.outside.specs.Library as library
 use Rattle.outside.specs.declared.keys.FontKey.{FontKey}
 use Rattle.pixel_round.specs.declared.units.Units.{Units}
@@ -9,10 +9,10 @@ use Rattle.drift_rules.specs.Position as flat
 use Rattle.page_index.specs.Document.{Reading, font_table}
 use Rattle.pk_runs.specs.declared.glyph.Glyph.{Glyph}
 use Rattle.font_decode.specs.Decoding.{IsFontIn}
-use Rattle.font_decode.specs.Fonts.{FontSeen, width_of, glyph_at}
+use Rattle.font_decode.specs.Fonts.{FontSeen, width_of, glyph_at, is_virtual_of, packet_of, local_of, first_local_of}
 use Rattle.font_decode.specs.declared.decoded.Decoded.TheVariants as decoded
 use Rattle.font_decode.specs.Laws.{AreByteFiles}
-use Rattle.vf_expand.specs.Faults.{TooLong}
+use Rattle.vf_expand.specs.Faults.{Depth, TooLong}
 use Rattle.vf_expand.specs.Course.{Course, NoFont, course_of}
 use Rattle.vf_expand.specs.Members.{Member, Flat, Look, Leads, looks_of}
 use Rattle.vf_expand.specs.PageLists.{AtEnd, AtFault, Fonts, before, full_list, limited, list_from, list_of, no_more}
@@ -45,7 +45,7 @@ ListsAreFollowed = (l : library.Files) (u : Units) (fonts : Fonts) (reading : Re
     → (to : Course) × Leads (IsFontIn l u) (course_of reading i) (list_of fonts reading i).members to
     × (list_from fonts to ≡ no_more (list_of fonts reading i).ending)
 
--- ---- a worked page
+-- ---- worked pages
 
 -- font 7, the character 65 set and put, a motion, font 7 again, and the character once more; each with its position, and Eop at 68
 abbrev pub worked : List Placed
@@ -70,3 +70,53 @@ pub record IsWorked (fonts : Fonts) (reading : Reading) (k : FontKey) (g : Glyph
 abbrev pub ThePageIsWorked : Type 0
 ThePageIsWorked = (fonts : Fonts) (reading : Reading) (k : FontKey) (f : FontSeen) (g : Glyph) → font_table reading (pos 7) ≡ Some k → fonts k ≡ decoded.Font f
     → width_of f (pos 65) ≡ Some (pos 8) → glyph_at f 65 ≡ Some g → IsWorked fonts reading k g
+
+-- ---- virtual characters
+
+-- a font with these local fonts and this packet of the character 65, which is so wide
+pub record HasPacket (f : FontSeen) (wide : ℤ) (text : List ℕ) (local : FontKey) : Type 0 where
+  pub virtual : is_virtual_of f ≡ true
+  pub width : width_of f (pos 65) ≡ Some wide
+  pub packet : packet_of f 65 ≡ Some text
+  pub first : first_local_of f ≡ Some (pos 0)
+  pub key : local_of f (pos 0) ≡ Some local
+
+-- font 0, the character 65 set and put, and a motion; Eop at 85
+abbrev pub characters : List Placed
+characters =
+    placed 80 (Font (pos 0)) (171 ∷ []) ∷ placed 81 (Set (pos 65)) (65 ∷ []) ∷ placed 82 (Put (pos 65)) (133 ∷ 65 ∷ []) ∷ placed 83 (Right (pos 9)) (143 ∷ 9 ∷ []) ∷ []
+
+-- its packet: the character 65 of the first local font, a motion right by a factor of -1/2^20 of the font's size, and a push and a pop
+abbrev pub a_packet : List ℕ
+a_packet = 65 ∷ 143 ∷ 255 ∷ 141 ∷ 142 ∷ []
+
+-- what the packet gives, at a position: the local font is looked up once, and the motion is rounded down
+abbrev pub packet_members : FontKey → Glyph → ℕ → List Member
+packet_members local g at =
+    Flat flat.Enter None at ∷ Look local at ∷ Flat (flat.Char local 65 (pos 3) false) (Some g) at ∷ Flat (flat.Right (negsuc 0) (pos (local.size / 6))) None at
+    ∷ Flat flat.Push None at ∷ Flat flat.Pop None at ∷ Flat flat.Leave None at ∷ []
+
+-- the page's font is looked up once, and is current again after each packet; the character that is set moves by its own width after it
+abbrev pub ThePacketIsWorked : Type 0
+ThePacketIsWorked = (fonts : Fonts) (reading : Reading) (k local : FontKey) (f l : FontSeen) (g : Glyph) → font_table reading (pos 0) ≡ Some k → f.size ≡ 128
+    → fonts k ≡ decoded.Font f → HasPacket f (pos 6) a_packet local
+    → fonts local ≡ decoded.Font l → width_of l (pos 65) ≡ Some (pos 3) → glyph_at l 65 ≡ Some g
+    → full_list fonts reading 85 NoFont characters ≡ record {
+      members = (Flat flat.Skip None 80 ∷ Look k 81 ∷ packet_members local g 81) ++ (Flat (flat.Advance (pos 6)) None 81 ∷ packet_members local g 82)
+          ++ (Flat (flat.Right (pos 9) (pos (k.size / 6))) None 83 ∷ []);
+      ending = AtEnd 85;
+    }
+
+-- so many packets, each of which stands in the one before it, look their font up and begin
+abbrev pub entered : FontKey → ℕ → ℕ → List Member
+entered k at zero = []
+entered k at (suc n) = Look k at ∷ Flat flat.Enter None at ∷ entered k at n
+
+-- a font whose character sets itself: ten packets stand inside one another, and the next one is too deep
+abbrev pub LoopsAreTooDeep : Type 0
+LoopsAreTooDeep = (fonts : Fonts) (reading : Reading) (k : FontKey) (f : FontSeen) → font_table reading (pos 0) ≡ Some k
+    → fonts k ≡ decoded.Font f → HasPacket f (pos 8) (65 ∷ []) k
+    → full_list fonts reading 85 NoFont characters ≡ record {
+      members = Flat flat.Skip None 80 ∷ entered k 81 10 ++ (Look k 81 ∷ []);
+      ending = AtFault (Depth k (pos 65)) 81;
+    }

@@ -3,6 +3,7 @@ pub mod Course
 pub mod Doing
 pub mod Steps
 pub mod Acts
+pub mod Levels
 pub mod View
 pub mod Members
 pub mod PageLists

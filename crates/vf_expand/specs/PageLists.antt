@@ -1,20 +1,21 @@
--- The whole list of a page, where it is given which font is found for each key: Knuth, DVItype, "Translation to symbolic form", and the
--- task of Breitenlohner's DVIcopy, "Terminating the page" and "Interpreting DVI commands". By cases on the list of the page's commands.
+-- The whole list of a page, where it is given which font is found for each key: Knuth, DVItype, "Translation to symbolic form"; Knuth,
+-- VFtoVP, "Virtual fonts"; and the task of Breitenlohner's DVIcopy, "Terminating the page", "Interpreting DVI commands" and "Interpreting
+-- VF packets". By cases on the list of the page's commands; a packet's list stands where its character does.
 use Rattle.std.specs.Prelude.{ℕ, zero, suc, ℤ, Bool, true, false, List, [], ◌∷◌, ◌++◌, Option, Some, None, unwrap_or}
 use Rattle.outside.specs.declared.keys.FontKey.{FontKey}
 use Rattle.dvi_commands.specs.Spelling.{DviCommand, Set, Put, SetRule, PutRule, Push, Pop, Right, W0, W, X0, X, Down, Y0, Y, Z0, Z, Font}
-use Rattle.dvi_commands.specs.Reading.{Placed}
+use Rattle.dvi_commands.specs.Reading.{Placed, commands_of}
 use Rattle.drift_rules.specs.Position.{FlatCommand}
 use Rattle.drift_rules.specs.Position as flat
 use Rattle.page_index.specs.Document.{Reading, font_table}
 use Rattle.page_index.specs.Pages.{eop_at, page_commands}
 use Rattle.pk_runs.specs.declared.glyph.Glyph.{Glyph}
-use Rattle.font_decode.specs.Fonts.{FontSeen, width_of, glyph_at}
+use Rattle.font_decode.specs.Fonts.{FontSeen, width_of, glyph_at, is_virtual_of, packet_of, local_of, first_local_of}
 use Rattle.font_decode.specs.declared.decoded.Decoded.{Decoded}
 use Rattle.font_decode.specs.declared.decoded.Decoded.TheVariants as decoded
 use Rattle.vf_expand.specs.Faults.{PageFaultSeen}
 use Rattle.vf_expand.specs.Faults as fault
-use Rattle.vf_expand.specs.Course.{Course, Gives, Asks, Ends, Stops, Current, NoFont, Chosen, Known, MOST, number_of, space}
+use Rattle.vf_expand.specs.Course.{Course, Gives, Asks, Ends, Stops, Place, OnPage, InPacket, Current, NoFont, Chosen, Known, MOST, MOST_DEEP, dimension, first_font, gap_of, no_font, no_local, number_of, space}
 use Rattle.vf_expand.specs.Members.{Member, Flat, Look}
 
 -- how a list ends: at the page's end, or at its first fault, with the position
@@ -37,7 +38,7 @@ before members rest = record { members = members ++ rest.members; ending = rest.
 abbrev pub Fonts : Type 0
 Fonts = FontKey → Decoded
 
--- ---- what one command gives: members, and the font that is then current or a fault
+-- ---- what commands give: members, and the font that is then current or a fault
 
 pub data Outcome : Type 0 where
   Goes : List Member → Current → Outcome
@@ -46,52 +47,105 @@ pub data Outcome : Type 0 where
 abbrev pub plainly : FlatCommand → ℕ → Current → Outcome
 plainly f at current = Goes (Flat f None at ∷ []) current
 
+-- members, and the outcome that comes after them
+abbrev pub after : List Member → Outcome → Outcome
+after first (Goes members next) = Goes (first ++ members) next
+after first (Faults members f) = Faults (first ++ members) f
+
+abbrev pub followed : Outcome → (Current → Outcome) → Outcome
+followed (Goes members next) others = after members (others next)
+followed (Faults members f) others = Faults members f
+
+-- ---- virtual characters
+
+-- the commands of a packet, one after another
+abbrev pub of_list : (Current → DviCommand → Outcome) → Current → List DviCommand → Outcome
+of_list one current [] = Goes [] current
+of_list one current (c ∷ commands) = followed (one current c) (λ next. of_list one next commands)
+
+-- what the commands of a packet of a font give; None where no packet may stand any deeper
+abbrev pub Packets : Type 0
+Packets = Option (FontKey → FontSeen → List DviCommand → Outcome)
+
+-- a character that was set moves after its packet, and one that was put doesn't
+abbrev pub leaving : Option ℤ → ℕ → List Member
+leaving None at = Flat flat.Leave None at ∷ []
+leaving (Some width) at = Flat flat.Leave None at ∷ Flat (flat.Advance width) None at ∷ []
+
+-- the font that is current before a packet is so after it
+abbrev pub framed : ℕ → Current → Option ℤ → Outcome → Outcome
+framed at current gap (Goes members last) = Goes (Flat flat.Enter None at ∷ members ++ leaving gap at) current
+framed at current gap (Faults members f) = Faults (Flat flat.Enter None at ∷ members) f
+
+abbrev pub of_packet : (FontKey → FontSeen → List DviCommand → Outcome) → ℕ → FontKey → FontSeen → ℤ → Option ℤ → Option (List ℕ) → Outcome
+of_packet inner at k f c gap None = Faults [] (fault.NoPacket k c)
+of_packet inner at k f c gap (Some text) = framed at (Known k (decoded.Font f)) gap (inner k f (commands_of text))
+
+-- too deep comes before a packet that isn't there
+abbrev pub of_virtual : Packets → ℕ → FontKey → FontSeen → ℤ → Option ℤ → Outcome
+of_virtual None at k f c gap = Faults [] (fault.Depth k c)
+of_virtual (Some inner) at k f c gap = of_packet inner at k f c gap (packet_of f (number_of c))
+
+-- ---- characters
+
 abbrev pub of_glyph : ℕ → FontKey → Decoded → ℤ → ℤ → Bool → Option Glyph → Outcome
 of_glyph at k d c width put None = Faults [] (fault.NoGlyph k c)
 of_glyph at k d c width put (Some g) = Goes (Flat (flat.Char k (number_of c) width put) (Some g) at ∷ []) (Known k d)
 
-abbrev pub of_width : ℕ → FontKey → FontSeen → ℤ → Bool → Option ℤ → Outcome
-of_width at k f c put None = Faults [] (fault.NoCharacter k c)
-of_width at k f c put (Some width) = of_glyph at k (decoded.Font f) c width put (glyph_at f (number_of c))
+-- of a packed font, or of a virtual one
+abbrev pub of_kind : Packets → ℕ → FontKey → FontSeen → ℤ → ℤ → Bool → Bool → Outcome
+of_kind packets at k f c width put false = of_glyph at k (decoded.Font f) c width put (glyph_at f (number_of c))
+of_kind packets at k f c width put true = of_virtual packets at k f c (gap_of width put)
+
+abbrev pub of_width : Packets → ℕ → FontKey → FontSeen → ℤ → Bool → Option ℤ → Outcome
+of_width packets at k f c put None = Faults [] (fault.NoCharacter k c)
+of_width packets at k f c put (Some width) = of_kind packets at k f c width put (is_virtual_of f)
 
 -- a character of a font
-abbrev pub of_found : ℕ → FontKey → Decoded → ℤ → Bool → Outcome
-of_found at k (decoded.Fault f) c put = Faults [] (fault.Font k f)
-of_found at k (decoded.Font f) c put = of_width at k f c put (width_of f c)
-
-abbrev pub after_look : Member → Outcome → Outcome
-after_look look (Goes members next) = Goes (look ∷ members) next
-after_look look (Faults members f) = Faults (look ∷ members) f
+abbrev pub of_found : Packets → ℕ → FontKey → Decoded → ℤ → Bool → Outcome
+of_found packets at k (decoded.Fault f) c put = Faults [] (fault.Font k f)
+of_found packets at k (decoded.Font f) c put = of_width packets at k f c put (width_of f c)
 
 -- a look-up stands before the first character after its font became current, and nowhere else
-abbrev pub of_character : Fonts → ℕ → Current → ℤ → Bool → Outcome
-of_character fonts at NoFont c put = Faults [] fault.NoCurrentFont
-of_character fonts at (Chosen k) c put = after_look (Look k at) (of_found at k (fonts k) c put)
-of_character fonts at (Known k d) c put = of_found at k d c put
+abbrev pub of_character : Fonts → Packets → Place → ℕ → Current → ℤ → Bool → Outcome
+of_character fonts packets place at NoFont c put = Faults [] (no_font place)
+of_character fonts packets place at (Chosen k) c put = after (Look k at ∷ []) (of_found packets at k (fonts k) c put)
+of_character fonts packets place at (Known k d) c put = of_found packets at k d c put
 
-abbrev pub of_change : ℕ → ℤ → Option FontKey → Outcome
-of_change at n None = Faults [] (fault.NoFont n)
-of_change at n (Some k) = plainly flat.Skip at (Chosen k)
+-- ---- commands
 
-abbrev pub of_command : Fonts → Reading → ℕ → Current → DviCommand → Outcome
-of_command fonts reading at current (Set c) = of_character fonts at current c false
-of_command fonts reading at current (Put c) = of_character fonts at current c true
-of_command fonts reading at current (Font n) = of_change at n (font_table reading n)
-of_command fonts reading at current (SetRule a b) = plainly (flat.Rule a b false) at current
-of_command fonts reading at current (PutRule a b) = plainly (flat.Rule a b true) at current
-of_command fonts reading at current (Right b) = plainly (flat.Right b (space current)) at current
-of_command fonts reading at current (W b) = plainly (flat.W b (space current)) at current
-of_command fonts reading at current (X b) = plainly (flat.X b (space current)) at current
-of_command fonts reading at current (Down a) = plainly (flat.Down a (space current)) at current
-of_command fonts reading at current (Y a) = plainly (flat.Y a (space current)) at current
-of_command fonts reading at current (Z a) = plainly (flat.Z a (space current)) at current
-of_command fonts reading at current W0 = plainly (flat.W0 (space current)) at current
-of_command fonts reading at current X0 = plainly (flat.X0 (space current)) at current
-of_command fonts reading at current Y0 = plainly (flat.Y0 (space current)) at current
-of_command fonts reading at current Z0 = plainly (flat.Z0 (space current)) at current
-of_command fonts reading at current Push = plainly flat.Push at current
-of_command fonts reading at current Pop = plainly flat.Pop at current
-of_command fonts reading at current _ = plainly flat.Skip at current
+abbrev pub of_change : ℕ → PageFaultSeen → Option FontKey → Outcome
+of_change at f None = Faults [] f
+of_change at f (Some k) = plainly flat.Skip at (Chosen k)
+
+abbrev pub of_font : Place → ℕ → ℤ → Outcome
+of_font (OnPage reading) at n = of_change at (fault.NoFont n) (font_table reading n)
+of_font (InPacket k f) at n = of_change at (no_local k (first_local_of f) n) (local_of f n)
+
+abbrev pub of_command : Fonts → Packets → Place → ℕ → Current → DviCommand → Outcome
+of_command fonts packets place at current (Set c) = of_character fonts packets place at current c false
+of_command fonts packets place at current (Put c) = of_character fonts packets place at current c true
+of_command fonts packets place at current (Font n) = of_font place at n
+of_command fonts packets place at current (SetRule a b) = plainly (flat.Rule (dimension place a) (dimension place b) false) at current
+of_command fonts packets place at current (PutRule a b) = plainly (flat.Rule (dimension place a) (dimension place b) true) at current
+of_command fonts packets place at current (Right b) = plainly (flat.Right (dimension place b) (space current)) at current
+of_command fonts packets place at current (W b) = plainly (flat.W (dimension place b) (space current)) at current
+of_command fonts packets place at current (X b) = plainly (flat.X (dimension place b) (space current)) at current
+of_command fonts packets place at current (Down a) = plainly (flat.Down (dimension place a) (space current)) at current
+of_command fonts packets place at current (Y a) = plainly (flat.Y (dimension place a) (space current)) at current
+of_command fonts packets place at current (Z a) = plainly (flat.Z (dimension place a) (space current)) at current
+of_command fonts packets place at current W0 = plainly (flat.W0 (space current)) at current
+of_command fonts packets place at current X0 = plainly (flat.X0 (space current)) at current
+of_command fonts packets place at current Y0 = plainly (flat.Y0 (space current)) at current
+of_command fonts packets place at current Z0 = plainly (flat.Z0 (space current)) at current
+of_command fonts packets place at current Push = plainly flat.Push at current
+of_command fonts packets place at current Pop = plainly flat.Pop at current
+of_command fonts packets place at current _ = plainly flat.Skip at current
+
+-- where so many packets may stand inside one another; all that a packet gives has the position of the page's own command
+unfoldable pub packets_in : Fonts → ℕ → ℕ → Packets
+packets_in fonts zero at = None
+packets_in fonts (suc n) at = Some (λ k f commands. of_list (of_command fonts (packets_in fonts n at) (InPacket k f) at) (first_font f) commands)
 
 -- ---- the commands of a page, one after another, with the position of its Eop
 
@@ -102,7 +156,7 @@ joined at (Faults members f) rest = record { members = members; ending = AtFault
 abbrev pub full_list : Fonts → Reading → ℕ → Current → List Placed → PageList
 full_list fonts reading eop current [] = no_more (AtEnd eop)
 full_list fonts reading eop current (p ∷ commands) =
-    joined p.at (of_command fonts reading p.at current p.command) (λ next. full_list fonts reading eop next commands)
+    joined p.at (of_command fonts (packets_in fonts MOST_DEEP p.at) (OnPage reading) p.at current p.command) (λ next. full_list fonts reading eop next commands)
 
 -- ---- at most so many flat commands, and the look-ups before them; where more comes, only the page's end may
 

@@ -1,160 +1,149 @@
-//! What one command gives, by the font that is current.
-ghost use Rattle.std.specs.Prelude.{◌≡◌, ◌<◌, ℕ, pos, IfOk};
+//! What one command gives, by where it stands and the font that is current.
+ghost use Rattle.std.specs.Prelude.{◌≡◌, ℕ, IfOk};
 ghost use Rattle.std.specs.Arc.{arc_value};
 ghost use Rattle.dvi_commands.specs.Spelling.{seen};
+ghost use Rattle.font_decode.specs.Fonts.{first_local_of};
 ghost use Rattle.drift_rules.specs.Position.{Rule, seen_flat};
-ghost use Rattle.drift_rules.specs.Bounds.{IsSpace};
-ghost use Rattle.outside.specs.FontKeys.{IsFontKey};
-ghost use Rattle.font_decode.specs.declared.decoded.Decoded.TheVariants as decoded;
-ghost use Rattle.vf_expand.specs.Course.{space};
-ghost use Rattle.vf_expand.specs.Course as course;
-ghost use Rattle.vf_expand.specs.Acts.{Acts, CharacterActs, ChangeActs, FitsAct, HasKey, seen_current};
+ghost use Rattle.drift_rules.specs.Bounds.{IsNumber};
+ghost use Rattle.vf_expand.specs.Course.{dimension, no_local};
+ghost use Rattle.vf_expand.specs.Faults.{seen_fault};
+ghost use Rattle.vf_expand.specs.Acts.{Acts, ChangeActs, FitsAct, HasDimensions, HasKey, IsDimension, seen_current, seen_place};
 
+use crate::character::character;
+use crate::current::{Current, space_of};
 use crate::faults::PageFault;
+use crate::frames::Frame;
+use crate::keys::PageKeys;
 use drift_rules::Flat;
 use dvi_commands::Command;
-use font_decode::{Decoded, Font};
+use fix_word::scale;
+use font_decode::Font;
 use outside::FontKey;
 use page_index::Index;
-use std::alloc::{AllocError as NoMemory, Global};
+use std::alloc::AllocError as NoMemory;
 use std::sync::Arc;
 
-/// The current font: none, one that was not looked up since it became current, or one with what was found.
-#[derive(Drop)]
-pub enum Current {
-    NoFont,
-    Chosen(Arc<FontKey>),
-    Known(Arc<FontKey>, Arc<Decoded>),
+/// Where a command stands: on a page, or in a packet of the virtual font with this key.
+#[derive(Clone, Copy)]
+pub enum Source<'a> {
+    Page(&'a Index<'a>),
+    Packet(&'a Arc<FontKey>, &'a Font),
 }
 
-/// What a command gives: a flat command, that of a character, a new current font, a look-up, or a stop.
+/// What a command gives: a flat command, that of a character, a new current font, a look-up, the front
+/// of a packet, or a stop.
 #[derive(Drop)]
 pub enum Act {
     Flat(Flat),
     Mark(Flat),
     Change(Arc<FontKey>),
     Ask(Arc<FontKey>),
+    Enter(Frame),
     Stop(PageFault),
 }
 
-// A sixth of the current font's size.
-fn space_of(current: &Current) -> i64
-    requires { HasKey (seen_current current.now) }
-    ensures value { result ≡ space (seen_current current.now) }
-    ensures fits { IsSpace result }
+// A dimension in DVI units. In a packet it is a fix_word at the virtual font's size.
+fn dimension_of(source: Source, z: i32) -> i64
+    requires { IsDimension (seen_place source) z }
+    ensures value { result ≡ dimension (seen_place source.entry) z }
+    ensures fits { IsNumber result }
 {
-    match current {
-        Current::NoFont => 0,
-        Current::Chosen(key) => i64::from(key.size / 6),
-        Current::Known(key, _) => i64::from(key.size / 6),
+    match source {
+        Source::Page(_) => i64::from(z),
+        Source::Packet(_, font) => scale(z, font.size()),
     }
 }
 
-// A font change. The key is copied, so that the page's characters share a count with no other page.
-fn change(alloc: Global, index: &Index, current: &Current, number: i32) -> Result<Act, NoMemory>
-    ensures acts { IfOk result (ChangeActs index.now.reading (seen_current current.now) number) }
-    ensures fits { IfOk result FitsAct }
+// A font change in a packet to a number that no local font has.
+fn no_local(key: &Arc<FontKey>, font: &Font, number: i32) -> Result<PageFault, NoMemory>
+    ensures { IfOk result (λ fault. seen_fault fault ≡ no_local (arc_value key.now) (first_local_of font.now) number) }
 {
-    match index.font(number) {
-        Some(key) => Ok(Act::Change(Arc::new(alloc, FontKey::clone(key)?)?)),
-        None => Ok(Act::Stop(PageFault::NoFont(number))),
+    let key = Arc::try_clone(key)?;
+    match font.first_local() {
+        Some(_) => Ok(PageFault::NoLocalFont(key, Some(number))),
+        None => Ok(PageFault::NoLocalFont(key, None)),
     }
 }
 
-// A character of a font that has files.
-fn mark(key: &Arc<FontKey>, font: &Font, code: i32, put: bool) -> Result<Act, NoMemory>
-    ensures acts { IfOk result (CharacterActs (course.Known (arc_value key.now) (decoded.Font font.now)) code put) }
+// A font change.
+fn change(
+    keys: &mut PageKeys,
+    source: Source,
+    current: &Current,
+    number: i32,
+) -> Result<Act, NoMemory>
+    ensures acts { IfOk result (λ act. (n : ℕ) → ChangeActs (seen_place source.entry) n (seen_current current.now) number act) }
     ensures fits { IfOk result FitsAct }
 {
-    let Some(width) = font.width(code) else {
-        return Ok(Act::Stop(PageFault::NoCharacter(Arc::try_clone(key)?, code)));
-    };
-    if font.glyph(code as u32).is_none() {
-        return Ok(Act::Stop(PageFault::NoGlyph(Arc::try_clone(key)?, code)));
-    }
-    Ok(Act::Mark(Flat::Char {
-        key: Arc::try_clone(key)?,
-        code: code as u8,
-        width,
-        put,
-    }))
-}
-
-// A character of the font that was found.
-fn found(key: &Arc<FontKey>, decoded: &Decoded, code: i32, put: bool) -> Result<Act, NoMemory>
-    ensures acts { IfOk result (CharacterActs (course.Known (arc_value key.now) decoded.now) code put) }
-    ensures fits { IfOk result FitsAct }
-{
-    match decoded {
-        Decoded::Fault(fault) => Ok(Act::Stop(PageFault::Font(Arc::try_clone(key)?, *fault))),
-        Decoded::Font(font) => mark(key, font, code, put),
-    }
-}
-
-// A character.
-fn character(current: &Current, code: i32, put: bool) -> Result<Act, NoMemory>
-    requires { HasKey (seen_current current.now) }
-    ensures acts { IfOk result (CharacterActs (seen_current current.now) code put) }
-    ensures fits { IfOk result FitsAct }
-{
-    match current {
-        Current::NoFont => Ok(Act::Stop(PageFault::NoCurrentFont)),
-        Current::Chosen(key) => Ok(Act::Ask(Arc::try_clone(key)?)),
-        Current::Known(key, font) => found(key, font, code, put),
+    match source {
+        Source::Page(index) => match index.font(number) {
+            Some(key) => Ok(Act::Change(keys.own(key)?)),
+            None => Ok(Act::Stop(PageFault::NoFont(number))),
+        },
+        Source::Packet(key, font) => match font.local(number) {
+            Some(local) => Ok(Act::Change(keys.own(local)?)),
+            None => Ok(Act::Stop(no_local(key, font, number)?)),
+        },
     }
 }
 
 // A rule, whose sides are in DVI units.
-fn rule(height: i32, width: i32, put: bool) -> Flat
+fn rule(height: i64, width: i64, put: bool) -> Flat
     ensures { seen_flat result ≡ Rule height width put }
 {
-    Flat::Rule {
-        height: i64::from(height),
-        width: i64::from(width),
-        put,
-    }
+    Flat::Rule { height, width, put }
 }
 
-/// What a command of a page gives.
+/// What a command gives, where so many packets may stand inside one another.
 pub fn expanded(
-    alloc: Global,
-    index: &Index,
+    keys: &mut PageKeys,
+    source: Source,
+    room: usize,
     current: &Current,
     command: &Command,
 ) -> Result<Act, NoMemory>
-    requires { HasKey (seen_current current.now) }
-    ensures acts { IfOk result (Acts index.now.reading (seen_current current.now) (seen command.now)) }
+    requires key { HasKey (seen_current current.now) }
+    requires dimensions { HasDimensions (seen_place source) (seen command.now) }
+    ensures acts { IfOk result (Acts (seen_place source.entry) room (seen_current current.now) (seen command.now)) }
     ensures fits { IfOk result FitsAct }
 {
     let space = space_of(current);
     let flat = match command {
-        Command::Set(code) => return character(current, *code, false),
-        Command::Put(code) => return character(current, *code, true),
-        Command::Font(number) => return change(alloc, index, current, *number),
-        Command::SetRule { height, width } => rule(*height, *width, false),
-        Command::PutRule { height, width } => rule(*height, *width, true),
+        Command::Set(code) => return character(keys, source, room, current, *code, false),
+        Command::Put(code) => return character(keys, source, room, current, *code, true),
+        Command::Font(number) => return change(keys, source, current, *number),
+        Command::SetRule { height, width } => rule(
+            dimension_of(source, *height),
+            dimension_of(source, *width),
+            false,
+        ),
+        Command::PutRule { height, width } => rule(
+            dimension_of(source, *height),
+            dimension_of(source, *width),
+            true,
+        ),
         Command::Right(by) => Flat::Right {
-            by: i64::from(*by),
+            by: dimension_of(source, *by),
             space,
         },
         Command::W(by) => Flat::W {
-            by: i64::from(*by),
+            by: dimension_of(source, *by),
             space,
         },
         Command::X(by) => Flat::X {
-            by: i64::from(*by),
+            by: dimension_of(source, *by),
             space,
         },
         Command::Down(by) => Flat::Down {
-            by: i64::from(*by),
+            by: dimension_of(source, *by),
             space,
         },
         Command::Y(by) => Flat::Y {
-            by: i64::from(*by),
+            by: dimension_of(source, *by),
             space,
         },
         Command::Z(by) => Flat::Z {
-            by: i64::from(*by),
+            by: dimension_of(source, *by),
             space,
         },
         Command::W0 => Flat::W0 { space },

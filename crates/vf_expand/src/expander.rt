@@ -3,15 +3,19 @@ ghost use Rattle.std.specs.Prelude.{◌≡◌, ◌<◌, ◌+◌, Some, None, IfO
 ghost use Rattle.std.specs.Arc.{arc_value};
 ghost use Rattle.page_index.specs.Document.{pages_begun};
 ghost use Rattle.vf_expand.specs.Course.{course_of, MOST as THE_MOST};
-ghost use Rattle.vf_expand.specs.Doing.{IsAtLook, answered, asks_left, left, marked_font, place_of, steps_left};
+ghost use Rattle.vf_expand.specs.Doing.{IsAtLook, IsEnded, answered, asks_left, left, marked_font, place_of, steps_left};
 ghost use Rattle.vf_expand.specs.Steps.{Fits, Steps};
 
-use crate::act::{Act, Current, expanded};
+use crate::act::{Act, expanded};
+use crate::current::Current;
 use crate::faults::PageFault;
+use crate::frames::{Frame, Frames};
+use crate::keys::PageKeys;
+use crate::opened::opened;
 use crate::progress::Progress;
 use crate::step::Step;
 use drift_rules::Flat;
-use dvi_commands::{Context, command_at};
+use dvi_commands::command_at;
 use font_decode::Decoded;
 use page_index::Index;
 use std::alloc::{AllocError as NoMemory, Global};
@@ -19,15 +23,21 @@ use std::marker::Model;
 use std::mem;
 use std::sync::Arc;
 
-/// A page that is being expanded.
+/// How many packets may stand inside one another.
+const MOST_DEEP: usize = 10;
+
+/// A page that is being expanded. The level that is read is the page or a packet; a motion is due after
+/// the packet of a character that was set.
 #[derive(Drop)]
 pub struct Expander<'a> {
-    alloc: Global,
     index: &'a Index<'a>,
     bytes: &'a [u8],
     start: usize,
     progress: Progress,
-    current: Current,
+    due: Option<i64>,
+    level: Frame,
+    outer: Frames,
+    keys: PageKeys,
 }
 
 impl<'a> Model for Expander<'a> {
@@ -53,64 +63,149 @@ impl<'a> Expander<'a> {
     {
         let page = index.page(i);
         Ok(Expander {
-            alloc,
             index,
             bytes: page.bytes,
             start: page.at,
             progress: Progress::at_first(page.at),
-            current: Current::NoFont,
+            due: None,
+            level: Frame {
+                code: 0,
+                pos: 0,
+                gap: None,
+                current: Current::NoFont,
+            },
+            outer: Frames::new(alloc),
+            keys: PageKeys::new(alloc),
         })
+    }
+
+    // The motion after the packet of a character that was set.
+    fn advance(&mut self, width: i64) -> Step
+        requires { self.old.due ≡ Some width }
+        ensures step { Steps self.old result self.new }
+        ensures fits { Fits result self.new }
+    {
+        if self.progress.budget == 0 {
+            self.progress = self.progress.stopped(self.progress.at);
+            return Step::Stop(PageFault::TooLong);
+        }
+        self.due = None;
+        self.progress = self.progress.given(self.progress.at, false);
+        Step::Flat(Flat::Advance { width })
+    }
+
+    // The page's end, or the end of a packet.
+    fn ended(&mut self) -> Step
+        requires undue { self.old.due ≡ None }
+        requires ended { IsEnded self.old.stack }
+        ensures step { Steps self.old result self.new }
+        ensures fits { Fits result self.new }
+    {
+        if self.outer.top().is_none() {
+            self.progress = self.progress.stopped(self.start + self.bytes.len());
+            return Step::End;
+        }
+        if self.progress.budget == 0 {
+            self.progress = self.progress.stopped(self.progress.at);
+            return Step::Stop(PageFault::TooLong);
+        }
+        let Some(outside) = self.outer.pop() else {
+            unreachable!();
+        };
+        self.due = self.level.gap;
+        self.level = outside;
+        self.progress = self.progress.given(self.progress.at, false);
+        Step::Flat(Flat::Leave)
+    }
+
+    // The next command of the page or of a packet, or its end.
+    fn read(&mut self) -> Result<Step, NoMemory>
+        requires undue { self.old.due ≡ None }
+        ensures step { IfOk result (λ step. Steps self.old step self.new) }
+        ensures fits { IfOk result (λ step. Fits step self.new) }
+        ensures err { OnErr result (self.new ≡ self.old) }
+    {
+        let reading = opened(
+            self.index,
+            self.bytes,
+            self.start,
+            self.progress.at,
+            &self.level,
+            &self.outer,
+        );
+        let at = reading.at;
+        if self.level.pos == reading.text.len() {
+            return Ok(self.ended());
+        }
+        if self.progress.budget == 0 {
+            self.progress = self.progress.stopped(at);
+            return Ok(Step::Stop(PageFault::TooLong));
+        }
+        let room = MOST_DEEP - self.outer.len();
+        let (command, end) = command_at(reading.text, self.level.pos, reading.context);
+        match expanded(
+            &mut self.keys,
+            reading.source,
+            room,
+            &self.level.current,
+            &command,
+        )? {
+            Act::Flat(flat) => {
+                self.level.pos = end;
+                self.progress = self.progress.given(at, false);
+                Ok(Step::Flat(flat))
+            }
+            Act::Mark(flat) => {
+                self.level.pos = end;
+                self.progress = self.progress.given(at, true);
+                Ok(Step::Flat(flat))
+            }
+            Act::Change(key) => {
+                self.level.pos = end;
+                self.level.current = Current::Chosen(key);
+                self.progress = self.progress.given(at, false);
+                Ok(Step::Flat(Flat::Skip))
+            }
+            Act::Ask(key) => {
+                self.progress = self.progress.stopped(at);
+                Ok(Step::Ask(key))
+            }
+            Act::Enter(level) => {
+                self.outer.enter(&mut self.level, level, end)?;
+                self.progress = self.progress.given(at, false);
+                Ok(Step::Flat(Flat::Enter))
+            }
+            Act::Stop(fault) => {
+                self.progress = self.progress.stopped(at);
+                Ok(Step::Stop(fault))
+            }
+        }
     }
 
     /// The next step of the page.
     ///
-    /// Each command gives one flat command; a nop, a special, a font definition and a font change give
-    /// one that does nothing. A font is asked for at the first character after the change to it, and
-    /// again until it is handed in.
-    /// The page stops at a change to a font that isn't defined, at a character where no font is current,
-    /// whose font has a fault, no width or no glyph for it, and, where 2^24 flat commands were given, in
-    /// front of anything but its end. `End` and `Stop` come again and again. Where memory is wanting
-    /// nothing has changed.
+    /// Each command of the page or of a packet gives one flat command; a nop, a special, a font
+    /// definition and a font change give one that does nothing. A character of a virtual font gives
+    /// `Enter`, what the commands of its packet give, with their dimensions scaled to the font's size
+    /// and rounded down, `Leave`, and `Advance` by its width where it was set. A packet begins with the
+    /// first local font of its font. A font is asked for at the first character after the change to it,
+    /// and again until it is handed in; the page's font is still the one found after a packet.
     ///
-    /// Knuth, DVItype, "Translation to symbolic form".
+    /// The page stops at a change to a font that isn't defined; at a character where no font is current;
+    /// at one whose font has a fault, no width, no glyph or no packet for it, or whose packet would be
+    /// the eleventh inside one another; and, where 2^24 flat commands were given, in front of anything
+    /// but its end. `End` and `Stop` come again and again. Where memory is wanting nothing has changed.
+    ///
+    /// Knuth, DVItype, "Translation to symbolic form"; VFtoVP, "Virtual fonts"; Breitenlohner, DVIcopy,
+    /// "Interpreting VF packets".
     pub fn next(&mut self) -> Result<Step, NoMemory>
         ensures step { IfOk result (λ step. Steps self.old step self.new) }
         ensures fits { IfOk result (λ step. Fits step self.new) }
         ensures err { OnErr result (self.new ≡ self.old) }
     {
-        let pos = self.progress.pos;
-        let place = self.start + pos;
-        if pos == self.bytes.len() {
-            self.progress = self.progress.stopped(place);
-            return Ok(Step::End);
-        }
-        if self.progress.budget == 0 {
-            self.progress = self.progress.stopped(place);
-            return Ok(Step::Stop(PageFault::TooLong));
-        }
-        let (command, end) = command_at(self.bytes, pos, Context::Page);
-        match expanded(self.alloc, self.index, &self.current, &command)? {
-            Act::Flat(flat) => {
-                self.progress = self.progress.given(place, end, false);
-                Ok(Step::Flat(flat))
-            }
-            Act::Mark(flat) => {
-                self.progress = self.progress.given(place, end, true);
-                Ok(Step::Flat(flat))
-            }
-            Act::Change(key) => {
-                self.progress = self.progress.given(place, end, false);
-                self.current = Current::Chosen(key);
-                Ok(Step::Flat(Flat::Skip))
-            }
-            Act::Ask(key) => {
-                self.progress = self.progress.stopped(place);
-                Ok(Step::Ask(key))
-            }
-            Act::Stop(fault) => {
-                self.progress = self.progress.stopped(place);
-                Ok(Step::Stop(fault))
-            }
+        match self.due {
+            Some(width) => Ok(self.advance(width)),
+            None => self.read(),
         }
     }
 
@@ -124,8 +219,8 @@ impl<'a> Expander<'a> {
         ensures asks { asks_left self.new + 1 ≡ asks_left self.old }
         ensures fewer { steps_left self.new < steps_left self.old }
     {
-        let current = mem::replace(&mut self.current, Current::NoFont);
-        self.current = match current {
+        let current = mem::replace(&mut self.level.current, Current::NoFont);
+        self.level.current = match current {
             Current::Chosen(key) => Current::Known(key, font),
             _ => unreachable!(),
         };
@@ -138,7 +233,7 @@ impl<'a> Expander<'a> {
         if !self.progress.marked {
             return None;
         }
-        match &self.current {
+        match &self.level.current {
             Current::Known(_, font) => Some(font),
             _ => None,
         }

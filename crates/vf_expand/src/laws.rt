@@ -1,5 +1,5 @@
 //! What is true of a page's course and its list.
-ghost use Rattle.vf_expand.specs.Laws.{CoursesAreLists, LibrariesHaveFonts, MembersAreTheList, LooksAreThePages, ListsAreFollowed, ThePageIsWorked};
+ghost use Rattle.vf_expand.specs.Laws.{CoursesAreLists, LibrariesHaveFonts, MembersAreTheList, LooksAreThePages, ListsAreFollowed, LoopsAreTooDeep, ThePacketIsWorked, ThePageIsWorked};
 
 /// A page's course and its one list, whatever the fonts are; over a library, what is followed of it is
 /// the list's beginning, and so are its look-ups.
@@ -10,4 +10,6 @@ pub fn lists()
     ensures looks { LooksAreThePages }
     ensures followed { ListsAreFollowed }
     ensures worked { ThePageIsWorked }
+    ensures packets { ThePacketIsWorked }
+    ensures loops { LoopsAreTooDeep }
 {}

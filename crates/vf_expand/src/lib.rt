@@ -1,12 +1,18 @@
-//! A page as flat commands: `Expander` takes the commands of a page one after another and gives each as
-//! a command of the pen. It asks for a font where its first character stands, and ends at the page's end
-//! or at its first fault.
+//! A page as flat commands: `Expander` takes the commands of a page, and of the packets of its virtual
+//! characters, one after another and gives each as a command of the pen. It asks for a font where its
+//! first character stands, and ends at the page's end or at its first fault. Packets inside one another
+//! are a list of at most ten levels; a packet's bytes are read where they stand.
 #![tactic(auto)]
 
 mod act;
+mod character;
+mod current;
 mod expander;
 mod faults;
+mod frames;
+mod keys;
 pub mod laws;
+mod opened;
 mod progress;
 mod step;
 

@@ -1,17 +1,28 @@
-use Rattle.std.proofs.Common.{◌≡◌, ◌∙◌, sym, ap, subst, to_z, of_z, w32, arith, IfOk}
+use Rattle.std.proofs.Common.{◌≡◌, ◌∙◌, ℕ, Result, Ok, Err, sym, ap, subst, to_z, of_z, w32, arith, IfOk}
 use Rattle.std.proofs.lemmas.Int.{ints}
-use Rattle.dvi_commands.specs.Spelling.{DviCommand, Put, Set, seen}
-use Rattle.vf_expand.specs.Acts.{Acts, seen_current}
+use Rattle.dvi_commands.specs.Spelling.{DviCommand, Font, Put, Set, seen}
+use Rattle.vf_expand.specs.Acts.{Acts, seen_current, seen_place}
 use Rattle.vf_expand.proofs.act.expanded.Goals as goal
 
 pub returns-in-Set-clause-acts : goal.returns-in-Set-clause-acts
 returns-in-Set-clause-acts c =
     let same : c.in-Set.code ≡ to_z w32 (of_z w32 c.in-Set.code) = omega (arith, ints) in
-    subst (λ (x : DviCommand). IfOk c.character.result (Acts c.args.index.now.reading (seen_current c.args.current.now) x))
+    subst (λ (x : DviCommand). IfOk c.character.result (Acts (seen_place c.args.source) c.args.room (seen_current c.args.current.now) x))
     (sym (ap seen c.in-Set.is ∙ ap Set same)) c.character.ensures.acts
 
 pub returns-in-Put-clause-acts : goal.returns-in-Put-clause-acts
 returns-in-Put-clause-acts c =
     let same : c.in-Put.code ≡ to_z w32 (of_z w32 c.in-Put.code) = omega (arith, ints) in
-    subst (λ (x : DviCommand). IfOk c.character-in-Put.result (Acts c.args.index.now.reading (seen_current c.args.current.now) x))
+    subst (λ (x : DviCommand). IfOk c.character-in-Put.result (Acts (seen_place c.args.source) c.args.room (seen_current c.args.current.now) x))
     (sym (ap seen c.in-Put.is ∙ ap Put same)) c.character-in-Put.ensures.acts
+
+at_room : {A E : Type 0} (P : ℕ → A → Type 0) (r : Result A E) (n : ℕ) → IfOk r (λ a. (m : ℕ) → P m a) → IfOk r (P n)
+at_room P (Ok a) n h = h n
+at_room P (Err e) n h = tt
+
+pub returns-in-Font-clause-acts : goal.returns-in-Font-clause-acts
+returns-in-Font-clause-acts c =
+    let same : c.in-Font.number ≡ to_z w32 (of_z w32 c.in-Font.number) = omega (arith, ints) in
+    subst (λ (x : DviCommand). IfOk c.change.result (Acts (seen_place c.args.source) c.args.room (seen_current c.args.current.now) x))
+    (sym (ap seen c.in-Font.is ∙ ap Font same))
+    (at_room (λ n a. Acts (seen_place c.args.source) n (seen_current c.args.current.now) (Font (to_z w32 (of_z w32 c.in-Font.number))) a) c.change.result c.args.room c.change.ensures.acts)

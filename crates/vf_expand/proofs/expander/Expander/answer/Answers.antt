@@ -1,12 +1,15 @@
-use Rattle.std.proofs.Common.{◌≡◌, ◌∙◌, refl, sym, ap}
+use Rattle.std.proofs.Common.{◌≡◌, ◌∙◌, refl, sym, ap, subst}
 use Rattle.std.specs.Arc.{arc_value}
 use Rattle.outside.specs.declared.keys.FontKey.{FontKey}
 use Rattle.vf_expand.specs.Course as course
-use Rattle.vf_expand.specs.declared.act.Current.{Current}
-use Rattle.vf_expand.specs.declared.act.Current.TheVariants as code
-use Rattle.vf_expand.specs.Acts.{seen_current}
+use Rattle.vf_expand.specs.declared.current.Current.{Current}
+use Rattle.vf_expand.specs.declared.current.Current.TheVariants as code
+use Rattle.vf_expand.specs.Acts.{HasKey, seen_current}
+use Rattle.vf_expand.specs.Doing.{Stack, left}
+use Rattle.vf_expand.proofs.Heads.{stack_same}
+use Rattle.vf_expand.proofs.Levels.{has_key, same_levels}
 use Rattle.vf_expand.specs.View.{seen_expander}
-use Rattle.vf_expand.proofs.Left.{answered_rest, answered_asks, answered_fewer, answered_unmarked, key_wanted}
+use Rattle.vf_expand.proofs.Looks.{answered_rest, answered_asks, answered_fewer, answered_unmarked, key_wanted}
 use Rattle.vf_expand.proofs.expander.Expander.answer.Goals as goal
 
 pub returns-clause-rest : goal.returns-clause-rest
@@ -14,7 +17,24 @@ returns-clause-rest c =
     let x = c.self.inside in
     let look = rw (← c.self.view_is) at c.requires in
     let chosen = ap seen_current (sym c.replace-current.ensures.value ∙ c.in-Chosen.is) in
-    rw (← c.self.view_is) (answered_rest (seen_expander x) (arc_value c.in-Chosen.key) chosen look (arc_value c.args.font))
+    let now = code.Known c.in-Chosen.key c.args.font in
+    let same = stack_same x.bytes.now x.start x.level now x.outer in
+    rw (← c.self.view_is) (ap (λ (s : Stack). left (record (seen_expander x) { current = seen_current now; stack = s })) same
+    ∙ answered_rest (seen_expander x) (arc_value c.in-Chosen.key) chosen look (arc_value c.args.font))
+
+-- the key that was waited for is that of the current font, whatever was found
+pub invariant_of-self : goal.invariant_of-self
+invariant_of-self c =
+    let x = c.self.inside in
+    let chosen = ap seen_current (sym c.replace-current.ensures.value ∙ c.in-Chosen.is) in
+    let key = subst HasKey chosen (has_key x.bytes.now x.level x.outer c.self.invariant.levels) in
+    record {
+      room = c.self.invariant.room;
+      deep = c.self.invariant.deep;
+      levels = same_levels x.bytes.now x.level (code.Known c.in-Chosen.key c.args.font) x.outer key c.self.invariant.levels;
+      due = c.self.invariant.due;
+      marked = λ h. refl;
+    }
 
 pub returns-clause-unmarked : goal.returns-clause-unmarked
 returns-clause-unmarked c =

@@ -1,4 +1,4 @@
-use Rattle.drift_rules.proofs.pen.Pen.advance.Goals as goal
+use Rattle.drift_rules.proofs.pen.Pen.move_registers.Goals as goal
 
 pub returns-in-Ok-clause-moved : goal.returns-in-Ok-clause-moved
 returns-in-Ok-clause-moved c =

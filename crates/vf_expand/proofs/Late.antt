@@ -1,0 +1,107 @@
+-- Where no more flat commands may be given, whatever stands next stands at its position.
+use Rattle.std.proofs.Common.{◌≡◌, ℕ, zero, suc, ◌-◌, ◌<◌, ℤ, Bool, true, false, List, [], ◌∷◌, refl, sym, ap, ◌∙◌, arith, Some, None, Option}
+use Rattle.dvi_commands.specs.Spelling.{DviCommand, Set, Put, SetRule, PutRule, Push, Pop, Right, W0, W, X0, X, Down, Y0, Y, Z0, Z, Font}
+use Rattle.outside.specs.declared.keys.FontKey.{FontKey}
+use Rattle.drift_rules.specs.Position.{FlatCommand}
+use Rattle.page_index.specs.Document.{font_table}
+use Rattle.pk_runs.specs.declared.glyph.Glyph.{Glyph}
+use Rattle.font_decode.specs.Fonts.{FontSeen, width_of, glyph_at, is_virtual_of, packet_of, local_of, first_local_of}
+use Rattle.font_decode.specs.declared.decoded.Decoded.{Decoded}
+use Rattle.font_decode.specs.declared.decoded.Decoded.TheVariants as decoded
+use Rattle.vf_expand.specs.Faults.{PageFaultSeen, TooLong}
+use Rattle.vf_expand.specs.Faults as fault
+use Rattle.vf_expand.specs.Course.{Course, Gives, Asks, Ends, Stops, Place, OnPage, InPacket, Current, NoFont, Chosen, Known, Deeper, expand_one, expand_list, cut, character, found, with_width, by_kind, with_glyph, virtual, packet, leave, gap_of, changed_to, font_change, no_local, number_of}
+
+-- ---- what is left, by what stands next
+
+one_less : (b : ℕ) → suc b - 1 ≡ b
+one_less b = omega arith
+
+pub give_cut : (b : ℕ) (x y : Course) (f : FlatCommand) (g : Option Glyph) (at : ℕ) → 0 < b → x ≡ Gives f g at y → cut b x ≡ Gives f g at (cut (b - 1) y)
+give_cut zero x y f g at h e = absurd (omega arith)
+give_cut (suc b) x y f g at h e = ap (cut (suc b)) e ∙ ap (λ (n : ℕ). Gives f g at (cut n y)) (sym (one_less b))
+
+pub ask_cut : (b : ℕ) (x : Course) (k : FontKey) (at : ℕ) (rest : Decoded → Course) → 0 < b → x ≡ Asks k at rest → cut b x ≡ Asks k at (λ d. cut b (rest d))
+ask_cut zero x k at rest h e = absurd (omega arith)
+ask_cut (suc b) x k at rest h e = ap (cut (suc b)) e
+
+pub stop_cut : (b : ℕ) (x : Course) (f : PageFaultSeen) (at : ℕ) → 0 < b → x ≡ Stops f at → cut b x ≡ Stops f at
+stop_cut zero x f at h e = absurd (omega arith)
+stop_cut (suc b) x f at h e = ap (cut (suc b)) e
+
+pub end_cut : (b : ℕ) (x : Course) (at : ℕ) → x ≡ Ends at → cut b x ≡ Ends at
+end_cut zero x at e = ap (cut zero) e
+end_cut (suc b) x at e = ap (cut (suc b)) e
+
+-- ---- no room
+
+late_glyph : (at : ℕ) (k : FontKey) (c width : ℤ) (put : Bool) (glyph : Option Glyph) (behind : Course) → cut 0 (with_glyph at k c width put glyph behind) ≡ Stops TooLong at
+late_glyph at k c width put None behind = refl
+late_glyph at k c width put (Some g) behind = refl
+
+late_packet : (inner : FontKey → FontSeen → List DviCommand → Course → Course) (at : ℕ) (k : FontKey) (f : FontSeen) (c : ℤ) (gap : Option ℤ) (text : Option (List ℕ)) (behind : Course)
+    → cut 0 (packet inner at k f c gap text behind) ≡ Stops TooLong at
+late_packet inner at k f c gap None behind = refl
+late_packet inner at k f c gap (Some text) behind = refl
+
+late_virtual : (deep : Deeper) (at : ℕ) (k : FontKey) (f : FontSeen) (c : ℤ) (gap : Option ℤ) (behind : Course) → cut 0 (virtual deep at k f c gap behind) ≡ Stops TooLong at
+late_virtual None at k f c gap behind = refl
+late_virtual (Some inner) at k f c gap behind = late_packet inner at k f c gap (packet_of f (number_of c)) behind
+
+late_kind : (deep : Deeper) (at : ℕ) (k : FontKey) (f : FontSeen) (c width : ℤ) (put is_virtual : Bool) (behind : Course)
+    → cut 0 (by_kind deep at k f c width put is_virtual behind) ≡ Stops TooLong at
+late_kind deep at k f c width put false behind = late_glyph at k c width put (glyph_at f (number_of c)) behind
+late_kind deep at k f c width put true behind = late_virtual deep at k f c (gap_of width put) behind
+
+late_width : (deep : Deeper) (at : ℕ) (k : FontKey) (f : FontSeen) (c : ℤ) (put : Bool) (width : Option ℤ) (behind : Course)
+    → cut 0 (with_width deep at k f c put width behind) ≡ Stops TooLong at
+late_width deep at k f c put None behind = refl
+late_width deep at k f c put (Some width) behind = late_kind deep at k f c width put (is_virtual_of f) behind
+
+late_found : (deep : Deeper) (at : ℕ) (k : FontKey) (d : Decoded) (c : ℤ) (put : Bool) (behind : Course) → cut 0 (found deep at k d c put behind) ≡ Stops TooLong at
+late_found deep at k (decoded.Fault fault) c put behind = refl
+late_found deep at k (decoded.Font f) c put behind = late_width deep at k f c put (width_of f c) behind
+
+late_character : (deep : Deeper) (place : Place) (at : ℕ) (current : Current) (c : ℤ) (put : Bool) (others : Current → Course)
+    → cut 0 (character deep place at current c put others) ≡ Stops TooLong at
+late_character deep place at NoFont c put others = refl
+late_character deep place at (Chosen k) c put others = refl
+late_character deep place at (Known k d) c put others = late_found deep at k d c put (others (Known k d))
+
+late_changed : (k : Option FontKey) (f : PageFaultSeen) (at : ℕ) (others : Current → Course) → cut 0 (changed_to k f at others) ≡ Stops TooLong at
+late_changed None f at others = refl
+late_changed (Some k) f at others = refl
+
+late_font : (place : Place) (at : ℕ) (n : ℤ) (others : Current → Course) → cut 0 (font_change place at n others) ≡ Stops TooLong at
+late_font (OnPage reading) at n others = late_changed (font_table reading n) (fault.NoFont n) at others
+late_font (InPacket k f) at n others = late_changed (local_of f n) (no_local k (first_local_of f) n) at others
+
+pub late_one : (deep : Deeper) (place : Place) (at : ℕ) (current : Current) (c : DviCommand) (others : Current → Course) → cut 0 (expand_one deep place at current c others) ≡ Stops TooLong at
+late_one deep place at current (Set c) others = late_character deep place at current c false others
+late_one deep place at current (Put c) others = late_character deep place at current c true others
+late_one deep place at current (Font n) others = late_font place at n others
+late_one deep place at current (SetRule a b) others = refl
+late_one deep place at current (PutRule a b) others = refl
+late_one deep place at current (Right b) others = refl
+late_one deep place at current (W b) others = refl
+late_one deep place at current (X b) others = refl
+late_one deep place at current (Down b) others = refl
+late_one deep place at current (Y b) others = refl
+late_one deep place at current (Z b) others = refl
+late_one deep place at current W0 others = refl
+late_one deep place at current X0 others = refl
+late_one deep place at current Y0 others = refl
+late_one deep place at current Z0 others = refl
+late_one deep place at current Push others = refl
+late_one deep place at current Pop others = refl
+late_one deep place at current _ others = refl
+
+late_leave : (gap : Option ℤ) (at : ℕ) (x : Course) → cut 0 (leave gap at x) ≡ Stops TooLong at
+late_leave None at x = refl
+late_leave (Some width) at x = refl
+
+-- in a packet
+pub late_list : (deep : Deeper) (place : Place) (at : ℕ) (current : Current) (commands : List DviCommand) (gap : Option ℤ) (behind : Course)
+    → cut 0 (expand_list (expand_one deep place at) current commands (leave gap at behind)) ≡ Stops TooLong at
+late_list deep place at current [] gap behind = late_leave gap at behind
+late_list deep place at current (c ∷ commands) gap behind = late_one deep place at current c (λ next. expand_list (expand_one deep place at) next commands (leave gap at behind))

@@ -1,0 +1,245 @@
+-- The steps of a page that is being expanded.
+use Rattle.std.proofs.Common.{◌≡◌, ℕ, suc, ◌+◌, ◌-◌, ◌<◌, ◌≤◌, ℤ, Bool, true, false, List, [], drop, refl, sym, ap, subst, ◌∙◌, arith, Some, None, Option}
+use Rattle.std.specs.Prelude.{unwrap_or}
+use Rattle.std.specs.Arc.{arc_value}
+use Rattle.dvi_commands.specs.Spelling.{DviCommand}
+use Rattle.dvi_commands.specs.Reading.{Placed, commands_of}
+use Rattle.outside.specs.declared.keys.FontKey.{FontKey}
+use Rattle.drift_rules.specs.Position.{FlatCommand, seen_flat}
+use Rattle.drift_rules.specs.Position as flat
+use Rattle.drift_rules.specs.declared.flat.Flat.{Flat}
+use Rattle.pk_runs.specs.declared.glyph.Glyph.{Glyph}
+use Rattle.font_decode.specs.declared.decoded.Decoded.{Decoded}
+use Rattle.vf_expand.specs.Faults.{seen_fault, TooLong}
+use Rattle.vf_expand.specs.Course.{Course, Gives, Asks, Ends, Stops, plain, Place, InPacket, Current, NoFont, Chosen, Known, MOST_DEEP, deeper, expand_one, expand_list, first_font, leave, page_from, cut}
+use Rattle.vf_expand.specs.Acts.{Acts, IsEntry, seen_current}
+use Rattle.vf_expand.specs.Doing.{Doing, IsAtLook, Packet, Stack, Page, Within, answered, asks_from, course_left, depth, due_left, font_of, glyph_for, glyph_in, left, marked_font, place_in, stack_left}
+use Rattle.vf_expand.specs.Levels.{seen_packet, text_in}
+use Rattle.vf_expand.specs.Steps.{AsksOne, GivesOne, Stays}
+use Rattle.vf_expand.specs.declared.act.Act.TheVariants as act
+use Rattle.vf_expand.specs.declared.frames.Frame.{Frame}
+use Rattle.vf_expand.proofs.Late.{ask_cut, end_cut, give_cut, late_list, stop_cut}
+
+-- ---- how many steps may still come
+
+-- a flat command lowers both counts, whatever font is then current
+falls : (b : ℕ) (old new : Current) → asks_from (b - 1) new ≤ asks_from b old
+falls b old new = omega (arith, most b new, least b old) where
+  most : (b : ℕ) (new : Current) → asks_from (b - 1) new ≤ b - 1
+  most b NoFont = omega arith
+  most b (Chosen k) = omega arith
+  most b (Known k d) = omega arith
+
+  least : (b : ℕ) (old : Current) → b - 1 ≤ asks_from b old
+  least b NoFont = omega arith
+  least b (Chosen k) = omega arith
+  least b (Known k d) = omega arith
+
+fewer : (b : ℕ) (old new : Current) → 0 < b → (b - 1) + asks_from (b - 1) new < b + asks_from b old
+fewer b old new h = omega (arith, falls b old new, h)
+
+asks_again : (x : Course) (k : FontKey) (at : ℕ) (rest : Decoded → Course) → x ≡ Asks k at rest → x ≡ Asks k at (answered x)
+asks_again x k at rest e = e ∙ ap (λ (y : Course). Asks k at (answered y)) (sym e)
+
+-- where the last step gave no character no flat command has a glyph
+no_glyph : (v : Doing) (f : FlatCommand) → v.marked ≡ false → glyph_for v f ≡ None
+no_glyph v (flat.Char k c width put) e = ap (λ (b : Bool). glyph_in (marked_font (record v { marked = b })) c) e
+no_glyph v _ e = refl
+
+-- ---- after a command of the page or of a packet
+
+module _ (v : Doing) (undue : v.due ≡ None) (room : 0 < v.budget) (n at : ℕ) (place : Place) (c : DviCommand) (rest : Stack)
+    (head : (current : Current) → stack_left v.reading v.eop v.at current v.stack
+    ≡ expand_one (deeper n at) place at current c (λ next. stack_left v.reading v.eop at next rest))
+    (same : stack_left v.reading v.eop at v.current v.stack ≡ stack_left v.reading v.eop v.at v.current v.stack) where
+  abbrev others : Current → Course
+  others next = stack_left v.reading v.eop at next rest
+
+  abbrev given : Bool → Doing
+  given marked = record v { at = at; budget = v.budget - 1; marked = marked; stack = rest }
+
+  abbrev stopped : Doing
+  stopped = record v { at = at; marked = false }
+
+  here : left v ≡ cut v.budget (expand_one (deeper n at) place at v.current c others)
+  unfolding course_left
+  here = ap (λ (due : Option ℤ). cut v.budget (due_left due v.at (stack_left v.reading v.eop v.at v.current v.stack))) undue ∙ ap (cut v.budget) (head v.current)
+
+  after : (current : Current) (stack : Stack) → cut (v.budget - 1) (stack_left v.reading v.eop at current stack) ≡ course_left v.reading v.eop at (v.budget - 1) v.due current stack
+  unfolding course_left
+  after current stack = ap (λ (due : Option ℤ). cut (v.budget - 1) (due_left due at (stack_left v.reading v.eop at current stack))) (sym undue)
+
+  stays : left stopped ≡ left v
+  unfolding course_left
+  stays = ap (λ (due : Option ℤ). cut v.budget (due_left due at (stack_left v.reading v.eop at v.current v.stack))) undue
+      ∙ ap (cut v.budget) same
+      ∙ ap (λ (due : Option ℤ). cut v.budget (due_left due v.at (stack_left v.reading v.eop v.at v.current v.stack))) (sym undue)
+
+  pub flat_step : (f : Flat) → Acts place n v.current c (act.Flat f) → GivesOne v (given false) (seen_flat f)
+  flat_step f acts = record {
+    given = here ∙ give_cut v.budget _ (others v.current) (seen_flat f) None at room (acts at others) ∙ ap (plain (seen_flat f) at) (after v.current rest)
+        ∙ ap (λ (o : Option Glyph). Gives (seen_flat f) o at (left (given false))) (sym (no_glyph (given false) (seen_flat f) refl));
+    asks = falls v.budget v.current v.current;
+    fewer = fewer v.budget v.current v.current room;
+  }
+
+  pub mark_step : (f : Flat) → Acts place n v.current c (act.Mark f) → GivesOne v (given true) (seen_flat f)
+  mark_step f acts =
+      let glyph : glyph_for (given true) (seen_flat f) ≡ Some acts.glyph =
+      ap (glyph_for (given true)) acts.char ∙ ap (λ (x : Current). glyph_in (font_of x) acts.code) acts.known ∙ acts.has in
+      record {
+        given = here ∙ give_cut v.budget _ (others v.current) (seen_flat f) (Some acts.glyph) at room (acts.gives at others)
+            ∙ ap (Gives (seen_flat f) (Some acts.glyph) at) (after v.current rest)
+            ∙ ap (λ (o : Option Glyph). Gives (seen_flat f) o at (left (given true))) (sym glyph);
+        asks = falls v.budget v.current v.current;
+        fewer = fewer v.budget v.current v.current room;
+      }
+
+  pub change_step : (key : _) → Acts place n v.current c (act.Change key) → GivesOne v (record (given false) { current = Chosen (arc_value key) }) flat.Skip
+  change_step key acts =
+      let now = Chosen (arc_value key) in
+      record {
+        given = here ∙ give_cut v.budget _ (others now) flat.Skip None at room (acts at others) ∙ ap (plain flat.Skip at) (after now rest);
+        asks = falls v.budget v.current now;
+        fewer = fewer v.budget v.current now room;
+      }
+
+  pub ask_step : (key : _) → Acts place n v.current c (act.Ask key) → AsksOne v stopped (arc_value key)
+  ask_step key acts =
+      let asked = here ∙ ask_cut v.budget _ (arc_value key) at _ room (acts.1 at others) in
+      record {
+        asked = asks_again (left v) (arc_value key) at _ asked;
+        look = subst IsAtLook (sym (stays ∙ asked)) tt;
+        left = stays;
+        unmarked = refl;
+        some = subst (λ (x : Current). 0 < asks_from v.budget x) (sym acts.0) room;
+        asks = refl;
+        steps = refl;
+      }
+
+  pub stop_step : (fault : _) → Acts place n v.current c (act.Stop fault) → (left v ≡ Stops (seen_fault fault) at) × Stays v stopped
+  stop_step fault acts =
+      (here ∙ stop_cut v.budget _ (seen_fault fault) at room (acts at others), record { left = stays; unmarked = refl; asks = refl })
+
+  -- a packet is entered
+  module _ (deep : n ≡ MOST_DEEP - depth rest) (level : Frame) (acts : IsEntry n (λ now at others. expand_one (deeper n at) place at now c others) v.current level) where
+    abbrev entered : Stack
+    entered = Within (seen_packet v.current level) rest
+
+    text_is : acts.text ≡ drop level.pos (text_in v.current level.code)
+    text_is =
+        let front = ap (λ (p : ℕ). drop p acts.text) (sym acts.front) in
+        front ∙ sym (ap (λ (o : Option (List ℕ)). drop level.pos (unwrap_or o [])) acts.packet)
+        ∙ ap (λ (x : Current). drop level.pos (text_in x level.code)) (sym acts.known)
+
+    below : n - 1 ≡ MOST_DEEP - suc (depth rest)
+    below = omega (arith, deep)
+
+    inside : expand_list (expand_one (deeper (n - 1) at) (InPacket acts.key acts.font) at) (first_font acts.font) (commands_of acts.text) (leave level.gap at (others v.current))
+        ≡ stack_left v.reading v.eop at (seen_current level.current) entered
+    inside =
+        let behind = leave level.gap at (others v.current) in
+        ap (λ (m : ℕ). expand_list (expand_one (deeper m at) (InPacket acts.key acts.font) at) (first_font acts.font) (commands_of acts.text) behind) below
+        ∙ ap (λ (x : Current). expand_list (expand_one (deeper (MOST_DEEP - suc (depth rest)) at) (place_in v.reading x) at) (first_font acts.font) (commands_of acts.text) behind) (sym acts.known)
+        ∙ ap (λ (x : Current). expand_list (expand_one (deeper (MOST_DEEP - suc (depth rest)) at) (place_in v.reading v.current) at) x (commands_of acts.text) behind) (sym acts.first)
+        ∙ ap (λ (text : List ℕ). expand_list (expand_one (deeper (MOST_DEEP - suc (depth rest)) at) (place_in v.reading v.current) at) (seen_current level.current) (commands_of text) behind) text_is
+
+    pub enter_step : GivesOne v (record v { at = at; budget = v.budget - 1; marked = false; current = seen_current level.current; stack = entered }) flat.Enter
+    enter_step = record {
+      given = here ∙ give_cut v.budget _ _ flat.Enter None at room (acts.gives at others ∙ ap (plain flat.Enter at) inside) ∙ ap (plain flat.Enter at) (after (seen_current level.current) entered);
+      asks = falls v.budget v.current (seen_current level.current);
+      fewer = fewer v.budget v.current (seen_current level.current) room;
+    }
+
+-- ---- after a packet
+
+leave_is : (gap : Option ℤ) (at : ℕ) (x : Course) → leave gap at x ≡ plain flat.Leave at (due_left gap at x)
+leave_is None at x = refl
+leave_is (Some width) at x = refl
+
+module _ (v : Doing) (undue : v.due ≡ None) (p : Packet) (outer : Stack) (inside : v.stack ≡ Within p outer) where
+  packet_here : left v ≡ course_left v.reading v.eop v.at v.budget None v.current (Within p outer)
+  packet_here = ap (λ (due : Option ℤ). course_left v.reading v.eop v.at v.budget due v.current v.stack) undue
+      ∙ ap (course_left v.reading v.eop v.at v.budget None v.current) inside
+
+  leaves : 0 < v.budget → p.commands ≡ [] → course_left v.reading v.eop v.at v.budget None v.current (Within p outer)
+      ≡ plain flat.Leave v.at (course_left v.reading v.eop v.at (v.budget - 1) p.gap p.outside outer)
+  unfolding course_left
+  leaves room ended =
+      let one = expand_one (deeper (MOST_DEEP - suc (depth outer)) v.at) (place_in v.reading p.outside) v.at in
+      let behind = stack_left v.reading v.eop v.at p.outside outer in
+      give_cut v.budget _ (due_left p.gap v.at behind) flat.Leave None v.at room
+      (ap (λ (commands : List DviCommand). expand_list one v.current commands (leave p.gap v.at behind)) ended ∙ leave_is p.gap v.at behind)
+
+  pub leave_step : 0 < v.budget → p.commands ≡ [] → GivesOne v (record v { budget = v.budget - 1; marked = false; due = p.gap; current = p.outside; stack = outer }) flat.Leave
+  leave_step room ended = record {
+    given = packet_here ∙ leaves room ended;
+    asks = falls v.budget v.current p.outside;
+    fewer = fewer v.budget v.current p.outside room;
+  }
+
+  late : course_left v.reading v.eop v.at 0 None v.current (Within p outer) ≡ Stops TooLong v.at
+  unfolding course_left
+  late = late_list (deeper (MOST_DEEP - suc (depth outer)) v.at) (place_in v.reading p.outside) v.at v.current p.commands p.gap (stack_left v.reading v.eop v.at p.outside outer)
+
+  pub late_packet_step : v.budget ≡ 0 → (left v ≡ Stops TooLong v.at) × Stays v (record v { marked = false })
+  late_packet_step none =
+      (packet_here ∙ ap (λ (b : ℕ). course_left v.reading v.eop v.at b None v.current (Within p outer)) none ∙ late, record { left = refl; unmarked = refl; asks = refl })
+
+-- ---- the motion after a packet
+
+module _ (v : Doing) (width : ℤ) (due : v.due ≡ Some width) where
+  due_here : left v ≡ course_left v.reading v.eop v.at v.budget (Some width) v.current v.stack
+  due_here = ap (λ (o : Option ℤ). course_left v.reading v.eop v.at v.budget o v.current v.stack) due
+
+  advances : 0 < v.budget → course_left v.reading v.eop v.at v.budget (Some width) v.current v.stack
+      ≡ plain (flat.Advance width) v.at (course_left v.reading v.eop v.at (v.budget - 1) None v.current v.stack)
+  unfolding course_left
+  advances room = give_cut v.budget _ (stack_left v.reading v.eop v.at v.current v.stack) (flat.Advance width) None v.at room refl
+
+  pub advance_step : 0 < v.budget → GivesOne v (record v { budget = v.budget - 1; marked = false; due = None }) (flat.Advance width)
+  advance_step room = record {
+    given = due_here ∙ advances room;
+    asks = falls v.budget v.current v.current;
+    fewer = fewer v.budget v.current v.current room;
+  }
+
+  late_due : course_left v.reading v.eop v.at 0 (Some width) v.current v.stack ≡ Stops TooLong v.at
+  unfolding course_left
+  late_due = refl
+
+  pub late_due_step : v.budget ≡ 0 → (left v ≡ Stops TooLong v.at) × Stays v (record v { marked = false })
+  late_due_step none =
+      (due_here ∙ ap (λ (b : ℕ). course_left v.reading v.eop v.at b (Some width) v.current v.stack) none ∙ late_due, record { left = refl; unmarked = refl; asks = refl })
+
+-- ---- the page's end, and a command that comes too late
+
+module _ (v : Doing) (undue : v.due ≡ None) where
+  undue_here : left v ≡ course_left v.reading v.eop v.at v.budget None v.current v.stack
+  undue_here = ap (λ (o : Option ℤ). course_left v.reading v.eop v.at v.budget o v.current v.stack) undue
+
+  ends : (at : ℕ) (commands : List Placed) → commands ≡ [] → course_left v.reading v.eop at v.budget None v.current (Page commands) ≡ Ends v.eop
+  unfolding course_left
+  ends at commands none = end_cut v.budget _ v.eop (ap (page_from v.reading v.eop v.current) none)
+
+  pub end_step : (commands : List Placed) → v.stack ≡ Page commands → commands ≡ [] → (left v ≡ Ends v.eop) × Stays v (record v { at = v.eop; marked = false })
+  end_step commands page none =
+      let at_end : (at : ℕ) → course_left v.reading v.eop at v.budget v.due v.current v.stack ≡ Ends v.eop = λ at.
+      ap (λ (o : Option ℤ). course_left v.reading v.eop at v.budget o v.current v.stack) undue
+      ∙ ap (course_left v.reading v.eop at v.budget None v.current) page ∙ ends at commands none in
+      (at_end v.at, record { left = at_end v.eop ∙ sym (at_end v.at); unmarked = refl; asks = refl })
+
+  late_here : (at : ℕ) (x : Course) → cut 0 (stack_left v.reading v.eop v.at v.current v.stack) ≡ x → v.budget ≡ 0 → course_left v.reading v.eop v.at v.budget None v.current v.stack ≡ x
+  unfolding course_left
+  late_here at x late none = ap (λ (b : ℕ). cut b (stack_left v.reading v.eop v.at v.current v.stack)) none ∙ late
+
+  moved : (at : ℕ) → stack_left v.reading v.eop at v.current v.stack ≡ stack_left v.reading v.eop v.at v.current v.stack
+      → course_left v.reading v.eop at v.budget v.due v.current v.stack ≡ left v
+  unfolding course_left
+  moved at same =
+      ap (λ (o : Option ℤ). cut v.budget (due_left o at (stack_left v.reading v.eop at v.current v.stack))) undue ∙ ap (cut v.budget) same
+      ∙ ap (λ (o : Option ℤ). cut v.budget (due_left o v.at (stack_left v.reading v.eop v.at v.current v.stack))) (sym undue)
+
+  pub late_step : (at : ℕ) → stack_left v.reading v.eop at v.current v.stack ≡ stack_left v.reading v.eop v.at v.current v.stack
+      → cut 0 (stack_left v.reading v.eop v.at v.current v.stack) ≡ Stops TooLong at → v.budget ≡ 0 → (left v ≡ Stops TooLong at) × Stays v (record v { at = at; marked = false })
+  late_step at same late none = (undue_here ∙ late_here at (Stops TooLong at) late none, record { left = moved at same; unmarked = refl; asks = refl })

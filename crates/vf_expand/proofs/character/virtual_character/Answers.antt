@@ -1,0 +1,47 @@
+use Rattle.std.proofs.Common.{◌≡◌, ◌∙◌, ℕ, ◌<◌, ℤ, Some, None, refl, sym, ap, subst, to_z, of_z, w32, arith}
+use Rattle.std.specs.Prelude.{unsigned_abs}
+use Rattle.std.proofs.lemmas.Int.{ints}
+use Rattle.std.specs.Arc.{arc_value}
+use Rattle.outside.specs.declared.keys.FontKey.{FontKey}
+use Rattle.vf_expand.specs.Faults.{Depth, NoPacket}
+use Rattle.font_decode.specs.Fonts.{packet_of, IsProgram}
+use Rattle.vf_expand.specs.Course.{Stops, number_of}
+use Rattle.vf_expand.proofs.Virtual.{at_none, at_some, has_packet, no_packet, too_deep}
+use Rattle.vf_expand.proofs.character.virtual_character.Goals as goal
+
+pub returns-then-room-eq0-clause-acts : goal.returns-then-room-eq0-clause-acts
+returns-then-room-eq0-clause-acts c = λ at others.
+    let same : c.args.code ≡ to_z w32 (of_z w32 c.args.code) = omega (arith, ints) in
+    too_deep at _ _ _ _ _ c.args.room c.if-room-eq0.true
+    ∙ ap (λ (k : FontKey). Stops (Depth k c.args.code) at) (sym c.in_ok-try_clone.ensures)
+    ∙ ap (λ (z : ℤ). Stops (Depth (arc_value c.in_ok-try_clone.field-0) z) at) same
+
+pub returns-then-is_none-clause-acts : goal.returns-then-is_none-clause-acts
+returns-then-is_none-clause-acts c = λ at others.
+    let same : c.args.code ≡ to_z w32 (of_z w32 c.args.code) = omega (arith, ints) in
+    let number : unsigned_abs (to_z w32 (of_z w32 c.args.code)) ≡ c.requires.byte.0 = omega (arith, ints, c.requires.byte.1) in
+    let none = at_none c.packet.result _ _ c.if-is_none.ensures c.packet.ensures.packet in
+    no_packet at _ _ _ _ _ c.args.room (omega (arith, c.if-room-eq0.false))
+    (subst (λ (n : ℕ). packet_of c.args.font.now n ≡ None) (number ∙ sym (ap number_of c.requires.byte.1)) none)
+    ∙ ap (λ (k : FontKey). Stops (NoPacket k c.args.code) at) (sym c.in_ok-try_clone-2.ensures)
+    ∙ ap (λ (z : ℤ). Stops (NoPacket (arc_value c.in_ok-try_clone-2.field-0) z) at) same
+
+pub returns-clause-acts : goal.returns-clause-acts
+returns-clause-acts c =
+    let code = unsigned_abs (to_z w32 (of_z w32 c.args.code)) in
+    let number : code ≡ c.requires.byte.0 = omega (arith, ints, c.requires.byte.1) in
+    let there = at_some (λ x. x.now) c.packet.result (packet_of c.args.font.now code) (IsProgram code) c.if-is_none.ensures c.packet.ensures.packet c.packet.ensures.commands in
+    let own = subst (λ (n : ℕ). packet_of c.args.font.now n ≡ Some there.0) (number ∙ sym (ap number_of c.requires.byte.1)) there.1 in
+    let some : 0 < c.args.room = omega (arith, c.if-room-eq0.false) in
+    record {
+      key = arc_value c.args.key.now;
+      font = c.args.font.now;
+      text = there.0;
+      known = refl;
+      some = some;
+      packet = there.1;
+      program = there.2;
+      front = refl;
+      first = c.in_ok-first_current.ensures.first;
+      gives = λ at others. has_packet at (arc_value c.args.key.now) c.args.font.now c.args.code c.args.gap _ c.args.room there.0 some own;
+    }

@@ -1,0 +1,142 @@
+//! What a character gives, by the font that is current.
+ghost use Rattle.std.specs.Prelude.{◌≡◌, ◌<◌, ℕ, pos, IfOk, IfSome, Some, unsigned_abs, ◌≤◌, ◌^◌};
+ghost use Rattle.std.specs.Arc.{arc_value};
+ghost use Rattle.drift_rules.specs.Bounds.{IsNumber};
+ghost use Rattle.outside.specs.FontKeys.{IsFontKey};
+ghost use Rattle.font_decode.specs.Fonts.{is_virtual_of, width_of};
+ghost use Rattle.font_decode.specs.declared.decoded.Decoded.TheVariants as decoded;
+ghost use Rattle.vf_expand.specs.Course.{first_font, no_font};
+ghost use Rattle.vf_expand.specs.Faults.{seen_fault};
+ghost use Rattle.vf_expand.specs.Course as course;
+ghost use Rattle.vf_expand.specs.Acts.{CharacterActs, FitsAct, FoundActs, HasKey, VirtualActs, seen_current, seen_place};
+
+use crate::act::{Act, Source};
+use crate::current::Current;
+use crate::faults::PageFault;
+use crate::frames::Frame;
+use crate::keys::PageKeys;
+use drift_rules::Flat;
+use font_decode::{Decoded, Font};
+use outside::FontKey;
+use std::alloc::AllocError as NoMemory;
+use std::sync::Arc;
+
+// The font that is current as a packet begins: the first local font.
+fn first_current(keys: &mut PageKeys, font: &Font) -> Result<Current, NoMemory>
+    ensures first { IfOk result (λ current. seen_current current ≡ first_font font.now) }
+    ensures key { IfOk result (λ current. HasKey (seen_current current)) }
+{
+    let Some(number) = font.first_local() else {
+        return Ok(Current::NoFont);
+    };
+    match font.local(number) {
+        Some(key) => Ok(Current::Chosen(keys.own(key)?)),
+        None => Ok(Current::NoFont),
+    }
+}
+
+// A character of a virtual font, where so many packets may stand inside one another.
+fn virtual_character(
+    keys: &mut PageKeys,
+    room: usize,
+    key: &Arc<FontKey>,
+    font: &Font,
+    code: i32,
+    gap: Option<i64>,
+) -> Result<Act, NoMemory>
+    requires byte { (n : ℕ) × (code ≡ pos n) × (n < 256) }
+    requires gap { IfSome gap IsNumber }
+    ensures acts { IfOk result (VirtualActs room (arc_value key.now) font.now code gap) }
+    ensures fits { IfOk result FitsAct }
+{
+    if room == 0 {
+        return Ok(Act::Stop(PageFault::Depth(Arc::try_clone(key)?, code)));
+    }
+    if font.packet(code as u32).is_none() {
+        return Ok(Act::Stop(PageFault::NoPacket(Arc::try_clone(key)?, code)));
+    }
+    Ok(Act::Enter(Frame {
+        code: code as u8,
+        pos: 0,
+        gap,
+        current: first_current(keys, font)?,
+    }))
+}
+
+// A character of a font that has files.
+fn mark(
+    keys: &mut PageKeys,
+    room: usize,
+    key: &Arc<FontKey>,
+    font: &Font,
+    code: i32,
+    put: bool,
+) -> Result<Act, NoMemory>
+    ensures acts { IfOk result (FoundActs room (arc_value key.now) (decoded.Font font.now) code put) }
+    ensures fits { IfOk result FitsAct }
+{
+    let Some(width) = font.width(code) else {
+        return Ok(Act::Stop(PageFault::NoCharacter(Arc::try_clone(key)?, code)));
+    };
+    if font.is_virtual() {
+        let gap = if put { None } else { Some(width) };
+        return virtual_character(keys, room, key, font, code, gap);
+    }
+    if font.glyph(code as u32).is_none() {
+        return Ok(Act::Stop(PageFault::NoGlyph(Arc::try_clone(key)?, code)));
+    }
+    Ok(Act::Mark(Flat::Char {
+        key: Arc::try_clone(key)?,
+        code: code as u8,
+        width,
+        put,
+    }))
+}
+
+// A character of the font that was found.
+fn found(
+    keys: &mut PageKeys,
+    room: usize,
+    key: &Arc<FontKey>,
+    decoded: &Decoded,
+    code: i32,
+    put: bool,
+) -> Result<Act, NoMemory>
+    ensures acts { IfOk result (FoundActs room (arc_value key.now) decoded.now code put) }
+    ensures fits { IfOk result FitsAct }
+{
+    match decoded {
+        Decoded::Fault(fault) => Ok(Act::Stop(PageFault::Font(Arc::try_clone(key)?, *fault))),
+        Decoded::Font(font) => mark(keys, room, key, font, code, put),
+    }
+}
+
+// A character where no font is current.
+fn no_font(source: Source) -> Result<PageFault, NoMemory>
+    ensures { IfOk result (λ fault. seen_fault fault ≡ no_font (seen_place source.entry)) }
+{
+    match source {
+        Source::Page(_) => Ok(PageFault::NoCurrentFont),
+        Source::Packet(key, _) => Ok(PageFault::NoLocalFont(Arc::try_clone(key)?, None)),
+    }
+}
+
+/// What a character gives, where so many packets may stand inside one another.
+pub fn character(
+    keys: &mut PageKeys,
+    source: Source,
+    room: usize,
+    current: &Current,
+    code: i32,
+    put: bool,
+) -> Result<Act, NoMemory>
+    requires { HasKey (seen_current current.now) }
+    ensures acts { IfOk result (CharacterActs (seen_place source.entry) room (seen_current current.now) code put) }
+    ensures fits { IfOk result FitsAct }
+{
+    match current {
+        Current::NoFont => Ok(Act::Stop(no_font(source)?)),
+        Current::Chosen(key) => Ok(Act::Ask(Arc::try_clone(key)?)),
+        Current::Known(key, font) => found(keys, room, key, font, code, put),
+    }
+}

@@ -1,0 +1,98 @@
+//! The levels of a page's expansion.
+ghost use Rattle.std.specs.Prelude.{◌≡◌, ◌∷◌, [], length, List, IfErr, OnErr, OnOk, MatchOption};
+ghost use Rattle.vf_expand.specs.declared.frames.Frame as level;
+
+use crate::current::Current;
+use std::alloc::{AllocError as NoMemory, Global};
+use std::marker::Model;
+use std::mem;
+
+/// The page, or a packet: the packet's code in the font that is current outside it, the place of the
+/// next command in its bytes, how far its character moves after it where it was set, and the font that
+/// is current in it.
+#[derive(Drop)]
+pub struct Frame {
+    pub code: u8,
+    pub pos: usize,
+    pub gap: Option<i64>,
+    pub current: Current,
+}
+
+/// The levels outside the one that is read. A contract sees them as a list, the innermost first.
+#[derive(Drop)]
+pub struct Frames {
+    frames: Vec<Frame>,
+}
+
+impl Model for Frames {
+    ghost use Rattle.std.specs.Prelude.{List, reverse};
+    ghost use Rattle.vf_expand.specs.declared.frames.Frame.{Frame};
+
+    ghost Value = { List Frame };
+
+    ghost view = { λ s. reverse s.frames.items };
+}
+
+impl Frames {
+    /// No level.
+    pub fn new(alloc: Global) -> Frames
+        ensures { result ≡ [] }
+    {
+        Frames {
+            frames: Vec::new(alloc),
+        }
+    }
+
+    /// How many there are.
+    pub fn len(&self) -> usize
+        ensures { result ≡ length self.now }
+    {
+        self.frames.len()
+    }
+
+    /// The innermost.
+    pub fn top(&self) -> Option<&Frame>
+        ensures { MatchOption result (self.now ≡ [])
+            (λ top. (rest : List level.Frame) × (self.now ≡ top.now ∷ rest)) }
+    {
+        self.frames.last()
+    }
+
+    // One more, inside all others. Where memory is wanting it is handed back.
+    fn push(&mut self, frame: Frame) -> Result<(), Frame>
+        ensures ok { OnOk result (self.new ≡ frame ∷ self.old) }
+        ensures err { OnErr result (self.new ≡ self.old) }
+        ensures back { IfErr result (λ back. back ≡ frame) }
+    {
+        match self.frames.push(frame) {
+            Ok(()) => Ok(()),
+            Err(refused) => Err(refused.value),
+        }
+    }
+
+    /// The level that is read, from `end` on, becomes one more inside all others, and `inner` is read.
+    /// Where memory is wanting nothing has changed.
+    pub fn enter(&mut self, level: &mut Frame, inner: Frame, end: usize) -> Result<(), NoMemory>
+        ensures level { OnOk result (level.new ≡ inner) }
+        ensures outer { OnOk result (self.new ≡ record level.old { pos = end } ∷ self.old) }
+        ensures err { OnErr result ((self.new ≡ self.old) × (level.new ≡ level.old)) }
+    {
+        let mut outside = mem::replace(level, inner);
+        let pos = mem::replace(&mut outside.pos, end);
+        match self.push(outside) {
+            Ok(()) => Ok(()),
+            Err(outside) => {
+                *level = Frame { pos, ..outside };
+                Err(NoMemory)
+            }
+        }
+    }
+
+    /// The innermost, which then is none of them.
+    pub fn pop(&mut self) -> Option<Frame>
+        ensures { MatchOption result (self.old ≡ [])
+            (λ top. self.old ≡ top ∷ self.new) }
+    {
+        self.frames.pop()
+    }
+}
