@@ -8,8 +8,8 @@ use Rattle.vf_expand.specs.Faults.{PageFaultSeen}
 use Rattle.vf_expand.specs.Faults as fault
 use Rattle.page_draw.specs.Values.{PageValue}
 use Rattle.dvi_run.specs.Reading.{IsAllRead, OfRead}
-use Rattle.dvi_run.specs.Pages.{FailingPage, Given, IsRun, IsWholeRun, run_fault}
-use Rattle.dvi_run.specs.Endings.{EndingSeen, Written, Usage, Document, Page, Source, Input, Output, Memory, IsAmong, IsEnding, IsPlaced, OfRun, Stopped, Wrote, WroteBefore, WroteFront, WroteSome, page_status, status_of, statuses}
+use Rattle.dvi_run.specs.Pages.{FailingPage, Given, IsRun, run_fault}
+use Rattle.dvi_run.specs.Endings.{EndingSeen, Written, Usage, Document, Page, Source, Input, Output, Memory, EndsPages, IsAmong, IsEnding, IsPlaced, OfRun, Stopped, Wrote, WroteBefore, WroteFront, WroteSome, page_status, status_of, statuses}
 use Rattle.dvi_run.specs.Promises.{GoodRunIsWhole}
 use Rattle.dvi_run.specs.Laws.{OneReading, OneRun, RunsHaveNoFault}
 use Rattle.dvi_run.proofs.OneRun.{all_good, ends_once}
@@ -31,6 +31,9 @@ at_page (fault.NoFont n) = inl refl
 at_page fault.NoCurrentFont = inl refl
 at_page (fault.NoCharacter k c) = inl refl
 at_page (fault.NoGlyph k c) = inl refl
+at_page (fault.NoPacket k c) = inl refl
+at_page (fault.NoLocalFont k n) = inl refl
+at_page (fault.Depth k c) = inl refl
 at_page fault.TooLong = inl refl
 at_page (fault.Font k f) = inr refl
 at_page (fault.Pen f) = inl refl
@@ -38,6 +41,33 @@ at_page (fault.Pen f) = inl refl
 status_at : (n : ℕ) → AtPage n → IsAmong n statuses
 status_at n (inl three) = inr (inr (inl three))
 status_at n (inr four) = inr (inr (inr (inl four)))
+
+-- a number is none of three
+is_no_early : (n : ℕ) → (n ≡ 1 → ⊥) → (n ≡ 2 → ⊥) → (n ≡ 6 → ⊥) → IsAmong n (1 ∷ 2 ∷ 6 ∷ []) → ⊥
+is_no_early n a b c (inl is) = a is
+is_no_early n a b c (inr (inl is)) = b is
+is_no_early n a b c (inr (inr (inl is))) = c is
+is_no_early n a b c (inr (inr (inr none))) = none
+
+page_is_late : (n : ℕ) → AtPage n → IsAmong n (1 ∷ 2 ∷ 6 ∷ []) → ⊥
+page_is_late n (inl three) =
+    is_no_early n (λ is. let e : 3 ≡ 1 = sym three ∙ is in cc) (λ is. let e : 3 ≡ 2 = sym three ∙ is in cc)
+    (λ is. let e : 3 ≡ 6 = sym three ∙ is in cc)
+page_is_late n (inr four) =
+    is_no_early n (λ is. let e : 4 ≡ 1 = sym four ∙ is in cc) (λ is. let e : 4 ≡ 2 = sym four ∙ is in cc)
+    (λ is. let e : 4 ≡ 6 = sym four ∙ is in cc)
+
+-- a run whose pages were begun ends neither with 1 nor with 2 nor with 6
+pub ends_late : (old new : Option (List ℕ)) (P Q : Type 0) (reading : Reading) (values : List PageValue) (e : EndingSeen) → EndsPages old new P Q e reading values
+    → IsAmong (status_of e) (1 ∷ 2 ∷ 6 ∷ []) → ⊥
+ends_late old new P Q reading values Written h = is_no_early 0 (λ is. cc) (λ is. cc) (λ is. cc)
+ends_late old new P Q reading values Usage h = absurd h
+ends_late old new P Q reading values (Document fault) h = absurd h
+ends_late old new P Q reading values (Page page) h = page_is_late (page_status page.fault) (at_page page.fault)
+ends_late old new P Q reading values (Source page) h = is_no_early 5 (λ is. cc) (λ is. cc) (λ is. cc)
+ends_late old new P Q reading values Input h = absurd h
+ends_late old new P Q reading values (Output page) h = is_no_early 7 (λ is. cc) (λ is. cc) (λ is. cc)
+ends_late old new P Q reading values Memory h = is_no_early 9 (λ is. cc) (λ is. cc) (λ is. cc)
 
 -- a number is none of six
 is_none : (n : ℕ) → (n ≡ 0 → ⊥) → (n ≡ 2 → ⊥) → (n ≡ 3 → ⊥) → (n ≡ 4 → ⊥) → (n ≡ 5 → ⊥) → (n ≡ 7 → ⊥) → IsAmong n (0 ∷ 2 ∷ 3 ∷ 4 ∷ 5 ∷ 7 ∷ []) → ⊥

@@ -9,7 +9,7 @@ pub mod Clauses
 pub mod Looks
 pub mod Standing
 pub mod Seated
-pub mod OneSeat
 pub mod Promised
 pub mod OneWorker
 pub mod Shares
+pub mod Together

@@ -1,19 +1,20 @@
 -- Bytes are one document, and over told font files each page has one value.
-use Rattle.std.proofs.Common.{◌≡◌, ◌≤◌, ℕ, suc, List, [], ◌∷◌, ◌++◌, length, arith, refl, sym, ap, ap₂, subst, ◌∙◌, inl, inr, Option, Some, None}
+use Rattle.std.proofs.Common.{◌≡◌, ◌≤◌, ℕ, suc, List, [], ◌∷◌, ◌++◌, length, append-nil, arith, refl, sym, ap, ap₂, subst, ◌∙◌, inl, inr, Option, Some, None}
 use Rattle.std.specs.Prelude.{IsSome, unwrap_or}
 use Rattle.std.proofs.lemmas.Bool.{cases_lt}
 use Rattle.std.proofs.lemmas.List.{length-append}
+use Rattle.std.specs.Io.KnownBytes.{Appends}
 use Rattle.outside.specs.Library.{Files}
 use Rattle.outside.specs.declared.keys.FontKey.{FontKey}
 use Rattle.pixel_round.specs.declared.units.Units.{Units}
-use Rattle.page_index.specs.Document.{Reading}
+use Rattle.page_index.specs.Document.{Reading, pages_begun}
 use Rattle.page_index.specs.Pages.{Indexed, document_units}
 use Rattle.font_decode.specs.Decoding.{IsFontIn, IsFontOf}
 use Rattle.page_draw.specs.Values.{PageValue}
 use Rattle.page_draw.specs.Drawn.{IsPageValue}
 use Rattle.page_draw.specs.Laws.{PagesHaveOneValue}
-use Rattle.dvi_run.specs.Pages.{FailingPage, Given, HaveValues, IsRun, IsValueOf, IsWholeRun, run_fault}
-use Rattle.dvi_run.specs.Laws.{OneReading, OneRun, RunsHaveFronts}
+use Rattle.dvi_run.specs.Pages.{FailingPage, Given, HaveValues, IsRun, IsValueOf, IsWholeRun, run_fault, run_text}
+use Rattle.dvi_run.specs.Laws.{GoodRunsWriteAlike, OneReading, OneRun, RunsHaveFronts, StoppedRunsWriteAlike}
 use Rattle.dvi_run.proofs.Fronts.{faults_end_the_run, front_is_good}
 
 pub is_there : (o : Option ℕ) → IsSome o → o ≡ Some (unwrap_or o 0)
@@ -89,3 +90,50 @@ module _ (reading : OneReading) (one : OneRun) (g : Given) (files : Files) (told
       let few : length w ≤ length v = rw a.all (rw same b.pages.few) in
       let more = one g files bytes s r w v told b a.run few in
       front_is_good w more.0 (ap run_fault (sym more.1) ∙ good)
+
+-- ---- what two runs wrote
+
+none_behind : (v rest : List PageValue) → length (v ++ rest) ≤ length v → run_text (v ++ rest) ≡ run_text v
+none_behind v [] le = ap run_text (append-nil v)
+none_behind v (x ∷ rest) le = let size = length-append v (x ∷ rest) in absurd (omega (arith, le, size))
+
+module _ (reading : OneReading) (one : OneRun) (g : Given) (files : Files) (told : g.library ≡ Some files) (bytes : List ℕ) where
+  -- all pages
+  all_alike : (r s : Reading) (v w : List PageValue) → IsRun g bytes r v → IsRun g bytes s w → length v ≡ pages_begun r → length w ≡ pages_begun s → run_text v ≡ run_text w
+  all_alike r s v w a b all other =
+      let same = ap pages_begun (reading g bytes r s v w a b) in
+      let le : length v ≤ length w = omega (arith, all, other, same) in
+      let ge : length w ≤ length v = omega (arith, all, other, same) in
+      let more = one g files bytes r s v w told a b le in
+      sym (none_behind v more.0 (subst (λ (l : List PageValue). length l ≤ length v) more.1 ge)) ∙ ap run_text (sym more.1)
+
+  -- the pages before the first without a bitmap
+  stopped_alike : (r s : Reading) (v w : List PageValue) (p q : FailingPage) → IsRun g bytes r v → IsRun g bytes s w → run_fault v ≡ Some p → run_fault w ≡ Some q → run_text v ≡ run_text w
+  stopped_alike r s v w p q a b is other = elim (cases_lt (length v) (length w)) [
+    | inl shorter ↦ shorter_alike r s v w p a b is (omega (arith, shorter))
+    | inr longer ↦ sym (shorter_alike s r w v q b a other longer)
+  ]
+    where
+      shorter_alike : (r s : Reading) (v w : List PageValue) (p : FailingPage) → IsRun g bytes r v → IsRun g bytes s w → run_fault v ≡ Some p → length v ≤ length w → run_text v ≡ run_text w
+      shorter_alike r s v w p a b is le =
+          let more = one g files bytes r s v w told a b le in
+          sym (faults_end_the_run v more.0 p is).1 ∙ ap run_text (sym more.1)
+
+pub good_alike : OneReading → OneRun → GoodRunsWriteAlike
+good_alike reading one g files bytes old new other later told a b = (
+  run_text a.1,
+  a.3.grew,
+  subst (λ (t : List ℕ). Appends other later t)
+      (sym (all_alike reading one g files told bytes a.0 b.0 a.1 b.1 a.2 b.2 a.3.all b.3.all)) b.3.grew,
+)
+
+pub refused_alike : OneReading → OneRun → StoppedRunsWriteAlike
+refused_alike reading one g files bytes old new other later p q told a b = (
+  ends_once reading one g files told bytes a.0 b.0 a.1 b.1 p q a.2 b.2 a.3.fails b.3.fails,
+  (
+    run_text a.1,
+    a.3.grew,
+    subst (λ (t : List ℕ). Appends other later t)
+        (sym (stopped_alike reading one g files told bytes a.0 b.0 a.1 b.1 p q a.2 b.2 a.3.fails b.3.fails)) b.3.grew,
+  ),
+)

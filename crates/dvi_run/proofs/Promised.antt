@@ -1,18 +1,12 @@
 -- Every end of a run keeps what a run promises.
-use Rattle.std.proofs.Common.{◌≡◌, inl, inr, ℕ, List, [], ◌∷◌, Option, refl, sym, subst}
-use Rattle.cache_core.specs.declared.calls.Call.{Call}
-use Rattle.cache_core.specs.Histories.{AreOf}
-use Rattle.cache_core.specs.Machine.{Legal}
-use Rattle.dvi_run.specs.Reading.{OfRead}
+use Rattle.std.proofs.Common.{◌≡◌, inl, inr, ℕ, List, [], ◌∷◌, Option, sym, subst}
 use Rattle.dvi_run.specs.Pages.{Given}
 use Rattle.dvi_run.specs.Lines.{line_of}
-use Rattle.dvi_run.specs.Endings.{EndingSeen, Usage, IsAmong, IsEnding, Tells, status_of}
-use Rattle.dvi_run.specs.Looked.{CalledAlone}
+use Rattle.dvi_run.specs.Endings.{EndingSeen, IsAmong, IsEnding, Tells, status_of}
 use Rattle.dvi_run.specs.Laws.{OneReading, OneRun, RunsHaveNoFault}
-use Rattle.dvi_run.specs.Promises.{HasFailingPage, IsCached, IsCaused, IsNoted, IsWritten, StoppedAt}
+use Rattle.dvi_run.specs.Promises.{HasFailingPage, IsCaused, IsCutShort, IsNoted, IsWritten, StoppedAt}
 use Rattle.dvi_run.proofs.Clauses as end
 use Rattle.dvi_run.proofs.Clauses.{of_each}
-use Rattle.dvi_run.proofs.OneSeat.{none_called}
 
 -- ---- how it ended
 
@@ -26,15 +20,20 @@ module _ (old new : Option (List ℕ)) (OutputFailed SourceFailed OutputKept Inp
   failing status bytes at = (at.0, at.1, (at.2.0, at.2.1, at.2.2, at.2.3.fails))
 
   written_by : (e : EndingSeen) → IsEnding old new OutputFailed SourceFailed OutputKept InputFailed g left rest e
-      → IsWritten g (status_of e) left rest old new OutputKept
+      → IsWritten g (status_of e) left rest old new
   written_by e h = record {
     whole = λ is. end.written_by old new OutputFailed SourceFailed OutputKept InputFailed g left rest e is h;
+    read = λ is. end.read_by old new OutputFailed SourceFailed OutputKept InputFailed g left rest e is h;
+  }
+
+  cut_short_by : (e : EndingSeen) → IsEnding old new OutputFailed SourceFailed OutputKept InputFailed g left rest e
+      → IsCutShort g (status_of e) left old new OutputKept
+  cut_short_by e h = record {
     nothing = nothing_by e h;
     stopped = λ is. end.page_by old new OutputFailed SourceFailed OutputKept InputFailed g left rest e is h;
     before = λ is. (end.source_by old new OutputFailed SourceFailed OutputKept InputFailed g left rest e is h).0;
     front = λ is. (end.output_by old new OutputFailed SourceFailed OutputKept InputFailed g left rest e is h).0;
     memory = λ is. end.memory_by old new OutputFailed SourceFailed OutputKept InputFailed g left rest e is h;
-    read = λ is. end.read_by old new OutputFailed SourceFailed OutputKept InputFailed g left rest e is h;
   }
 
   module _ (reading : OneReading) (one_run : OneRun) (no_fault : RunsHaveNoFault) where
@@ -60,20 +59,18 @@ module _ (old new : Option (List ℕ)) (OutputFailed SourceFailed OutputKept Inp
     caused_at e h status is = subst (λ (n : ℕ). IsCaused g n left InputFailed SourceFailed OutputFailed) (sym is) (caused_by e h)
 
   pub written_at : (e : EndingSeen) → IsEnding old new OutputFailed SourceFailed OutputKept InputFailed g left rest e → (status : ℕ) → status ≡ status_of e
-      → IsWritten g status left rest old new OutputKept
-  written_at e h status is = subst (λ (n : ℕ). IsWritten g n left rest old new OutputKept) (sym is) (written_by e h)
+      → IsWritten g status left rest old new
+  written_at e h status is = subst (λ (n : ℕ). IsWritten g n left rest old new) (sym is) (written_by e h)
+
+  pub cut_short_at : (e : EndingSeen) → IsEnding old new OutputFailed SourceFailed OutputKept InputFailed g left rest e → (status : ℕ) → status ≡ status_of e
+      → IsCutShort g status left old new OutputKept
+  cut_short_at e h status is = subst (λ (n : ℕ). IsCutShort g n left old new OutputKept) (sym is) (cut_short_by e h)
 
   pub noted_at : (e : EndingSeen) → IsEnding old new OutputFailed SourceFailed OutputKept InputFailed g left rest e
       → (notes_old notes_new : Option (List ℕ)) (before now : ℕ) → Tells notes_old notes_new before now (line_of e)
       → IsNoted g e left old new notes_old notes_new before now
   noted_at e h notes_old notes_new before now tells =
       record { placed = end.placed_by old new OutputFailed SourceFailed OutputKept InputFailed g left rest e h; told = tells }
-
--- the calls of its cache
-pub called_at : (g : Given) (capacity : ℕ) (left old new : Option (List ℕ)) (e : EndingSeen) (history : List Call) → Legal capacity history → AreOf 1 history
-    → OfRead left (CalledAlone g old new capacity (status_of e) e history) → (status : ℕ) → status ≡ status_of e → IsCached g capacity status e left old new history
-called_at g capacity left old new e history legal own answered status is =
-    subst (λ (n : ℕ). IsCached g capacity n e left old new history) (sym is) (record { legal = legal; own = own; answered = answered })
 
 -- ---- a run of words that are no line
 
@@ -96,21 +93,14 @@ not_read (inr (inr (inr (inr (inl is))))) = cc
 not_read (inr (inr (inr (inr (inr (inl is)))))) = cc
 not_read (inr (inr (inr (inr (inr (inr none)))))) = none
 
-pub usage_wrote : (g : Given) (left rest old new : Option (List ℕ)) (OutputKept : Type 0) → IsWritten g 1 left rest old new OutputKept
-usage_wrote g left rest old new OutputKept = record {
-  whole = λ is. cc;
+pub usage_wrote : (g : Given) (left rest old new : Option (List ℕ)) → IsWritten g 1 left rest old new
+usage_wrote g left rest old new = record { whole = λ is. cc; read = λ is. absurd (not_read is) }
+
+pub usage_cut_short : (g : Given) (left old new : Option (List ℕ)) (OutputKept : Type 0) → IsCutShort g 1 left old new OutputKept
+usage_cut_short g left old new OutputKept = record {
   nothing = λ is. absurd (not_early is);
   stopped = λ is. absurd (not_page is);
   before = λ is. cc;
   front = λ is. cc;
   memory = λ is. cc;
-  read = λ is. absurd (not_read is);
-}
-
--- no cache was made
-pub usage_called : (g : Given) (capacity status : ℕ) (left old new : Option (List ℕ)) (history : List Call) → history ≡ [] → IsCached g capacity status Usage left old new history
-usage_called g capacity status left old new history none = record {
-  legal = rw none refl;
-  own = rw none tt;
-  answered = none_called g old new capacity status Usage tt history none left;
 }

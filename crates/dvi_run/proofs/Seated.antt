@@ -111,8 +111,9 @@ module _ {F : Type 0} (s : Site F) (part : Common) (told : part.library ≡ s.gi
           subst (λ (x : F). IfSome s.given.library (λ l. s.library x ≡ Some l)) (sym source)
           (subst (λ (o : Option Files). IfSome o (λ l. s.library now.source ≡ Some l)) told_here fits.tells)
 
-      pub ran : (Whole : Type 0) → (Whole → NoneReleased (own_calls t)) → Ran Whole s.library s.faults s.loads s.given s.reading history k w after
-      ran Whole settled = record {
+      pub ran : (Whole : Type 0) → (Whole → NoneReleased (own_calls t))
+          → (Whole → WholeLooks (finding s.given s.reading) (indexed_of s.given s.reading) s.given.sheet now.pages.items (keys_of now.seat)) → Ran Whole s.library s.faults s.loads s.given s.reading history k w after
+      ran Whole settled through = record {
         seat = none;
         none = cleared;
         tells = still_tells;
@@ -122,6 +123,9 @@ module _ {F : Type 0} (s : Site F) (part : Common) (told : part.library ≡ s.gi
         answered = subst (λ (l : List Call). SeatCalls went.keys l) (sym own_here) went.went.for_keys;
         last = subst ReleasedLast (sym own_here) went.went.last;
         whole = λ e. subst NoneReleased (sym left) (settled e);
+        drawn_out = λ e.
+            subst (λ (ps : List ℕ). WholeLooks (finding s.given s.reading) (indexed_of s.given s.reading) s.given.sheet ps went.keys) (sym pages)
+            (subst (λ (ks : List FontKey). WholeLooks (finding s.given s.reading) (indexed_of s.given s.reading) s.given.sheet now.pages.items ks) keys_here (through e));
         loaded =
             subst (λ (l : List Call). Loaded (5 * misses l) (s.loads w.source) (s.loads after.source) w.loads after.loads) (sym own_here)
             (subst (λ (x : F). Loaded (5 * misses went.went.calls) (s.loads w.source) (s.loads x) w.loads after.loads) (sym source)
@@ -151,6 +155,7 @@ unused library faults loads g reading number w fresh none Whole = record {
   answered = refl;
   last = tt;
   whole = λ e. tt;
+  drawn_out = λ e. subst (λ (ps : List ℕ). WholeLooks (finding g reading) (indexed_of g reading) g.sheet ps []) (sym fresh.pages) refl;
   loaded = record {
     loads = record { most = omega arith; never_falls = omega arith };
     counted = record { most = omega arith; never_falls = omega arith };

@@ -1,5 +1,5 @@
 -- The pages of each worker through the rounds.
-use Rattle.std.proofs.Common.{length, get_or, set, ◌≡◌, inl, inr, ℕ, zero, suc, ◌+◌, ◌*◌, ◌<◌, ◌≤◌, List, [], ◌∷◌, ◌++◌, true, false, refl, sym, ap, subst, ◌∙◌, append-nil, arith}
+use Rattle.std.proofs.Common.{length, get_or, set, ◌≡◌, inl, inr, ℕ, suc, ◌+◌, ◌*◌, ◌<◌, ◌≤◌, List, [], ◌∷◌, ◌++◌, sym, ap, subst, ◌∙◌, append-nil, arith}
 use Rattle.std.specs.Prelude.{nat_lt}
 use Rattle.std.proofs.lemmas.Bool.{cases_lt}
 use Rattle.page_draw.specs.declared.sheet.Sheet.{Sheet}
@@ -10,9 +10,12 @@ use Rattle.std.specs.Prelude.{Option}
 use Rattle.page_workers.specs.declared.bench.Bench.{Bench}
 use Rattle.page_workers.specs.declared.worker.Worker.{Worker}
 use Rattle.page_workers.specs.Rounds.{TookPart}
-use Rattle.page_workers.proofs.Lists.{same_default}
 use Rattle.dvi_run.specs.Rounds.{SameBut}
-use Rattle.dvi_run.specs.Shares.{AreShares, if_there, share_of}
+use Rattle.page_draw.specs.declared.stop.PageStop.TheVariants as draw
+use Rattle.dvi_run.specs.Endings.{EndingSeen, ending_at}
+use Rattle.dvi_run.specs.Shares.{AreBegun, AreShares, DrewShares, if_there, share_of}
+use Rattle.dvi_run.specs.declared.pages.WriteStop.{WriteStop}
+use Rattle.dvi_run.specs.declared.pages.WriteStop.TheVariants as stop
 use Rattle.dvi_run.proofs.OneWorker.{there_above, there_below}
 use Rattle.dvi_run.proofs.Standing.{set_each}
 
@@ -32,6 +35,13 @@ share_more total n k r i old new at so_far drew rested =
           rested above ∙ so_far ∙ sym (append-nil (share_of total n k r)) ∙ ap (λ l. share_of total n k r ++ l) (sym none)
     ]
 
+-- the round of a page that isn't written is the last one begun
+pub begun_at : (total n rounds page : ℕ) (why : WriteStop) → page ≤ rounds * n → rounds * n < page + n → AreBegun total n rounds (ending_at page why)
+begun_at total n rounds page (stop.Draw (draw.Fault fault at)) low high = (low, high)
+begun_at total n rounds page (stop.Draw draw.SourceFault) low high = (low, high)
+begun_at total n rounds page (stop.Draw draw.NoMemory) low high = tt
+begun_at total n rounds page stop.Output low high = (low, high)
+
 module _ {F : Type 0} (total n : ℕ) where
   -- the rounds before page `next` were begun
   pub record InRounds (next : ℕ) (ws : List (Worker F)) : Type 0 where
@@ -45,6 +55,11 @@ module _ {F : Type 0} (total n : ℕ) where
   pub shares_rest : (ws now : List (Worker F)) → AreShares total n ws
       → ((k : ℕ) (d : Worker F) → k < n → (get_or now k d).pages.items ≡ (get_or ws k d).pages.items) → AreShares total n now
   shares_rest ws now shares same = record { rounds = shares.rounds; shared = λ k d lt. same k d lt ∙ shares.shared k d lt }
+
+  pub drew_rest : (e : EndingSeen) (ws now : List (Worker F)) → DrewShares total n e ws
+      → ((k : ℕ) (d : Worker F) → k < n → (get_or now k d).pages.items ≡ (get_or ws k d).pages.items) → DrewShares total n e now
+  drew_rest e ws now shares same =
+      record { drew = record { rounds = shares.drew.rounds; shared = λ k d lt. same k d lt ∙ shares.drew.shared k d lt }; begun = shares.begun }
 
   -- one worker's results alone changed
   pub shares_set : (next : ℕ) (now : List (Worker F)) (j : ℕ) (r v : Worker F) → InRounds next now → j < length now → j < n → SameBut (get_or now j r) v → InRounds next (set now j v)

@@ -28,7 +28,7 @@ use Rattle.page_workers.specs.Seats.{Fits, asked_at, library_at, units_at, room_
 use Rattle.page_workers.specs.Rounds.{Drew, IsOutcome, MayDraw, Rested, TookPart, trail_of}
 use Rattle.dvi_run.specs.Pages.{Given, IsValueOf, finding}
 use Rattle.dvi_run.specs.Endings.{IsWriteStop, Source, Written, ending_at}
-use Rattle.dvi_run.specs.Looked.{WholeLooks, BrokenLooks}
+use Rattle.dvi_run.specs.Looked.{WholeLooks, BrokenLooks, IsUnbroken}
 use Rattle.dvi_run.specs.Rounds.{Site, Kept, Trails, Settled, Pending, Stands, Ended, MayBegin, SameBut, FailedAt, IsOutcomeOf, LooksTo, WroteOutcome, keys_of, indexed_of}
 use Rattle.dvi_run.specs.declared.pages.WriteStop.{WriteStop}
 use Rattle.dvi_run.specs.declared.pages.WriteStop.TheVariants as stop
@@ -102,6 +102,20 @@ never_written page (stop.Draw (draw.Fault fault at)) e = cc
 never_written page (stop.Draw draw.SourceFault) e = cc
 never_written page (stop.Draw draw.NoMemory) e = cc
 never_written page stop.Output e = cc
+
+-- nothing was broken off for a page that isn't written, where the run wasn't
+whole_outcome : (before after : Option (List ℕ)) (OutputFails : Type 0) (page : ℕ) (outcome : Result Bitmap PageStop) (why : WriteStop) → WroteOutcome before after OutputFails outcome (Err why)
+    → IsUnbroken (ending_at page why) → IsWhole outcome
+whole_outcome before after OutputFails page (Ok p) why wrote u = tt
+whole_outcome before after OutputFails page (Err (draw.Fault fault at)) why wrote u = tt
+whole_outcome before after OutputFails page (Err draw.SourceFault) (stop.Draw (draw.Fault fault at)) wrote u = absurd (let e = wrote.0 in cc)
+whole_outcome before after OutputFails page (Err draw.SourceFault) (stop.Draw draw.SourceFault) wrote u = absurd u
+whole_outcome before after OutputFails page (Err draw.SourceFault) (stop.Draw draw.NoMemory) wrote u = absurd u
+whole_outcome before after OutputFails page (Err draw.SourceFault) stop.Output wrote u = absurd wrote
+whole_outcome before after OutputFails page (Err draw.NoMemory) (stop.Draw (draw.Fault fault at)) wrote u = absurd (let e = wrote.0 in cc)
+whole_outcome before after OutputFails page (Err draw.NoMemory) (stop.Draw draw.SourceFault) wrote u = absurd u
+whole_outcome before after OutputFails page (Err draw.NoMemory) (stop.Draw draw.NoMemory) wrote u = absurd u
+whole_outcome before after OutputFails page (Err draw.NoMemory) stop.Output wrote u = absurd wrote
 
 -- a page that was written
 wrote_it : (before after : Option (List ℕ)) (OutputFails : Type 0) (g : Given) (reading : Reading) (i : ℕ) (done : Unit {0}) (outcome : Result Bitmap PageStop) → IsOutcomeOf g reading i outcome
@@ -229,28 +243,40 @@ module _ {F : Type 0} (s : Site F) where
   settles (Ok page) old new OutputFails done w = (page, refl)
   settles (Err reason) old new OutputFails done w = absurd w
 
+  -- a page that wasn't broken off has all its look-ups
+  whole_looked : (outcome : Result Bitmap PageStop) (pages : List ℕ) (keys : List FontKey) → IsWhole outcome → LooksTo outcome (finding s.given s.reading) (indexed_of s.given s.reading) s.given pages keys
+      → WholeLooks (finding s.given s.reading) (indexed_of s.given s.reading) s.given.sheet pages keys
+  whole_looked (Ok page) pages keys w l = l
+  whole_looked (Err (draw.Fault fault at)) pages keys w l = l
+  whole_looked (Err draw.SourceFault) pages keys w l = absurd w
+  whole_looked (Err draw.NoMemory) pages keys w l = absurd w
+
+  -- a worker whose page was drawn to its end, and which has no result any more
+  pub settled_on : (i : ℕ) (start old new : Worker F) (p : Pending s i start old) → IsWhole p.outcome → SameBut old new → new.results.items ≡ [] → Settled s start new
+  settled_on i start old new p drawn same none =
+      let Finds = finding s.given s.reading in
+      let ix = indexed_of s.given s.reading in
+      let whole : Trails s (Unit {0}) start old = trail_as (Unit {0}) (IsWhole p.outcome) (asked_at start.seat) (asked_at old.seat) (trail_of s.loads start) (trail_of s.loads old)
+      (λ u. drawn) p.trail in
+      let looked : WholeLooks Finds ix s.given.sheet old.pages.items (keys_of old.seat) = whole_looked p.outcome old.pages.items (keys_of old.seat) drawn p.looked in
+      record {
+        kept = kept_on start old new same.source same.seat p.kept;
+        none = none;
+        trail = trails_on (Unit {0}) start old new same.source same.seat same.loads whole;
+        looked = subst (λ (ps : List ℕ). WholeLooks Finds ix s.given.sheet ps (keys_of new.seat)) (sym same.pages)
+            (subst (λ (o : Option SeatView). WholeLooks Finds ix s.given.sheet old.pages.items (keys_of o)) (sym same.seat) looked);
+      }
+
   -- a worker whose page was written has no result, and may draw on
   pub wrote_on : (n next i k : ℕ) (start old new : Worker F) (before after : Option (List ℕ)) (OutputFails : Type 0) (done : Unit {0}) → next + k ≡ i + n
       → i < pages_begun s.reading → Stands s n next i k start old → (p : Pending s i start old) → WroteOutcome before after OutputFails p.outcome (Ok done) → SameBut old new → new.results.items ≡ []
       → Stands s n next (i + 1) k start new
   wrote_on n next i k start old new before after OutputFails done at below st p wrote same none =
       let good = settles p.outcome before after OutputFails done wrote in
-      let Finds = finding s.given s.reading in
-      let ix = indexed_of s.given s.reading in
-      let whole : Trails s (Unit {0}) start old = trail_as (Unit {0}) (IsWhole p.outcome) (asked_at start.seat) (asked_at old.seat) (trail_of s.loads start) (trail_of s.loads old)
-      (λ u. subst (λ (o : Result Bitmap PageStop). IsWhole o) (sym good.1) tt) p.trail in
-      let looked : WholeLooks Finds ix s.given.sheet old.pages.items (keys_of old.seat) =
-      subst (λ (o : Result Bitmap PageStop). LooksTo o Finds ix s.given old.pages.items (keys_of old.seat)) good.1 p.looked in
       record {
         room = let room : room_at new.loads new.seat ≡ room_at old.loads old.seat = ap (λ (c : ℕ). room_at c new.seat) same.loads ∙ ap (room_at old.loads) same.seat in omega (arith, st.room, room);
         pending = λ low high. absurd (omega arith);
-        settled = λ either. record {
-          kept = kept_on start old new same.source same.seat p.kept;
-          none = none;
-          trail = trails_on (Unit {0}) start old new same.source same.seat same.loads whole;
-          looked = subst (λ (ps : List ℕ). WholeLooks Finds ix s.given.sheet ps (keys_of new.seat)) (sym same.pages)
-              (subst (λ (o : Option SeatView). WholeLooks Finds ix s.given.sheet old.pages.items (keys_of o)) (sym same.seat) looked);
-        };
+        settled = λ either. settled_on i start old new p (subst (λ (o : Result Bitmap PageStop). IsWhole o) (sym good.1) tt) same none;
       }
 
   -- ---- the end
@@ -368,6 +394,18 @@ module _ {F : Type 0} (s : Site F) where
           set_each (λ k a b. Ended s a b) xs now n j v (omega arith)
           (λ d. let b = same_at d in ended_on (get_or xs j d) (get_or now j d) v b.source b.seat b.loads b.pages (pending_ends i (get_or xs j d) (get_or now j d) (pending_at d)))
           (λ k d other lt. stands_ends n later i k (get_or xs k d) (get_or now k d) (stand k d lt))
+
+      -- where there is one worker, and nothing was broken off
+      pub after_whole : (why : WriteStop) → ((q : PageResult) → (get_or now j r).results.items ≡ q ∷ [] → WroteOutcome before after OutputFails q.outcome (Err why)) → v.results.items ≡ [] → n ≡ 1
+          → IsUnbroken (ending_at (i + 1) why) → (k : ℕ) (d : Worker F) → k < n → Settled s (get_or xs k d) (get_or (set now j v) k d)
+      after_whole why wrote none one unbroken k d lt =
+          let here : k ≡ j = omega arith in
+          let p = pending_at d in
+          let q = subst (λ (w : Worker F). w.results.items ≡ record { page = i; outcome = p.outcome } ∷ []) (same_default now j d r (omega arith)) p.result in
+          let whole = whole_outcome before after OutputFails (i + 1) p.outcome why (wrote (record { page = i; outcome = p.outcome }) q) unbroken in
+          subst (λ (m : ℕ). Settled s (get_or xs m d) (get_or (set now j v) m d)) (sym here)
+          (subst (λ (w : Worker F). Settled s (get_or xs j d) w) (sym (get_or-set_same now j v d (omega arith)))
+          (settled_on i (get_or xs j d) (get_or now j d) v p whole (same_at d) none))
 
       pub caused : (why : WriteStop) (page : ℕ) → ((q : PageResult) → (get_or now j r).results.items ≡ q ∷ [] → WroteOutcome before after OutputFails q.outcome (Err why)) → ending_at (i + 1) why ≡ Source page
           → (m : ℕ) × (m < n) × ((d : Worker F) → FailedAt s.faults page (get_or xs m d) (get_or (set now j v) m d))

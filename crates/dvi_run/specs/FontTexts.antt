@@ -12,6 +12,7 @@ use Rattle.font_decode.specs.declared.faults.FileKind.{FileKind}
 use Rattle.font_decode.specs.declared.faults.FileKind.TheVariants as kind
 use Rattle.font_decode.specs.declared.faults.FontFault.{FontFault}
 use Rattle.font_decode.specs.declared.faults.FontFault.TheVariants as font
+use Rattle.dvi_run.specs.VfTexts.{vf_text}
 
 -- ---- keys
 
@@ -55,8 +56,8 @@ kind_text kind.Pk = codes "pk"
 abbrev pub font_text : FontFault → List ℕ
 font_text (font.Missing kind) = codes "missing " ++ kind_text kind
 font_text (font.Tfm fault) = codes "tfm " ++ tfm_text fault
+font_text (font.Vf fault) = codes "vf " ++ vf_text fault
 font_text (font.Pk fault) = codes "pk " ++ pk_text fault
 font_text font.Name = codes "name"
 font_text font.Size = codes "size"
 font_text (font.TooLong kind) = codes "too long " ++ kind_text kind
-font_text font.NotYet = codes "not yet"

@@ -1,6 +1,7 @@
 -- Laws over the values of runs.
-use Rattle.std.specs.Prelude.{◌≡◌, ◌<◌, ◌≤◌, ℕ, suc, List, ◌∷◌, ◌++◌, length, map, Some, None, Ok, Err, unwrap_or}
+use Rattle.std.specs.Prelude.{◌≡◌, ◌<◌, ◌≤◌, ℕ, suc, Option, List, ◌∷◌, ◌++◌, length, map, Some, None, Ok, Err, unwrap_or}
 use Rattle.std.specs.List.{flat_map}
+use Rattle.std.specs.Io.KnownBytes.{Appends}
 use Rattle.outside.specs.Library.{Files}
 use Rattle.packed_rows.specs.Bitmap.{Bitmap}
 use Rattle.page_index.specs.Document.{Reading}
@@ -10,6 +11,7 @@ use Rattle.page_index.specs.declared.faults.DocFault.{DocFault}
 use Rattle.page_draw.specs.Values.{PageValue, PlacedFault}
 use Rattle.pbm_output.specs.Pbm.{page_text}
 use Rattle.dvi_run.specs.Shares.{EachPageHasOneWorker}
+use Rattle.dvi_run.specs.Endings.{OfRun, Stopped, Wrote}
 use Rattle.dvi_run.specs.Pages.{FailingPage, Given, IsRun, failing_page, run_fault, run_text}
 
 abbrev pub good : Bitmap → PageValue
@@ -57,6 +59,23 @@ EachPageHasItsEop = (g : Given) (bytes : List ℕ) (reading : Reading) (values :
 abbrev pub RunsHaveNoFault : Type 0
 RunsHaveNoFault = (g : Given) (bytes : List ℕ) (reading : Reading) (values : List PageValue) (fault : DocFault) → IsRun g bytes reading values
     → IsFirstFault g.res bytes fault → ⊥
+
+-- ---- two runs
+
+-- two outputs grew by one text
+abbrev pub GrewAlike : (old new other later : Option (List ℕ)) → Type 0
+GrewAlike old new other later = (text : List ℕ) × Appends old new text × Appends other later text
+
+-- where the font files are told, runs over one document for one sheet that end well wrote one text, whatever their workers, caches and
+-- schedules
+abbrev pub GoodRunsWriteAlike : Type 0
+GoodRunsWriteAlike = (g : Given) (files : Files) (bytes : List ℕ) (old new other later : Option (List ℕ)) → g.library ≡ Some files
+    → OfRun g bytes (Wrote old new) → OfRun g bytes (Wrote other later) → GrewAlike old new other later
+
+-- and those that end at a page without a bitmap end at the same one, by the same fault, and wrote one text
+abbrev pub StoppedRunsWriteAlike : Type 0
+StoppedRunsWriteAlike = (g : Given) (files : Files) (bytes : List ℕ) (old new other later : Option (List ℕ)) (p q : FailingPage) → g.library ≡ Some files
+    → OfRun g bytes (λ _. Stopped old new p) → OfRun g bytes (λ _. Stopped other later q) → (p ≡ q) × GrewAlike old new other later
 
 -- ---- workers
 

@@ -3,6 +3,7 @@ pub mod Settings
 pub mod Pages
 pub mod Endings
 pub mod DocTexts
+pub mod VfTexts
 pub mod FontTexts
 pub mod PageTexts
 pub mod Lines
@@ -10,5 +11,6 @@ pub mod Puts
 pub mod Laws
 pub mod Looked
 pub mod Rounds
-pub mod Promises
 pub mod Shares
+pub mod Together
+pub mod Promises

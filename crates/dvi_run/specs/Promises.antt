@@ -1,20 +1,18 @@
--- What holds of a run: why it ended as its status says, what it wrote and noted, which calls its cache had, and what it gave back.
-use Rattle.std.specs.Prelude.{◌≡◌, ◌⊎◌, ◌*◌, ◌≤◌, ℕ, List, [], ◌∷◌, Option, None, Some, IfSome}
+-- What holds of a run: why it ended as its status says, what it wrote and noted, and what was drawn.
+use Rattle.std.specs.Prelude.{◌≡◌, ◌⊎◌, ◌≤◌, ℕ, List, [], ◌∷◌, Option, Some, None}
 use Rattle.outside.specs.Library.{Files}
 use Rattle.cache_core.specs.declared.calls.Call.{Call}
-use Rattle.cache_core.specs.Histories.{AreOf}
-use Rattle.cache_core.specs.Machine.{Legal}
-use Rattle.font_decode.specs.Desks.{misses}
-use Rattle.font_decode.specs.Loads.{RoseUpTo}
 use Rattle.page_index.specs.Document.{Reading}
 use Rattle.page_index.specs.Faults.{IsFirstFault}
 use Rattle.page_index.specs.declared.faults.DocFault.{DocFault}
 use Rattle.page_draw.specs.Values.{PageValue}
+use Rattle.page_workers.specs.declared.worker.Worker.{Worker}
 use Rattle.dvi_run.specs.Reading.{IsAllRead, OfRead}
 use Rattle.dvi_run.specs.Pages.{FailingPage, Given, IsRun, IsWholeRun, run_fault}
 use Rattle.dvi_run.specs.Lines.{line_of}
-use Rattle.dvi_run.specs.Endings.{EndingSeen, IsAmong, IsPlaced, OfRun, Stopped, Tells, Wrote, WroteBefore, WroteFront, WroteSome, page_status, statuses}
-use Rattle.dvi_run.specs.Looked.{CalledAlone}
+use Rattle.dvi_run.specs.Endings.{EndingSeen, Source, IsAmong, IsPlaced, OfRun, Stopped, Tells, Wrote, WroteBefore, WroteFront, WroteSome, page_status, statuses}
+use Rattle.dvi_run.specs.Rounds.{FailedAt}
+use Rattle.dvi_run.specs.Together.{DrewTogether, SomeUsed}
 
 -- ---- parts of the claims: what holds of the bytes that were read
 
@@ -82,11 +80,16 @@ pub record IsCaused (g : Given) (status : ℕ) (left : Option (List ℕ)) (Input
   pub complete : (files : Files) → g.library ≡ Some files
       → ¬ InputFailed → ¬ SourceFailed → ¬ OutputFailed → OfRead left (GoodRunIsWhole g status)
 
--- What was read and written, by the status. `left` and `rest` are what the input had left before and
--- after, `old` and `new` what the output told. Nothing was written where it was kept.
-pub record IsWritten (g : Given) (status : ℕ) (left rest old new : Option (List ℕ)) (OutputKept : Type 0) : Type 0 where
+-- What was read, and written where the run ended well. `left` and `rest` are what the input had left
+-- before and after, `old` and `new` what the output told.
+pub record IsWritten (g : Given) (status : ℕ) (left rest old new : Option (List ℕ)) : Type 0 where
   -- 0: exactly the texts of all pages, which have a bitmap
   pub whole : status ≡ 0 → OfRead left (λ bytes. OfRun g bytes (Wrote old new))
+  -- 0, 2 to 5 and 7: the input was read to its end, or to the limit of a document and one byte more
+  pub read : IsAmong status (0 ∷ 2 ∷ 3 ∷ 4 ∷ 5 ∷ 7 ∷ []) → IsAllRead left rest
+
+-- What was written where the run was refused, by the status. Nothing was written where the output was kept.
+pub record IsCutShort (g : Given) (status : ℕ) (left old new : Option (List ℕ)) (OutputKept : Type 0) : Type 0 where
   -- 2 and 6: nothing
   pub nothing : IsAmong status (2 ∷ 6 ∷ []) → OutputKept
   -- 3 and 4: all pages before the first that has no bitmap, and nothing else
@@ -98,8 +101,6 @@ pub record IsWritten (g : Given) (status : ℕ) (left rest old new : Option (Lis
   -- 9: nothing, or some pages from the first on, each whole
   pub memory : status ≡ 9
       → OutputKept ⊎ OfRead left (λ bytes. OfRun g bytes (λ _. WroteSome old new))
-  -- 0, 2 to 5 and 7: the input was read to its end, or to the limit of a document and one byte more
-  pub read : IsAmong status (0 ∷ 2 ∷ 3 ∷ 4 ∷ 5 ∷ 7 ∷ []) → IsAllRead left rest
 
 -- What the notes took of the line of a run that ends so, and that the line is true.
 pub record IsNoted (g : Given) (e : EndingSeen) (left old new notes_old notes_new : Option (List ℕ)) (notes_before notes_now : ℕ) : Type 0 where
@@ -109,27 +110,18 @@ pub record IsNoted (g : Given) (e : EndingSeen) (left old new notes_old notes_ne
   -- the notes grew by the line, or by a front of it where they failed
   pub told : Tells notes_old notes_new notes_before notes_now (line_of e)
 
--- The calls of the cache of a run that ends so.
-pub record IsCached (g : Given) (capacity status : ℕ) (e : EndingSeen) (left old new : Option (List ℕ)) (history : List Call) : Type 0 where
-  -- they are legal for the capacity, told or not
-  pub legal : Legal capacity history
-  -- they are of one seat
-  pub own : AreOf 1 history
-  -- there is none where no page was begun. Else they answer what the pages drawn looked up, in the order
-  -- of the file, the look-ups of each beside the value that says what was written of it, and they are one
-  -- list, given those keys, unless the source failed (5) or memory was wanting (9)
-  pub answered : OfRead left (CalledAlone g old new capacity status e history)
-
--- The source of the fonts, after a run whose cache had these calls.
-pub record IsGivenBack {F : Type 0} (library : F → Option Files) (faults loads : F → ℕ) (status : ℕ) (history : List Call) (source : F) (back : Option F) : Type 0 where
-  -- it is given back, but maybe at 9
-  pub none : back ≡ None → status ≡ 9
-  -- with its files as they were
-  pub files : IfSome back (λ b. library b ≡ library source)
-  -- its count of faults didn't fall
-  pub count : IfSome back (λ b. faults source ≤ faults b)
-  -- and it loaded at most five files for each look that was no hit
-  pub loaded : IfSome back (λ b. RoseUpTo (5 * misses history) (loads source) (loads b))
+-- The end of a run over n workers: what it noted, whose source failed, and what was drawn.
+pub record HasEnded {F : Type 0} (faults : F → ℕ) (g : Given) (capacity n status : ℕ) (e : EndingSeen)
+    (left old new notes_old notes_new : Option (List ℕ)) (notes_before notes_now : ℕ)
+    (history : List Call) (before after : List (Worker F)) : Type 0 where
+  -- the notes took the line of this end, which is true
+  pub noted : IsNoted g e left old new notes_old notes_new notes_before notes_now
+  -- 5: the count that rose is that of the source whose worker drew the page named, as its last one
+  pub failed : (page : ℕ) → e ≡ Source page → SomeUsed n before after (FailedAt faults page)
+  -- nothing was drawn where no cache was made. Else each look-up found what the files told have for its
+  -- key: the pages have the values that this gives them, which say what was written; the workers drew
+  -- the first pages, each page once, to the end of a round; and the calls of each worker answer what its pages looked up
+  pub drew : OfRead left (DrewTogether g old new capacity n status e history before after)
 
 -- The counts of faults of the input, the output and the notes didn't fall.
 pub record NoCountFalls (input_before input_now output_before output_now notes_before notes_now : ℕ) : Type 0 where

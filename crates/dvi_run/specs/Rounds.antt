@@ -154,7 +154,8 @@ pub record IsFresh {F : Type 0} (library : F → Option Files) (told : Option Fi
   pub pages : w.pages.items ≡ []
 
 -- what a worker did in a run, by the calls of its seat in the history: they answer the look-ups of the pages that it drew, a claim is given
--- up at their end alone, and nowhere where the run is whole, and it loaded at most five files for each look that was no hit. It has neither
+-- up at their end alone, and nowhere where the run is whole, nor is a page broken off then, and it loaded at most five files for each look
+-- that was no hit. It has neither
 -- a seat nor a result any more, and its source tells what the run was told
 pub record Ran {F : Type 0} (Whole : Type 0) (library : F → Option Files) (faults loads : F → ℕ) (g : Given) (reading : Reading) (history : List Call) (number : ℕ) (before after : Worker F) : Type 0 where
   pub seat : after.seat ≡ None
@@ -167,4 +168,5 @@ pub record Ran {F : Type 0} (Whole : Type 0) (library : F → Option Files) (fau
   pub answered : SeatCalls keys (own number history)
   pub last : ReleasedLast (own number history)
   pub whole : Whole → NoneReleased (own number history)
+  pub drawn_out : Whole → WholeLooks (finding g reading) (indexed_of g reading) g.sheet after.pages.items keys
   pub loaded : Loaded (5 * misses (own number history)) (loads before.source) (loads after.source) before.loads after.loads

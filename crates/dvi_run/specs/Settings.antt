@@ -12,11 +12,11 @@ default_sheet = record { width = 2550; height = 3300; left = 300; top = 300 }
 unfoldable pub default_settings : Settings
 default_settings = record { res = 300; sheet = default_sheet; workers = 1; cache = 16; sample = None; trace = false; summary = false }
 
--- the settings that a run takes today: one worker, the input's own document, and no notes but the line of a refused run
+-- the settings that a run takes today: the input's own document, and no notes but the line of a refused run
 pub record AreSettings (settings : Settings) : Type 0 where
   pub resolution : (1 ≤ settings.res) × (settings.res ≤ 4800)
   pub sheet : IsDrawable settings.sheet
-  pub workers : settings.workers ≡ 1
+  pub workers : (1 ≤ settings.workers) × (settings.workers ≤ 32)
   pub cache : (1 ≤ settings.cache) × (settings.cache ≤ 256)
   pub sample : settings.sample ≡ None
   pub trace : settings.trace ≡ false

@@ -2,6 +2,7 @@
 ghost use Rattle.std.specs.Prelude.{◌≡◌, ◌+◌, ◌<◌, ◌≤◌, [], ℕ, List, Option, None, Some, length, slice_index_or};
 ghost use Rattle.outside.specs.Counts.{Rose};
 ghost use Rattle.outside.specs.Library.{Files};
+ghost use Rattle.cache_core.specs.Histories.{own};
 ghost use Rattle.cache_core.specs.Machine.{Legal};
 ghost use Rattle.cache_core.specs.Views.{calls_of};
 ghost use Rattle.cache_core.specs.Laws.{FewClaims};
@@ -13,8 +14,9 @@ ghost use Rattle.page_draw.specs.Values.{PageValue};
 ghost use Rattle.turn_lock.specs.Histories.{AllMade};
 ghost use Rattle.turn_lock.specs.Views.{opening_view};
 ghost use Rattle.dvi_run.specs.Pages.{AreValues};
-ghost use Rattle.dvi_run.specs.Endings.{EndsPages, Source, Written, seen_ending};
-ghost use Rattle.dvi_run.specs.Shares.{AreShares};
+ghost use Rattle.dvi_run.specs.Endings.{EndsPages, Source, seen_ending};
+ghost use Rattle.dvi_run.specs.Looked.{IsDrawnThrough};
+ghost use Rattle.dvi_run.specs.Shares.{DrewShares};
 ghost use Rattle.dvi_run.specs.Rounds.{FailedAt, IsFresh, Ran};
 
 use crate::clearing::clear_all;
@@ -58,12 +60,13 @@ pub fn draw_over<R: Threads + Wait + Sync, F: FontSource + Send, O: Output>(
         (Unit {0}) (seen_ending result.0) index.now.reading values }
     ensures cause { (page : ℕ) → seen_ending result.0 ≡ Source page → (k : ℕ) × (k < length workers.old)
         × ((d : _) → FailedAt F.faults page (slice_index_or workers.old k d) (slice_index_or workers.new k d)) }
-    ensures shares { AreShares (pages_begun index.now.reading) (length workers.old) workers.new }
+    ensures shares { DrewShares (pages_begun index.now.reading) (length workers.old) (seen_ending result.0) workers.new }
     ensures legal { Legal first.view.part.capacity (calls_of result.1.items) }
     ensures made { AllMade (length workers.old + 1) (calls_of result.1.items) }
+    ensures first { own 0 (calls_of result.1.items) ≡ [] }
     ensures few_claims { FewClaims (calls_of result.1.items) }
     ensures workers { (k : ℕ) (d : _) → k < length workers.old
-        → Ran (seen_ending result.0 ≡ Written) F.library F.faults F.loads (record { library = told; res = index.now.res; sheet = sheet.now }) index.now.reading (calls_of result.1.items) (k + 1)
+        → Ran (IsDrawnThrough (length workers.old) (seen_ending result.0)) F.library F.faults F.loads (record { library = told; res = index.now.res; sheet = sheet.now }) index.now.reading (calls_of result.1.items) (k + 1)
         (slice_index_or workers.old k d) (slice_index_or workers.new k d) }
     ensures output { O.faults out.old ≤ O.faults out.new }
 {
@@ -102,12 +105,13 @@ pub fn draw_at_once<R: Threads + Wait + Sync, F: FontSource + Send, O: Output>(
         (Unit {0}) (seen_ending result) index.now.reading values }
     ensures cause { (page : ℕ) → seen_ending result ≡ Source page → (k : ℕ) × (k < length workers.old)
         × ((d : _) → FailedAt F.faults page (slice_index_or workers.old k d) (slice_index_or workers.new k d)) }
-    ensures shares { AreShares (pages_begun index.now.reading) (length workers.old) workers.new }
+    ensures shares { DrewShares (pages_begun index.now.reading) (length workers.old) (seen_ending result) workers.new }
     ensures legal { Legal capacity (calls_of history.new.items) }
     ensures made { AllMade (length workers.old + 1) (calls_of history.new.items) }
+    ensures first { own 0 (calls_of history.new.items) ≡ [] }
     ensures few_claims { FewClaims (calls_of history.new.items) }
     ensures workers { (k : ℕ) (d : _) → k < length workers.old
-        → Ran (seen_ending result ≡ Written) F.library F.faults F.loads (record { library = told; res = index.now.res; sheet = sheet.now }) index.now.reading (calls_of history.new.items) (k + 1)
+        → Ran (IsDrawnThrough (length workers.old) (seen_ending result)) F.library F.faults F.loads (record { library = told; res = index.now.res; sheet = sheet.now }) index.now.reading (calls_of history.new.items) (k + 1)
         (slice_index_or workers.old k d) (slice_index_or workers.new k d) }
     ensures output { O.faults out.old ≤ O.faults out.new }
 {

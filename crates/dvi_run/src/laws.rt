@@ -1,5 +1,5 @@
 //! Laws over the definitions, each a clause of a function without a body.
-ghost use Rattle.dvi_run.specs.Laws.{EachPageHasItsEop, FaultsEndTheRun, OneReading, OneRun, PagesAreShared, RunsEndAtTheFirstFault, RunsHaveFronts, RunsHaveNoFault, RunsOfGoodPages};
+ghost use Rattle.dvi_run.specs.Laws.{EachPageHasItsEop, FaultsEndTheRun, GoodRunsWriteAlike, OneReading, OneRun, PagesAreShared, RunsEndAtTheFirstFault, RunsHaveFronts, RunsHaveNoFault, RunsOfGoodPages, StoppedRunsWriteAlike};
 
 use page_index::laws::documents;
 
@@ -11,13 +11,16 @@ pub fn texts()
 {}
 
 /// A document has one reading, and over told font files one value for each page, up to the page's end. No
-/// bytes are both a document and a file with a fault.
+/// bytes are both a document and a file with a fault. However many workers there are, whatever the cache and
+/// the schedule, all runs over one document that end well write one text, and so do those that end at a page.
 pub fn runs()
     ensures reading { OneReading }
     ensures values { OneRun }
     ensures fronts { RunsHaveFronts }
     ensures no_fault { RunsHaveNoFault }
     ensures ends { EachPageHasItsEop }
+    ensures good { GoodRunsWriteAlike }
+    ensures stopped { StoppedRunsWriteAlike }
 {
     documents();
     page_index::laws::pages();

@@ -5,7 +5,6 @@
 //! and the notes, each a part of its own that the calls' contracts don't name.
 #![tactic(auto)]
 
-mod alone;
 mod at_once;
 mod clearing;
 mod ending;
@@ -17,6 +16,7 @@ mod reading;
 mod rounds;
 mod run;
 mod settings;
+mod stages;
 #[cfg(test)]
 mod tests;
 mod texts;

@@ -8,8 +8,9 @@ ghost use Rattle.page_draw.specs.Sheets.{IsDrawable};
 ghost use Rattle.page_draw.specs.Values.{PageValue};
 ghost use Rattle.page_workers.specs.Rounds.{MayDraw, Rested, TookPart};
 ghost use Rattle.dvi_run.specs.Pages.{AreValues};
-ghost use Rattle.dvi_run.specs.Endings.{EndsPages, Source, Written, seen_ending};
-ghost use Rattle.dvi_run.specs.Shares.{AreShares};
+ghost use Rattle.dvi_run.specs.Endings.{EndsPages, Source, seen_ending};
+ghost use Rattle.dvi_run.specs.Looked.{IsDrawnThrough};
+ghost use Rattle.dvi_run.specs.Shares.{DrewShares};
 ghost use Rattle.dvi_run.specs.Rounds.{Ended, FailedAt, MayBegin, SameBut, Settled, WroteOutcome, site};
 
 use crate::ending::Ending;
@@ -101,11 +102,11 @@ pub fn write_rounds<R: Threads + Wait + Sync, F: FontSource + Send, O: Output>(
         × AreValues (record { library = told; res = index.now.res; sheet = sheet.now }) index.now.reading values
         × EndsPages (O.written out.old) (O.written out.new) (Rose (O.faults out.old) (O.faults out.new))
         (Unit {0}) (seen_ending result) index.now.reading values }
-    ensures whole { seen_ending result ≡ Written → (k : ℕ) (d : _) → k < length workers.old
+    ensures whole { IsDrawnThrough (length workers.old) (seen_ending result) → (k : ℕ) (d : _) → k < length workers.old
         → Settled (site F.library F.faults F.loads bench.now told index.now sheet.now) (slice_index_or workers.old k d) (slice_index_or workers.new k d) }
     ensures cause { (page : ℕ) → seen_ending result ≡ Source page → (k : ℕ) × (k < length workers.old)
         × ((d : _) → FailedAt F.faults page (slice_index_or workers.old k d) (slice_index_or workers.new k d)) }
-    ensures shares { AreShares (pages_begun index.now.reading) (length workers.old) workers.new }
+    ensures shares { DrewShares (pages_begun index.now.reading) (length workers.old) (seen_ending result) workers.new }
     ensures workers { (k : ℕ) (d : _) → k < length workers.old
         → Ended (site F.library F.faults F.loads bench.now told index.now sheet.now) (slice_index_or workers.old k d) (slice_index_or workers.new k d) }
     ensures output { O.faults out.old ≤ O.faults out.new }

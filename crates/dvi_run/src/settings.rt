@@ -12,7 +12,7 @@ pub struct Settings {
     pub res: u32,
     /// The sheet that each page is drawn on, in dots: sides of 1 to 20,000, margins of 0 to 20,000.
     pub sheet: Sheet,
-    /// How many pages are drawn at a time: 1.
+    /// How many pages are drawn at a time: 1 to 32, and at most as many as there are workers.
     pub workers: u32,
     /// How many fonts are kept: 1 to 256.
     pub cache: u32,

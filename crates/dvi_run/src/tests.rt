@@ -1,5 +1,5 @@
 //! Runs in memory, with documents at half a dot for a unit (num 1270, den 3, mag 1000).
-ghost use Rattle.std.specs.Prelude.{◌≤◌};
+ghost use Rattle.std.specs.Prelude.{◌≡◌, ◌≤◌};
 ghost use Rattle.page_draw.specs.Sheets.{IsDrawable};
 ghost use Rattle.dvi_run.specs.Settings.{AreSettings};
 
@@ -11,15 +11,20 @@ mod faults;
 mod files;
 mod font_faults;
 mod limits;
+mod machine;
+mod one;
 mod pages;
 mod streams;
+mod workers;
 
-use crate::{Settings, dvipbm_run, run_with};
+use crate::Settings;
+use one::{run_alone, run_by_words};
 use outside::{FontSource, Library, MemInput, MemOutput, SureFonts, SureInput};
 use page_draw::Sheet;
 use std::alloc::Global;
 use std::sync::{Arc, Wait};
 use std::test::Fail;
+use std::thread::Threads;
 
 /// A page with a put rule of height 4 and width 6, which is 2 rows of 3 dots.
 static PUT_RULE: [u8; 112] = [
@@ -95,7 +100,7 @@ fn no_fonts(alloc: Global) -> Result<SureFonts, Fail> {
 
 // Whether a run of these bytes with so many bytes for a read and for a write, where the listed reads and
 // writes fail, ends with this status, output and line.
-fn ends<R: Wait>(
+fn ends<R: Threads + Wait + Sync>(
     rt: &R,
     alloc: Global,
     bytes: &[u8],
@@ -113,7 +118,7 @@ fn ends<R: Wait>(
     let mut notes = MemOutput::new(alloc, 5, Vec::new(alloc));
     let source = no_fonts(alloc)?;
     let mut history = Vec::new(alloc);
-    let (answer, source) = dvipbm_run(
+    let answer = run_by_words(
         rt,
         alloc,
         &[],
@@ -122,12 +127,12 @@ fn ends<R: Wait>(
         &mut out,
         &mut notes,
         &mut history,
-    );
-    Ok(answer == status && source.is_some() && out.bytes() == written && notes.bytes() == line)
+    )?;
+    Ok(answer == status && out.bytes() == written && notes.bytes() == line)
 }
 
 // A document with this page is drawn with these dots black, and no others.
-fn draws<R: Wait>(
+fn draws<R: Threads + Wait + Sync>(
     rt: &R,
     alloc: Global,
     page: &[u8],
@@ -139,14 +144,20 @@ fn draws<R: Wait>(
 }
 
 // Whether a run of these bytes is refused with status 2 and this line.
-fn is_refused<R: Wait>(rt: &R, alloc: Global, bytes: &[u8], line: &[u8]) -> Result<bool, Fail> {
+fn is_refused<R: Threads + Wait + Sync>(
+    rt: &R,
+    alloc: Global,
+    bytes: &[u8],
+    line: &[u8],
+) -> Result<bool, Fail> {
     ends(rt, alloc, bytes, (4096, 4096), (&[], &[]), 2, b"", line)
 }
 
 // The settings of a run without words, but for the sheet.
 fn on(sheet: Sheet) -> Settings
     requires { IsDrawable sheet }
-    ensures { AreSettings result }
+    ensures allowed { AreSettings result }
+    ensures one { result.workers ≡ 1 }
 {
     Settings {
         res: 300,
@@ -160,7 +171,7 @@ fn on(sheet: Sheet) -> Settings
 }
 
 // Whether a run of these bytes with these settings and fonts ends with this status, output and line.
-fn ends_on<R: Wait, F: FontSource>(
+fn ends_on<R: Threads + Wait + Sync, F: FontSource + Send>(
     rt: &R,
     alloc: Global,
     settings: &Settings,
@@ -170,13 +181,14 @@ fn ends_on<R: Wait, F: FontSource>(
     written: &[u8],
     line: &[u8],
 ) -> Result<bool, Fail>
-    requires { AreSettings settings.now }
+    requires settings { AreSettings settings.now }
+    requires one { settings.now.workers ≡ 1 }
 {
     let mut input = SureInput::new(Vec::from_slice(alloc, bytes)?);
     let mut out = MemOutput::new(alloc, 64, Vec::new(alloc));
     let mut notes = MemOutput::new(alloc, 64, Vec::new(alloc));
     let mut history = Vec::new(alloc);
-    let (answer, source) = run_with(
+    let answer = run_alone(
         rt,
         alloc,
         settings,
@@ -185,6 +197,6 @@ fn ends_on<R: Wait, F: FontSource>(
         &mut out,
         &mut notes,
         &mut history,
-    );
-    Ok(answer == status && source.is_some() && out.bytes() == written && notes.bytes() == line)
+    )?;
+    Ok(answer == status && out.bytes() == written && notes.bytes() == line)
 }

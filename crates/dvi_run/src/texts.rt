@@ -6,3 +6,4 @@ pub mod key;
 pub mod name;
 pub mod page;
 pub mod puts;
+pub mod virtual_font;

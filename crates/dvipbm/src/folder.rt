@@ -16,7 +16,7 @@ const MOST: u64 = 8_388_609;
 pub struct FolderFonts<'a, R> {
     rt: &'a R,
     alloc: Global,
-    folder: PathBuf,
+    folder: &'a PathBuf,
     faults: u64,
     loads: u64,
     ghost loads_fit: { loads < 2 ^ 64 },
@@ -24,7 +24,7 @@ pub struct FolderFonts<'a, R> {
 
 impl<'a, R: Files> FolderFonts<'a, R> {
     /// No load has failed yet.
-    pub fn new(rt: &'a R, alloc: Global, folder: PathBuf) -> FolderFonts<'a, R>
+    pub fn new(rt: &'a R, alloc: Global, folder: &'a PathBuf) -> FolderFonts<'a, R>
         ensures faults { result.faults ≡ 0 }
         ensures loads { result.loads ≡ 0 }
     {

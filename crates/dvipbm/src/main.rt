@@ -5,16 +5,17 @@
 
 mod adapters;
 mod folder;
+mod workers;
 
 use adapters::{FromReader, ToWriter};
 use dvi_run::dvipbm_run;
-use folder::FolderFonts;
 use std::env::{self, VarError};
 use std::io::ErrorKind;
 use std::path::PathBuf;
 use std::process::ExitCode;
+use workers::workers_over;
 
-/// Memory is wanting for the words or for the folder's name.
+/// Memory is wanting for the words, for the folder's name or for the workers.
 const NO_MEMORY: u8 = 9;
 
 /// The words or the folder's name can't be had. No run ends so.
@@ -54,17 +55,19 @@ fn main(rt: HostRuntime) -> ExitCode {
         Ok(folder) => folder,
         Err(status) => return ExitCode::from(status),
     };
-    let fonts = FolderFonts::new(&rt, alloc, folder);
+    let Ok(mut workers) = workers_over(&rt, alloc, &folder) else {
+        return ExitCode::from(NO_MEMORY);
+    };
     let mut input = FromReader::new(rt.stdin());
     let mut out = ToWriter::new(rt.stdout());
     let mut notes = ToWriter::new(rt.stderr());
     let mut history = Vec::new(alloc);
-    let (status, _fonts) = dvipbm_run(
+    let status = dvipbm_run(
         &rt,
         alloc,
         &words,
         &mut input,
-        fonts,
+        &mut workers,
         &mut out,
         &mut notes,
         &mut history,

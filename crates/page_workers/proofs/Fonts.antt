@@ -1,5 +1,5 @@
 -- The font of a key's files is the key's font.
-use Rattle.std.proofs.Common.{◌≡◌, List, [], Bool, true, false, Option, Some, None, Result, Ok, Err, IfOk, refl, sym, ap, subst, ◌∙◌}
+use Rattle.std.proofs.Common.{◌≡◌, List, [], Bool, true, false, Option, Some, None, Result, Ok, Err, IfOk, refl, ap, subst, ◌∙◌}
 use Rattle.std.specs.Prelude.{IfSome, IsNone, IsSome, ◌&&◌, is_some, is_none, if◌then◌else◌, ℕ}
 use Rattle.std.specs.FinMap.{get}
 use Rattle.outside.specs.Library as library
@@ -7,7 +7,7 @@ use Rattle.outside.specs.declared.keys.FontKey.{FontKey}
 use Rattle.pixel_round.specs.declared.units.Units.{Units}
 use Rattle.font_decode.specs.Names.{is_valid_name, dpi, is_resolution, tfm_name, vf_name, pk_names}
 use Rattle.font_decode.specs.Files.{FontFiles, IsFound, IsInOrder, first_there, pk_choices}
-use Rattle.font_decode.specs.Decoding.{IsDecodingOf, IsFontOf, IsFontBySome, IsFontIn}
+use Rattle.font_decode.specs.Decoding.{IsDecodingOf, IsFontOf, IsFontBySome}
 use Rattle.font_decode.specs.declared.decoded.Decoded.{Decoded}
 
 pub found_in : (told : Option library.Files) (u : Units) (k : FontKey) (files : FontFiles) (d : Decoded) → IfSome told (λ l. IsFound l u k files) → IsInOrder u k files → IsDecodingOf u k files d

@@ -2,3 +2,4 @@ pub mod Counts
 pub mod Seats
 pub mod Rounds
 pub mod Seating
+pub mod Laws

@@ -15,6 +15,13 @@ abbrev pub numbers : ℕ → List ℕ
 numbers zero = []
 numbers (suc n) = numbers n ++ suc n ∷ []
 
+-- a worker as it was made
+pub record IsUnused {F : Type 0} (w : Worker F) : Type 0 where
+  pub seat : w.seat ≡ None
+  pub none : w.results.items ≡ []
+  pub loads : w.loads ≡ 0
+  pub pages : w.pages.items ≡ []
+
 -- a worker but for its seat
 pub record SameElse {F : Type 0} (before after : Worker F) : Type 0 where
   pub source : after.source ≡ before.source

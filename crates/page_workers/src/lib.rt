@@ -5,6 +5,7 @@
 mod bench;
 mod counting;
 mod keeping;
+pub mod laws;
 mod loading;
 mod round;
 mod seating;
@@ -14,3 +15,6 @@ pub use bench::Bench;
 pub use round::{MOST_WORKERS, draw_round};
 pub use seating::{join_all, seat_all};
 pub use worker::{PageResult, Worker};
+
+#[cfg(test)]
+mod tests;

@@ -1,6 +1,7 @@
 //! All workers get a seat, and all seats are taken in again.
 ghost use Rattle.std.specs.Prelude.{◌≡◌, ℕ, ◌+◌, ◌<◌, [], ◌∷◌, ◌++◌, length, slice_index_or};
 ghost use mathlib.Core.List.{IsPrefix};
+ghost use Rattle.cache_core.specs.Histories.{own};
 ghost use Rattle.turn_lock.specs.Histories.{OwnsSame};
 ghost use Rattle.turn_lock.specs.declared.view.Stage.TheVariants.{Idle};
 ghost use Rattle.page_workers.specs.Seating.{HasLeft, MayLeave, WasSeated, numbers};
@@ -23,6 +24,7 @@ fn seat_one<F: FontSource>(
     ensures same { (first.new.view.number ≡ 0) × (first.new.view.stage ≡ first.old.view.stage)
         × (first.new.view.part ≡ first.old.view.part)
         × (first.new.view.joined ≡ first.old.view.joined) }
+    ensures seen { first.new.view.seen ≡ first.old.view.seen }
     ensures made { first.new.view.made ≡ first.old.view.made + 1 }
     ensures seated { WasSeated cache.now first.old.view.part first.old.view.made
         worker.old worker.new }
@@ -30,8 +32,8 @@ fn seat_one<F: FontSource>(
     worker.seat = Some(cache.split(first));
 }
 
-/// Gives each worker a seat that has made no call: worker k, counted from 0, gets seat k + 1. It
-/// takes no memory.
+/// Gives each worker a seat that has made no call: worker k, counted from 0, gets seat k + 1. Seat 0
+/// makes none meanwhile. It takes no memory.
 pub fn seat_all<F: FontSource>(
     cache: &FontCache<Decoded>,
     first: &mut CacheSeat<Decoded>,
@@ -46,6 +48,7 @@ pub fn seat_all<F: FontSource>(
     ensures same { (first.new.view.number ≡ 0) × (first.new.view.stage ≡ Idle)
         × (first.new.view.part ≡ first.old.view.part)
         × (first.new.view.joined ≡ first.old.view.joined) }
+    ensures seen { first.new.view.seen ≡ first.old.view.seen }
     ensures made { first.new.view.made ≡ length workers.old + 1 }
     ensures seated { (k : ℕ) (d : _) → k < length workers.old
         → WasSeated cache.now first.old.view.part (k + 1)
@@ -71,6 +74,7 @@ fn join_one<F: FontSource>(
     ensures same { (first.new.view.number ≡ 0) × (first.new.view.stage ≡ Idle)
         × (first.new.view.part ≡ first.old.view.part)
         × (first.new.view.made ≡ first.old.view.made) }
+    ensures mine { own 0 first.new.view.seen ≡ own 0 first.old.view.seen }
     ensures joined { first.new.view.joined ≡ first.old.view.joined ++ number ∷ [] }
     ensures begins { IsPrefix first.old.view.seen first.new.view.seen }
     ensures left { HasLeft first.new.view.seen number worker.old worker.new }
@@ -82,7 +86,8 @@ fn join_one<F: FontSource>(
     cache.join(first, seat);
 }
 
-/// Takes the seats of all workers, in their order, and joins them to seat 0. It takes no memory.
+/// Takes the seats of all workers, in their order, and joins them to seat 0, which makes no call
+/// meanwhile. It takes no memory.
 pub fn join_all<F: FontSource>(
     cache: &FontCache<Decoded>,
     first: &mut CacheSeat<Decoded>,
@@ -99,6 +104,7 @@ pub fn join_all<F: FontSource>(
     ensures same { (first.new.view.number ≡ 0) × (first.new.view.stage ≡ Idle)
         × (first.new.view.part ≡ first.old.view.part)
         × (first.new.view.made ≡ first.old.view.made) }
+    ensures mine { own 0 first.new.view.seen ≡ own 0 first.old.view.seen }
     ensures joined { first.new.view.joined ≡ numbers (length workers.old) }
     ensures left { (k : ℕ) (d : _) → k < length workers.old
         → HasLeft first.new.view.seen (k + 1)

@@ -3,14 +3,16 @@ ghost use Rattle.std.specs.Prelude.{◌≤◌};
 
 use super::document;
 use super::files::dot_and_bar;
+use super::one::run_alone;
 use super::pages::TWO;
-use crate::{Settings, run_with};
+use crate::Settings;
 use cache_core::{Act, Entry};
 use outside::{MemOutput, SureFonts, SureInput};
 use page_draw::Sheet;
 use std::alloc::Global;
 use std::sync::Wait;
 use std::test::Fail;
+use std::thread::Threads;
 
 /// A letter for each call, and the first letter of the key that left.
 pub fn told(alloc: Global, history: &[Entry]) -> Result<Vec<u8>, Fail> {
@@ -29,7 +31,7 @@ pub fn told(alloc: Global, history: &[Entry]) -> Result<Vec<u8>, Fail> {
 }
 
 // The calls of a run over two pages, with a cache of so many fonts.
-fn calls<R: Wait>(rt: &R, alloc: Global, cache: u32) -> Result<Vec<u8>, Fail>
+fn calls<R: Threads + Wait + Sync>(rt: &R, alloc: Global, cache: u32) -> Result<Vec<u8>, Fail>
     requires { (1 ≤ cache) × (cache ≤ 256) }
 {
     let pages: [&[u8]; 2] = [&[0xab, 0x41, 0xac, 0x41, 0xab, 0x41], &[0xac, 0x41]];
@@ -52,7 +54,7 @@ fn calls<R: Wait>(rt: &R, alloc: Global, cache: u32) -> Result<Vec<u8>, Fail>
     let mut out = MemOutput::new(alloc, 64, Vec::new(alloc));
     let mut notes = MemOutput::new(alloc, 64, Vec::new(alloc));
     let mut history = Vec::new(alloc);
-    let (status, source) = run_with(
+    let status = run_alone(
         rt,
         alloc,
         &settings,
@@ -61,9 +63,9 @@ fn calls<R: Wait>(rt: &R, alloc: Global, cache: u32) -> Result<Vec<u8>, Fail>
         &mut out,
         &mut notes,
         &mut history,
-    );
+    )?;
     let mut letters = told(alloc, &history)?;
-    if status != 0 || source.is_none() {
+    if status != 0 {
         letters.push(b'?')?;
     }
     Ok(letters)

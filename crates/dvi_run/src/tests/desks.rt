@@ -8,9 +8,19 @@ use font_decode::{Decoded, Desk};
 use outside::SureFonts;
 use page_draw::{PlainDesk, Sheet, SoloDesk, draw};
 use page_index::Index;
+use raster_page::Page;
 use std::alloc::Global;
 use std::sync::{Arc, Wait};
 use std::test::Fail;
+
+// The bytes of all rows, one after another.
+fn rows_of(alloc: Global, page: &Page) -> Result<Vec<u8>, Fail> {
+    let mut rows = Vec::new(alloc);
+    for y in 0..page.height() {
+        rows.extend_from_slice(page.row(y))?;
+    }
+    Ok(rows)
+}
 
 /// What a page over a desk came to: its rows, or none.
 fn rows_over<R: Wait>(rt: &R, alloc: Global, cached: bool) -> Result<Option<Vec<u8>>, Fail> {
@@ -37,7 +47,7 @@ fn rows_over<R: Wait>(rt: &R, alloc: Global, cached: bool) -> Result<Option<Vec<
         draw(rt, alloc, &mut desk, &(), &index, 0, &sheet)
     };
     match drawn {
-        Ok(page) => Ok(Some(Vec::from_slice(alloc, page.rows())?)),
+        Ok(page) => Ok(Some(rows_of(alloc, &page)?)),
         Err(_) => Ok(None),
     }
 }

@@ -8,6 +8,7 @@ use std::alloc::Global;
 use std::process::Abort;
 use std::sync::{Arc, Wait};
 use std::test::Fail;
+use std::thread::Threads;
 
 const SHEET: Sheet = Sheet {
     width: 8,
@@ -18,7 +19,7 @@ const SHEET: Sheet = Sheet {
 
 // Whether a page with a character of a font, with these sizes and files, ends the run with status 4 and
 // this line.
-fn fails<R: Wait>(
+fn fails<R: Threads + Wait + Sync>(
     rt: &R,
     alloc: Global,
     name: &[u8],
@@ -40,13 +41,23 @@ fn fails<R: Wait>(
 }
 
 // Whether a font `dot` with this TFM file ends the run with this line.
-fn fails_by_tfm<R: Wait>(rt: &R, alloc: Global, tfm: &[u8], line: &[u8]) -> Result<bool, Fail> {
+fn fails_by_tfm<R: Threads + Wait + Sync>(
+    rt: &R,
+    alloc: Global,
+    tfm: &[u8],
+    line: &[u8],
+) -> Result<bool, Fail> {
     let files = library(alloc, &[(b"dot.tfm", tfm)])?;
     fails(rt, alloc, b"dot", (128, 128), files, line)
 }
 
 // Whether a font `dot` with this PK file ends the run with this line.
-fn fails_by_pk<R: Wait>(rt: &R, alloc: Global, pk: &[u8], line: &[u8]) -> Result<bool, Fail> {
+fn fails_by_pk<R: Threads + Wait + Sync>(
+    rt: &R,
+    alloc: Global,
+    pk: &[u8],
+    line: &[u8],
+) -> Result<bool, Fail> {
     let files: [(&[u8], &[u8]); 2] = [(b"dot.tfm", &DOT_TFM), (b"dot.300pk", pk)];
     fails(rt, alloc, b"dot", (128, 128), library(alloc, &files)?, line)
 }
@@ -78,7 +89,7 @@ fn files_that_are_not_there(rt: HostRuntime) -> Result<(), Fail> {
     let line = b"dvipbm: page 1 at 80: font dot 1 1000: size\n";
     assert!(rt; fails(&rt, rt.alloc(), b"dot", (1, 1000), dot(alloc)?, line)?);
     let files = library(alloc, &[(b"dot.tfm", &DOT_TFM), (b"dot.vf", b"")])?;
-    let line = b"dvipbm: page 1 at 80: font dot 128 128: not yet\n";
+    let line = b"dvipbm: page 1 at 80: font dot 128 128: vf short\n";
     assert!(rt; fails(&rt, rt.alloc(), b"dot", (128, 128), files, line)?);
     Ok(())
 }

@@ -1,7 +1,7 @@
 //! Words, and inputs, outputs and notes that fail.
 
+use super::one::run_by_words;
 use super::{PUT_RULE, PUT_RULE_DOTS, document, ends, no_fonts, numbers, page_text};
-use crate::dvipbm_run;
 use outside::{MemInput, MemOutput};
 use std::process::Abort;
 use std::test::Fail;
@@ -15,7 +15,7 @@ fn takes_no_words(rt: HostRuntime) -> Result<(), Fail> {
     let words = vec![in alloc; String::from_str(alloc, "--trace")?]?;
     let source = no_fonts(alloc)?;
     let mut history = Vec::new(alloc);
-    let (answer, source) = dvipbm_run(
+    let answer = run_by_words(
         &rt,
         alloc,
         &words,
@@ -24,9 +24,9 @@ fn takes_no_words(rt: HostRuntime) -> Result<(), Fail> {
         &mut out,
         &mut notes,
         &mut history,
-    );
+    )?;
     assert_eq!(rt; answer, 1);
-    assert!(rt; source.is_some());
+    assert!(rt; history.is_empty());
     assert!(rt; out.bytes().is_empty());
     assert_eq!(rt; notes.bytes(), b"dvipbm: usage\n".as_slice());
     Ok(())
@@ -118,7 +118,7 @@ fn keeps_its_status_where_the_notes_fail(rt: HostRuntime) -> Result<(), Fail> {
     let mut notes = MemOutput::new(alloc, 5, numbers(alloc, &[3])?);
     let source = no_fonts(alloc)?;
     let mut history = Vec::new(alloc);
-    let (answer, _source) = dvipbm_run(
+    let answer = run_by_words(
         &rt,
         alloc,
         &[],
@@ -127,7 +127,7 @@ fn keeps_its_status_where_the_notes_fail(rt: HostRuntime) -> Result<(), Fail> {
         &mut out,
         &mut notes,
         &mut history,
-    );
+    )?;
     assert_eq!(rt; answer, 2);
     assert_eq!(rt; notes.bytes(), b"dvipbm: do".as_slice());
     Ok(())

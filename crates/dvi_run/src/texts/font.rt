@@ -4,6 +4,7 @@ ghost use Rattle.dvi_run.specs.FontTexts.{font_text, kind_text, pk_text, raster_
 ghost use Rattle.dvi_run.specs.Puts.{name_text};
 
 use crate::texts::name::Name;
+use crate::texts::virtual_font::vf_name;
 use font_decode::{FileKind, FontFault};
 use pk_packets::PkFault;
 use pk_runs::RunFault;
@@ -82,10 +83,10 @@ pub fn font_name(fault: FontFault) -> Name
     match fault {
         FontFault::Missing(kind) => missing_name(kind),
         FontFault::Tfm(fault) => tfm_name(fault),
+        FontFault::Vf(fault) => vf_name(fault),
         FontFault::Pk(fault) => pk_name(fault),
         FontFault::Name => Name::plain(b"name"),
         FontFault::Size => Name::plain(b"size"),
         FontFault::TooLong(kind) => too_long_name(kind),
-        FontFault::NotYet => Name::plain(b"not yet"),
     }
 }

@@ -2,6 +2,7 @@
 ghost use Rattle.std.specs.Prelude.{◌≡◌, ◌++◌, codes};
 ghost use Rattle.std.specs.Fmt.{signed_decimal};
 ghost use Rattle.vf_expand.specs.Faults.{seen_fault};
+ghost use Rattle.vf_expand.specs.Faults as page;
 ghost use Rattle.dvi_run.specs.FontTexts.{font_text, key_text};
 ghost use Rattle.dvi_run.specs.PageTexts.{fault_text, pen_text};
 ghost use Rattle.dvi_run.specs.Puts.{Puts};
@@ -53,6 +54,21 @@ fn put_character<N: Output>(
     put_key(gather, notes, key);
 }
 
+// Puts the number of a local font that isn't defined, or that a virtual font has no local fonts.
+fn put_local<N: Output>(gather: &mut Gather, notes: &mut N, number: Option<i32>, key: &FontKey)
+    ensures { Puts gather.old gather.new (N.written notes.old) (N.written notes.new)
+        (N.faults notes.old) (N.faults notes.new)
+        (fault_text (page.NoLocalFont key.now number)) }
+{
+    match number {
+        Some(number) => put_character(gather, notes, b"no local font ", number, key),
+        None => {
+            put(gather, notes, b"no local font in ");
+            put_key(gather, notes, key);
+        }
+    }
+}
+
 // Puts what is wrong with a font's files.
 fn put_font<N: Output>(gather: &mut Gather, notes: &mut N, key: &FontKey, fault: FontFault)
     ensures { Puts gather.old gather.new (N.written notes.old) (N.written notes.new)
@@ -77,6 +93,11 @@ pub fn put_fault<N: Output>(gather: &mut Gather, notes: &mut N, fault: &PageFaul
             put_character(gather, notes, b"no character ", *code, key)
         }
         PageFault::NoGlyph(key, code) => put_character(gather, notes, b"no glyph ", *code, key),
+        PageFault::NoPacket(key, code) => {
+            put_character(gather, notes, b"no packet ", *code, key)
+        }
+        PageFault::NoLocalFont(key, number) => put_local(gather, notes, *number, key),
+        PageFault::Depth(key, code) => put_character(gather, notes, b"depth at ", *code, key),
         PageFault::TooLong => put(gather, notes, b"too long"),
         PageFault::Font(key, fault) => put_font(gather, notes, key, *fault),
         PageFault::Pen(fault) => put(gather, notes, pen_name(*fault)),

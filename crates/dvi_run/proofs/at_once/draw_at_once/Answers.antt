@@ -1,10 +1,12 @@
-use Rattle.std.proofs.Common.{◌≡◌, ◌+◌, ℕ, Option, get_or, refl, sym, subst, ap, ◌∙◌, rules}
+use Rattle.std.proofs.Common.{◌≡◌, ◌+◌, ℕ, Option, length, get_or, refl, sym, subst, ap, ◌∙◌, rules}
 use Rattle.outside.specs.Library.{Files}
 use Rattle.pixel_round.specs.declared.units.Units.{Units}
 use Rattle.turn_lock.specs.declared.view.View.{View}
 use Rattle.turn_lock.specs.Views.{opening_view}
 use Rattle.cache_core.specs.Views.{calls_of}
-use Rattle.dvi_run.specs.Endings.{Memory, Written}
+use Rattle.cache_core.specs.Histories.{own}
+use Rattle.dvi_run.specs.Endings.{Memory}
+use Rattle.dvi_run.specs.Looked.{IsDrawnThrough}
 use Rattle.dvi_run.specs.Rounds.{Ran}
 use Rattle.dvi_run.proofs.Seated.{unused}
 use Rattle.dvi_run.proofs.at_once.draw_at_once.Goals as goal
@@ -20,7 +22,7 @@ pub returns-in_default-clause-workers : goal.returns-in_default-clause-workers
 returns-in_default-clause-workers g c =
     let q = c.requires.1.1.1.1.1 in
     λ k d lt.
-    subst (λ h. Ran (Memory ≡ Written) g.F.FontSource.library g.F.FontSource.faults g.F.FontSource.loads (record { library = g.told; res = c.args.index.now.res; sheet = c.args.sheet.now }) c.args.index.now.reading (calls_of h) (k + 1)
+    subst (λ h. Ran (IsDrawnThrough (length c.args.workers.now) Memory) g.F.FontSource.library g.F.FontSource.faults g.F.FontSource.loads (record { library = g.told; res = c.args.index.now.res; sheet = c.args.sheet.now }) c.args.index.now.reading (calls_of h) (k + 1)
     (get_or c.args.workers.now k d) (get_or c.args.workers.now k d)) (sym q.1.1.1.1.1.0)
     (unused g.F.FontSource.library g.F.FontSource.faults g.F.FontSource.loads (record { library = g.told; res = c.args.index.now.res; sheet = c.args.sheet.now }) c.args.index.now.reading (k + 1)
     (get_or c.args.workers.now k d) (q.1.1.1.1.1.1.0 k d lt) (q.1.1.1.1.1.1.1 k d lt) _)
@@ -66,4 +68,7 @@ draw_over-ending-requires g c κs within =
 pub returns-in_default-clause-shares : goal.returns-in_default-clause-shares
 returns-in_default-clause-shares g c =
     let q = c.requires.1.1.1.1.1 in
-    record { rounds = 0; shared = λ k d lt. (q.1.1.1.1.1.1.0 k d lt).pages }
+    record { drew = record { rounds = 0; shared = λ k d lt. (q.1.1.1.1.1.1.0 k d lt).pages }; begun = tt }
+
+pub returns-in_default-clause-first : goal.returns-in_default-clause-first
+returns-in_default-clause-first g c = let q = c.requires.1.1.1.1.1 in ap (λ h. own 0 (calls_of h)) q.1.1.1.1.1.0

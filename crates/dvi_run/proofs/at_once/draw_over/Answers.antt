@@ -3,11 +3,13 @@ use Rattle.outside.specs.Counts.{Rose}
 use Rattle.cache_core.specs.Histories.{own}
 use Rattle.page_workers.specs.Seating.{numbers}
 use Rattle.page_workers.proofs.Numbers.{numbers_joined}
+use Rattle.dvi_run.specs.Endings.{seen_ending}
+use Rattle.dvi_run.specs.Looked.{IsDrawnThrough}
 use Rattle.dvi_run.specs.Rounds.{site}
 use Rattle.dvi_run.proofs.Seated.{may_begin, may_leave, none_released, ran}
 use Rattle.page_index.specs.Document.{pages_begun}
-use Rattle.dvi_run.specs.Shares.{AreShares}
-use Rattle.dvi_run.proofs.Shares.{shares_rest}
+use Rattle.dvi_run.specs.Shares.{DrewShares}
+use Rattle.dvi_run.proofs.Shares.{drew_rest}
 use Rattle.dvi_run.proofs.at_once.draw_over.Goals as goal
 
 pub write_rounds-ending-requires : goal.write_rounds-ending-requires
@@ -97,8 +99,16 @@ returns-clause-workers g c =
     (ap (own (k + 1)) c.close.ensures.history ∙ left.own) (cleared.same.seat ∙ left.none) (cleared.same.source ∙ left.same.source) (cleared.same.loads ∙ left.same.loads)
     (cleared.same.pages ∙ left.same.pages) cleared.none
     _
-    (λ e. none_released s part (ap (λ v. v.part.library) opens) (ap (λ v. v.part.units) opens) q.1.1.1.0 q.1.1.1.1.0 (k + 1) (get_or xs k d) (get_or ws k d) (q.1.1.1.1.1.1.1 k d lt)
-    (c.seat_all.ensures.seated k d lt) (get_or now k d) (c.write_rounds-ending.ensures.whole e k d there).trail left.seat left.is)
+    (λ h. none_released s part (ap (λ v. v.part.library) opens) (ap (λ v. v.part.units) opens) q.1.1.1.0 q.1.1.1.1.0 (k + 1) (get_or xs k d) (get_or ws k d) (q.1.1.1.1.1.1.1 k d lt)
+    (c.seat_all.ensures.seated k d lt) (get_or now k d)
+    (c.write_rounds-ending.ensures.whole (subst (λ (n : ℕ). IsDrawnThrough n (seen_ending c.write_rounds-ending.result)) (sym long) h) k d there).trail left.seat left.is)
+    (λ h. (c.write_rounds-ending.ensures.whole (subst (λ (n : ℕ). IsDrawnThrough n (seen_ending c.write_rounds-ending.result)) (sym long) h) k d there).looked)
+
+pub returns-clause-first : goal.returns-clause-first
+returns-clause-first g c =
+    let q = c.requires.1.1.1.1.1 in
+    let opens = q.1.1.1.1.1.1.0 in
+    ap (own 0) c.close.ensures.history ∙ c.join_all.ensures.mine ∙ ap (own 0) (c.seat_all.ensures.seen ∙ ap (λ v. v.seen) opens)
 
 pub returns-clause-cause : goal.returns-clause-cause
 returns-clause-cause g c =
@@ -143,9 +153,10 @@ returns-clause-shares g c =
     let long : length ws ≡ length xs = search rules in
     let same : length now ≡ length ws = search rules in
     let joined : length c.join_all.new.workers ≡ length now = search rules in
-    let shares : AreShares (pages_begun reading) (length xs) now =
-    subst (λ (n : ℕ). AreShares (pages_begun reading) n now) long c.write_rounds-ending.ensures.shares in
-    shares_rest (pages_begun reading) (length xs) now c.clear_all.new.workers shares
+    let e = seen_ending c.write_rounds-ending.result in
+    let shares : DrewShares (pages_begun reading) (length xs) e now =
+    subst (λ (n : ℕ). DrewShares (pages_begun reading) n e now) long c.write_rounds-ending.ensures.shares in
+    drew_rest (pages_begun reading) (length xs) e now c.clear_all.new.workers shares
     (λ k d lt.
     let here : k < length now = subst (λ (n : ℕ). k < n) (sym (same ∙ long)) lt in
     (c.clear_all.ensures k d (subst (λ (n : ℕ). k < n) (sym joined) here)).same.pages ∙ (c.join_all.ensures.left k d here).same.pages)

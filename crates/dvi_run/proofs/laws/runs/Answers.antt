@@ -2,7 +2,7 @@ use Rattle.std.proofs.Common.{◌<◌, arith}
 use Rattle.page_index.specs.Document.{pages_begun}
 use Rattle.page_index.specs.Pages.{eop_at}
 use Rattle.dvi_run.specs.Laws.{OneReading}
-use Rattle.dvi_run.proofs.OneRun.{fronts, is_there, one_run}
+use Rattle.dvi_run.proofs.OneRun.{fronts, good_alike, is_there, one_run, refused_alike}
 use Rattle.dvi_run.proofs.laws.runs.Goals as goal
 
 pub returns-clause-reading : goal.returns-clause-reading
@@ -24,3 +24,13 @@ returns-clause-ends c = λ g bytes reading values i run below.
     let few = run.pages.few in
     let begun : i < pages_begun reading = omega (arith, below, few) in
     is_there (eop_at i reading) (c.pages.ensures.ended g.res bytes reading i run.document begun)
+
+pub returns-clause-good : goal.returns-clause-good
+returns-clause-good c =
+    let reading : OneReading = λ g bytes r s v w a b. c.documents.ensures.one_reading g.res bytes r s a.document b.document in
+    good_alike reading (one_run c.values.ensures.one reading)
+
+pub returns-clause-stopped : goal.returns-clause-stopped
+returns-clause-stopped c =
+    let reading : OneReading = λ g bytes r s v w a b. c.documents.ensures.one_reading g.res bytes r s a.document b.document in
+    refused_alike reading (one_run c.values.ensures.one reading)

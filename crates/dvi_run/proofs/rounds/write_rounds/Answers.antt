@@ -1,4 +1,4 @@
-use Rattle.std.proofs.Common.{◌≡◌, ◌≤◌, ◌<◌, ◌+◌, ◌-◌, ℕ, length, get_or, map, refl, sym, subst, ◌∙◌, arith, rules, add-one}
+use Rattle.std.proofs.Common.{inl, inr, ◌≡◌, ◌≤◌, ◌<◌, ◌+◌, ◌-◌, ℕ, length, get_or, map, refl, sym, subst, ◌∙◌, arith, rules, add-one}
 use Rattle.outside.specs.Counts.{Rose}
 use Rattle.outside.proofs.Growth.{rose_later}
 use Rattle.page_index.specs.Document.{pages_begun}
@@ -6,10 +6,12 @@ use Rattle.page_draw.specs.declared.stop.PageStop.TheVariants as draw
 use Rattle.dvi_run.specs.Laws.{good}
 use Rattle.dvi_run.specs.Pages.{Given}
 use Rattle.dvi_run.specs.declared.pages.WriteStop.TheVariants as stop
+use Rattle.dvi_run.specs.Looked.{IsUnbroken}
 use Rattle.dvi_run.specs.Rounds.{Pending, site}
 use Rattle.dvi_run.proofs.Written.{IsWrittenTo, ends_at, ends_written, written_more, written_none}
-use Rattle.dvi_run.proofs.Standing.{begins, after_begin, after_write, after_stop, all_settled, caused, never_written, pending_at, stands_ends, ended_on, stops, wrote_page}
-use Rattle.dvi_run.proofs.Shares.{none_begun, shares_begin, shares_rest, shares_set}
+use Rattle.dvi_run.proofs.Standing.{begins, after_begin, after_write, after_stop, after_whole, all_settled, caused, never_written, pending_at, stands_ends, ended_on, stops, wrote_page}
+use Rattle.dvi_run.specs.Shares.{AreBegun}
+use Rattle.dvi_run.proofs.Shares.{begun_at, none_begun, shares_begin, shares_rest, shares_set}
 use Rattle.dvi_run.proofs.rounds.write_rounds.Goals as goal
 
 pub loop-i-init : goal.loop-i-init
@@ -18,7 +20,7 @@ loop-i-init g c =
     let n = length c.args.workers.now in
     record {
       begun = omega arith;
-      round = omega arith;
+      round = omega (arith, c.requires.1.1.1.1.1.0);
       stand = λ k d lt. begins s n k (get_or c.args.workers.now k d) lt (c.requires.1.1.1.1.1.1.1.1.1 k d lt);
       shares = none_begun (pages_begun c.args.index.now.reading) n c.args.workers.now (λ k d lt. (c.requires.1.1.1.1.1.1.1.1.1 k d lt).pages);
       written = written_none _ _ _;
@@ -56,7 +58,7 @@ write_result-requires g c =
     let below : i < pages_begun c.args.index.now.reading = omega (arith, c.loop-i-test.true, c.pages-i-end.ensures.count) in
     let later = c.in-Ok.later in
     let now = c.begin.new.workers in
-    let b = after_begin s n i c.requires.1.1.1.1.1.0 xs c.requires.1.1.1.1.1.1.1.1.1 c.loop-i.next later c.loop-i.workers now inv.begun inv.round inv.stand
+    let b = after_begin s n i c.requires.1.1.1.1.1.0 xs c.requires.1.1.1.1.1.1.1.1.1 c.loop-i.next later c.loop-i.workers now inv.begun (omega (arith, inv.round)) inv.stand
     (λ lt. (let e = (c.in-Ok.ensures.same lt).0 in cc, (c.in-Ok.ensures.same lt).1))
     (λ le. (subst (λ (m : ℕ). later ≡ i + m) long (c.in-Ok.ensures.drawn le).0, λ k d lt. (c.in-Ok.ensures.drawn le).1 k d (subst (λ (m : ℕ). k < m) (sym long) lt))) in
     let after : i < later = b.0 in
@@ -77,14 +79,20 @@ returns-clause-ends g c =
     (map good c.loop-i.invariant.written.pages, e.0, e.1)
 
 pub returns-clause-shares : goal.returns-clause-shares
-returns-clause-shares g c = c.loop-i.invariant.shares.drew
+returns-clause-shares g c =
+    let inv = c.loop-i.invariant in
+    let last : c.loop-i.i ≡ pages_begun c.args.index.now.reading = omega (arith, c.loop-i-test.false, c.loop-i.auto.i-end, c.pages-i-end.ensures.count) in
+    record { drew = inv.shares.drew; begun = (omega (arith, inv.begun, inv.shares.begun), omega (arith, inv.round, inv.shares.begun)) }
 
 pub returns-in_default-clause-shares : goal.returns-in_default-clause-shares
 returns-in_default-clause-shares g c =
     let n = length c.args.workers.now in
     let long : length c.loop-i.workers ≡ n = c.loop-i.auto.workers in
-    shares_rest (pages_begun c.args.index.now.reading) n c.loop-i.workers c.begin.new.workers c.loop-i.invariant.shares.drew
-    (λ k d lt. (c.in_default.ensures.refused k d (subst (λ (m : ℕ). k < m) (sym long) lt)).pages)
+    record {
+      drew = shares_rest (pages_begun c.args.index.now.reading) n c.loop-i.workers c.begin.new.workers c.loop-i.invariant.shares.drew
+          (λ k d lt. (c.in_default.ensures.refused k d (subst (λ (m : ℕ). k < m) (sym long) lt)).pages);
+      begun = tt;
+    }
 
 pub returns-clause-workers : goal.returns-clause-workers
 returns-clause-workers g c =
@@ -106,7 +114,7 @@ loop-i-preserved g c =
     let later = c.in-Ok.later in
     let now = c.begin.new.workers in
     let long_now : length now ≡ n = search rules in
-    let b = after_begin s n i c.requires.1.1.1.1.1.0 xs c.requires.1.1.1.1.1.1.1.1.1 c.loop-i.next later c.loop-i.workers now inv.begun inv.round inv.stand
+    let b = after_begin s n i c.requires.1.1.1.1.1.0 xs c.requires.1.1.1.1.1.1.1.1.1 c.loop-i.next later c.loop-i.workers now inv.begun (omega (arith, inv.round)) inv.stand
     (λ lt. (let e = (c.in-Ok.ensures.same lt).0 in cc, (c.in-Ok.ensures.same lt).1))
     (λ le. (subst (λ (m : ℕ). later ≡ i + m) long (c.in-Ok.ensures.drawn le).0, λ k d lt. (c.in-Ok.ensures.drawn le).1 k d (subst (λ (m : ℕ). k < m) (sym long) lt))) in
     let after : i < later = b.0 in
@@ -150,7 +158,7 @@ returns-in-Err-clause-ends g c =
     let later = c.in-Ok.later in
     let now = c.begin.new.workers in
     let long_now : length now ≡ n = search rules in
-    let b = after_begin s n i c.requires.1.1.1.1.1.0 xs c.requires.1.1.1.1.1.1.1.1.1 c.loop-i.next later c.loop-i.workers now inv.begun inv.round inv.stand
+    let b = after_begin s n i c.requires.1.1.1.1.1.0 xs c.requires.1.1.1.1.1.1.1.1.1 c.loop-i.next later c.loop-i.workers now inv.begun (omega (arith, inv.round)) inv.stand
     (λ lt. (let e = (c.in-Ok.ensures.same lt).0 in cc, (c.in-Ok.ensures.same lt).1))
     (λ le. (subst (λ (m : ℕ). later ≡ i + m) long (c.in-Ok.ensures.drawn le).0, λ k d lt. (c.in-Ok.ensures.drawn le).1 k d (subst (λ (m : ℕ). k < m) (sym long) lt))) in
     let after : i < later = b.0 in
@@ -186,7 +194,7 @@ returns-in-Err-clause-workers g c =
     let later = c.in-Ok.later in
     let now = c.begin.new.workers in
     let long_now : length now ≡ n = search rules in
-    let b = after_begin s n i c.requires.1.1.1.1.1.0 xs c.requires.1.1.1.1.1.1.1.1.1 c.loop-i.next later c.loop-i.workers now inv.begun inv.round inv.stand
+    let b = after_begin s n i c.requires.1.1.1.1.1.0 xs c.requires.1.1.1.1.1.1.1.1.1 c.loop-i.next later c.loop-i.workers now inv.begun (omega (arith, inv.round)) inv.stand
     (λ lt. (let e = (c.in-Ok.ensures.same lt).0 in cc, (c.in-Ok.ensures.same lt).1))
     (λ le. (subst (λ (m : ℕ). later ≡ i + m) long (c.in-Ok.ensures.drawn le).0, λ k d lt. (c.in-Ok.ensures.drawn le).1 k d (subst (λ (m : ℕ). k < m) (sym long) lt))) in
     let after : i < later = b.0 in
@@ -216,7 +224,7 @@ returns-in-Err-clause-shares g c =
     let later = c.in-Ok.later in
     let now = c.begin.new.workers in
     let long_now : length now ≡ n = search rules in
-    let b = after_begin s n i c.requires.1.1.1.1.1.0 xs c.requires.1.1.1.1.1.1.1.1.1 c.loop-i.next later c.loop-i.workers now inv.begun inv.round inv.stand
+    let b = after_begin s n i c.requires.1.1.1.1.1.0 xs c.requires.1.1.1.1.1.1.1.1.1 c.loop-i.next later c.loop-i.workers now inv.begun (omega (arith, inv.round)) inv.stand
     (λ lt. (let e = (c.in-Ok.ensures.same lt).0 in cc, (c.in-Ok.ensures.same lt).1))
     (λ le. (subst (λ (m : ℕ). later ≡ i + m) long (c.in-Ok.ensures.drawn le).0, λ k d lt. (c.in-Ok.ensures.drawn le).1 k d (subst (λ (m : ℕ). k < m) (sym long) lt))) in
     let after : i < later = b.0 in
@@ -233,7 +241,13 @@ returns-in-Err-clause-shares g c =
     let shared = shares_begin g.F.FontSource.library g.F.FontSource.faults g.F.FontSource.loads c.args.bench.now c.args.index.now c.args.sheet.now n c.loop-i.next later i c.loop-i.workers now inv.begun inv.shares
     (λ lt. (let e = (c.in-Ok.ensures.same lt).0 in cc, (c.in-Ok.ensures.same lt).1))
     (λ le. (subst (λ (m : ℕ). later ≡ i + m) long (c.in-Ok.ensures.drawn le).0, λ k d lt. (c.in-Ok.ensures.drawn le).1 k d (subst (λ (m : ℕ). k < m) (sym long) lt))) in
-    (shares_set (pages_begun reading) n later now j r v shared (omega arith) inside c.in-Err.ensures.same).drew
+    let set_shares = shares_set (pages_begun reading) n later now j r v shared (omega arith) inside c.in-Err.ensures.same in
+    record {
+      drew = set_shares.drew;
+      begun =
+          subst (AreBegun (pages_begun reading) n set_shares.drew.rounds) (sym c.stopped.ensures)
+          (begun_at (pages_begun reading) n set_shares.drew.rounds (i + 1) c.in-Err.stop (omega (arith, set_shares.begun)) (omega (arith, set_shares.begun)));
+    }
 
 pub returns-in-Err-clause-cause : goal.returns-in-Err-clause-cause
 returns-in-Err-clause-cause g c =
@@ -249,7 +263,7 @@ returns-in-Err-clause-cause g c =
     let later = c.in-Ok.later in
     let now = c.begin.new.workers in
     let long_now : length now ≡ n = search rules in
-    let b = after_begin s n i c.requires.1.1.1.1.1.0 xs c.requires.1.1.1.1.1.1.1.1.1 c.loop-i.next later c.loop-i.workers now inv.begun inv.round inv.stand
+    let b = after_begin s n i c.requires.1.1.1.1.1.0 xs c.requires.1.1.1.1.1.1.1.1.1 c.loop-i.next later c.loop-i.workers now inv.begun (omega (arith, inv.round)) inv.stand
     (λ lt. (let e = (c.in-Ok.ensures.same lt).0 in cc, (c.in-Ok.ensures.same lt).1))
     (λ le. (subst (λ (m : ℕ). later ≡ i + m) long (c.in-Ok.ensures.drawn le).0, λ k d lt. (c.in-Ok.ensures.drawn le).1 k d (subst (λ (m : ℕ). k < m) (sym long) lt))) in
     let after : i < later = b.0 in
@@ -267,11 +281,46 @@ returns-in-Err-clause-cause g c =
     (sym c.stopped.ensures ∙ e)
 
 pub returns-in-Err-clause-whole : goal.returns-in-Err-clause-whole
-returns-in-Err-clause-whole g c = λ e. absurd (never_written (c.loop-i.i + 1) c.in-Err.stop (sym c.stopped.ensures ∙ e))
+returns-in-Err-clause-whole g c =
+    let s = site g.F.FontSource.library g.F.FontSource.faults g.F.FontSource.loads c.args.bench.now g.told c.args.index.now c.args.sheet.now in
+    let given : Given = record { library = g.told; res = c.args.index.now.res; sheet = c.args.sheet.now } in
+    let reading = c.args.index.now.reading in
+    let xs = c.args.workers.now in
+    let n = length xs in
+    let i = c.loop-i.i in
+    let inv = c.loop-i.invariant in
+    let long : length c.loop-i.workers ≡ n = c.loop-i.auto.workers in
+    let below : i < pages_begun reading = omega (arith, c.loop-i-test.true, c.pages-i-end.ensures.count) in
+    let later = c.in-Ok.later in
+    let now = c.begin.new.workers in
+    let long_now : length now ≡ n = search rules in
+    let b = after_begin s n i c.requires.1.1.1.1.1.0 xs c.requires.1.1.1.1.1.1.1.1.1 c.loop-i.next later c.loop-i.workers now inv.begun (omega (arith, inv.round)) inv.stand
+    (λ lt. (let e = (c.in-Ok.ensures.same lt).0 in cc, (c.in-Ok.ensures.same lt).1))
+    (λ le. (subst (λ (m : ℕ). later ≡ i + m) long (c.in-Ok.ensures.drawn le).0, λ k d lt. (c.in-Ok.ensures.drawn le).1 k d (subst (λ (m : ℕ). k < m) (sym long) lt))) in
+    let after : i < later = b.0 in
+    let near : later ≤ i + n = b.1 in
+    let j = i + n - later in
+    let at : later + j ≡ i + n = omega arith in
+    let inside : j < n = omega arith in
+    let r = c.index-workers-i.result in
+    let v = c.write_result.new.worker in
+    let old = g.O.Output.written c.args.out.now in
+    let before = g.O.Output.written c.loop-i.out in
+    let written = g.O.Output.written c.write_result.new.out in
+    let Fails = Rose (g.O.Output.faults c.loop-i.out) (g.O.Output.faults c.write_result.new.out) in
+    λ h k d lt. elim h [
+      | inl e ↦ absurd (never_written (i + 1) c.in-Err.stop (sym c.stopped.ensures ∙ e))
+      | inr u ↦
+          after_whole s n i c.requires.1.1.1.1.1.0 xs c.requires.1.1.1.1.1.1.1.1.1 later j now b.2 at below inside long_now r v before written Fails c.in-Err.ensures.same c.in-Err.stop c.in-Err.ensures.wrote
+          c.in-Err.ensures.none u.0 (subst IsUnbroken c.stopped.ensures u.1) k d lt
+    ]
+
+pub returns-in_default-clause-whole : goal.returns-in_default-clause-whole
+returns-in_default-clause-whole g c = λ h k d lt. elim h [ inl e ↦ absurd cc | inr u ↦ absurd u.1 ]
 
 pub returns-clause-whole : goal.returns-clause-whole
 returns-clause-whole g c =
     let s = site g.F.FontSource.library g.F.FontSource.faults g.F.FontSource.loads c.args.bench.now g.told c.args.index.now c.args.sheet.now in
     let n = length c.args.workers.now in
     let last : c.loop-i.i ≡ pages_begun c.args.index.now.reading = omega (arith, c.loop-i-test.false, c.loop-i.auto.i-end, c.pages-i-end.ensures.count) in
-    λ e k d lt. all_settled s n c.loop-i.next c.loop-i.i k (get_or c.args.workers.now k d) (get_or c.loop-i.workers k d) last (c.loop-i.invariant.stand k d lt)
+    λ h k d lt. all_settled s n c.loop-i.next c.loop-i.i k (get_or c.args.workers.now k d) (get_or c.loop-i.workers k d) last (c.loop-i.invariant.stand k d lt)

@@ -8,7 +8,7 @@ use Rattle.dvi_run.proofs.rounds.write_rounds.Given as goal
 abbrev pub invariant-loop-i : goal.invariant-loop-i
 invariant-loop-i g l = record {
   begun : l.i ≤ l.next;
-  round : l.next ≤ l.i + length l.initial.workers;
+  round : l.next < l.i + length l.initial.workers;
   stand : (k : ℕ) (d : _) → k < length l.initial.workers
       → Stands (site g.F.FontSource.library g.F.FontSource.faults g.F.FontSource.loads l.bench g.told l.index l.sheet) (length l.initial.workers) l.next l.i k
       (get_or l.initial.workers k d) (get_or l.workers k d);

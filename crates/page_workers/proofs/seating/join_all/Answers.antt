@@ -23,6 +23,7 @@ loop-k-preserved g c =
       idle = search rules;
       part = search rules;
       made = search rules;
+      mine = c.join_one.ensures.mine ∙ inv.mine;
       joined = c.join_one.ensures.joined ∙ ap (λ (l : List ℕ). l ++ (c.loop-k.number + 1) ∷ []) inv.joined ∙ numbers_more i (c.loop-k.number + 1) number;
       gone = each_step xs ws i v inside (λ k a b. HasLeft seen (k + 1) a b)
           (λ d. subst (λ a. HasLeft seen (i + 1) a v) (here xs ws i v inside inv.left c.index-workers-k.result d) left)

@@ -19,6 +19,7 @@ loop-k-preserved g c =
       number = search rules;
       idle = search rules;
       part = search rules;
+      seen = search rules;
       joined = search rules;
       made = search rules;
       seated = each_step xs ws i v inside (λ k a b. WasSeated c.args.cache.now c.args.first.now.view.part (k + 1) a b)

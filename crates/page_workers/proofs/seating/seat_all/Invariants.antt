@@ -9,6 +9,7 @@ invariant-loop-k g l = record {
   number : l.first.view.number ≡ 0;
   idle : l.first.view.stage ≡ Idle;
   part : l.first.view.part ≡ l.initial.first.view.part;
+  seen : l.first.view.seen ≡ l.initial.first.view.seen;
   joined : l.first.view.joined ≡ l.initial.first.view.joined;
   made : l.first.view.made ≡ l.k + 1;
   seated : (k : ℕ) (d : _) → k < l.k → WasSeated l.cache l.initial.first.view.part (k + 1) (get_or l.initial.workers k d) (get_or l.workers k d);

@@ -1,0 +1,332 @@
+-- From the pages that workers drew to what holds of their run.
+use Rattle.std.proofs.Common.{◌≡◌, inl, inr, ℕ, ◌+◌, ◌-◌, ◌<◌, ◌≤◌, List, [], ◌∷◌, ◌++◌, length, get_or, take, drop, Option, Some, None, refl, sym, ap, subst, ◌∙◌, arith, eq-eqb, ne_eqb}
+use Rattle.std.proofs.lemmas.Bool.{cases_lt}
+use Rattle.std.proofs.lemmas.List.{get_or_append_left, get_or_push, get_or-append-add, get_or-drop, get_or-take, length-take-le}
+use Rattle.outside.specs.Library.{Files}
+use mathlib.Core.Logic.{dite}
+use native.Mathlib.Decide.{ℕ_discrete}
+use Rattle.cache_core.specs.declared.calls.Call.{Call}
+use Rattle.cache_core.specs.Histories.{own, AreOf, SeatCalls, NoneReleased}
+use Rattle.cache_core.specs.Laws.{FewClaims, SoloIsOne}
+use Rattle.cache_core.specs.Machine.{Legal}
+use Rattle.cache_core.specs.Solo.{solo_history}
+use Rattle.turn_lock.specs.Histories.{AllMade}
+use Rattle.turn_lock.specs.Laws.{AloneIsHistory}
+use Rattle.page_index.specs.Document.{IsDocument, Reading, pages_begun}
+use Rattle.vf_expand.specs.Faults.{PageFaultSeen}
+use Rattle.vf_expand.specs.Faults as fault
+use Rattle.page_draw.specs.Values.{PageValue}
+use Rattle.page_workers.specs.declared.worker.Worker.{Worker}
+use Rattle.dvi_run.specs.Pages.{Given}
+use Rattle.dvi_run.specs.Promises.{HasEnded, IsNoted}
+use Rattle.dvi_run.specs.Reading.{OfRead}
+use Rattle.dvi_run.specs.Endings.{EndingSeen, Written, Usage, Document, Page, Source, Input, Output, Memory, EndsPages, page_status, status_of}
+use Rattle.dvi_run.specs.Looked.{IsDrawnThrough, IsIdle, IsUnbroken, IsUnbrokenBy}
+use Rattle.dvi_run.specs.Rounds.{FailedAt, IsFresh, Ran}
+use Rattle.dvi_run.specs.Settings.{default_settings as the_default_settings}
+use Rattle.dvi_run.proofs.Clauses.{ends_late}
+use Rattle.page_workers.specs.Seating.{IsUnused}
+use Rattle.dvi_run.specs.Together.{Answered, AreDone, DrewPages, DrewTogether, EachUsed, IsDrawnThroughBy, IsOneHistory, IsReady, RestIsKept, SomeUsed, SourceRose, Worked}
+
+-- ---- whose source failed
+
+-- whatever failed
+ends_so : (old new : Option (List ℕ)) (P Q : Type 0) (reading : Reading) (values : List PageValue) (e : EndingSeen) → EndsPages old new P Q e reading values
+    → EndsPages old new (Unit {0}) (Unit {0}) e reading values
+ends_so old new P Q reading values Written h = h
+ends_so old new P Q reading values Usage h = h
+ends_so old new P Q reading values (Document fault) h = h
+ends_so old new P Q reading values (Page page) h = h
+ends_so old new P Q reading values (Source page) h = (h.0, tt)
+ends_so old new P Q reading values Input h = h
+ends_so old new P Q reading values (Output page) h = (h.0, tt)
+ends_so old new P Q reading values Memory h = h
+
+pub ends_by : (old new : Option (List ℕ)) (P Q : Type 0) (reading : Reading) (values : List PageValue) (e : EndingSeen) → EndsPages old new P (Unit {0}) e reading values
+    → ((page : ℕ) → e ≡ Source page → Q) → EndsPages old new P Q e reading values
+ends_by old new P Q reading values Written h failed = h
+ends_by old new P Q reading values Usage h failed = h
+ends_by old new P Q reading values (Document fault) h failed = h
+ends_by old new P Q reading values (Page page) h failed = h
+ends_by old new P Q reading values (Source page) h failed = (h.0, failed page refl)
+ends_by old new P Q reading values Input h failed = h
+ends_by old new P Q reading values (Output page) h failed = h
+ends_by old new P Q reading values Memory h failed = h
+
+pub some_rose : {F : Type 0} (faults : F → ℕ) (n : ℕ) (before after : List (Worker F)) (page : ℕ) → SomeUsed n before after (FailedAt faults page) → SomeUsed n before after (SourceRose faults)
+some_rose faults n before after page s = (s.0, s.1, λ d. (s.2 d).rose)
+
+-- ---- by the status
+
+unbroken_by : (e : EndingSeen) → IsUnbrokenBy (status_of e) → IsUnbroken e
+unbroken_by Written h = tt
+unbroken_by Usage h = tt
+unbroken_by (Document fault) h = tt
+unbroken_by (Page page) h = tt
+unbroken_by (Source page) h = h.0 refl
+unbroken_by Input h = tt
+unbroken_by (Output page) h = tt
+unbroken_by Memory h = h.1 refl
+
+-- a page's status isn't 0
+not_good : (f : PageFaultSeen) → page_status f ≡ 0 → ⊥
+not_good (fault.NoFont n) e = cc
+not_good fault.NoCurrentFont e = cc
+not_good (fault.NoCharacter k c) e = cc
+not_good (fault.NoGlyph k c) e = cc
+not_good (fault.NoPacket k c) e = cc
+not_good (fault.NoLocalFont k n) e = cc
+not_good (fault.Depth k c) e = cc
+not_good fault.TooLong e = cc
+not_good (fault.Font k f) e = cc
+not_good (fault.Pen f) e = cc
+
+is_written : (e : EndingSeen) → status_of e ≡ 0 → e ≡ Written
+is_written Written is = refl
+is_written Usage is = cc
+is_written (Document fault) is = cc
+is_written (Page page) is = absurd (not_good page.fault is)
+is_written (Source page) is = cc
+is_written Input is = cc
+is_written (Output page) is = cc
+is_written Memory is = cc
+
+through_by : (n : ℕ) (e : EndingSeen) → IsDrawnThroughBy n (status_of e) → IsDrawnThrough n e
+through_by n e (inl good) = inl (is_written e good)
+through_by n e (inr one) = inr (one.0, unbroken_by e one.1)
+
+-- ---- one seat
+
+-- a history with calls of one seat alone
+are_of : (history : List Call) → AllMade 2 history → own 0 history ≡ [] → AreOf 1 history
+are_of [] made none = tt
+are_of (c ∷ calls) made none = dite (ℕ_discrete c.seat 0)
+    (λ e. let mine : own 0 (c ∷ calls) ≡ c ∷ own 0 calls = rw (eq-eqb c.seat 0 e) refl in absurd (cc (sym mine ∙ none)))
+    (λ not. let rest : own 0 (c ∷ calls) ≡ own 0 calls = rw (ne_eqb c.seat 0 not) refl in (omega (arith, made.0, not), are_of calls made.1 (sym rest ∙ none)))
+
+-- where no seat has given a claim up
+later_kept : (seat : ℕ) (c : Call) (calls : List Call) → NoneReleased (own seat (c ∷ calls)) → NoneReleased (own seat calls)
+later_kept seat c calls kept = dite (ℕ_discrete c.seat seat)
+    (λ e. let mine : own seat (c ∷ calls) ≡ c ∷ own seat calls = rw (eq-eqb c.seat seat e) refl in (subst NoneReleased mine kept).1)
+    (λ not. let other : own seat (c ∷ calls) ≡ own seat calls = rw (ne_eqb c.seat seat not) refl in subst NoneReleased other kept)
+
+pub each_kept : (n : ℕ) (history : List Call) → AllMade (n + 1) history → own 0 history ≡ [] → ((k : ℕ) → k < n → NoneReleased (own (k + 1) history)) → NoneReleased history
+each_kept n [] made none kept = tt
+each_kept n (c ∷ calls) made none kept = dite (ℕ_discrete c.seat 0)
+    (λ e. let mine : own 0 (c ∷ calls) ≡ c ∷ own 0 calls = rw (eq-eqb c.seat 0 e) refl in absurd (cc (sym mine ∙ none)))
+    (λ not.
+    let k = c.seat - 1 in
+    let at : c.seat ≡ k + 1 = omega (arith, not) in
+    let below : k < n = omega (arith, made.0, not) in
+    let mine : own (k + 1) (c ∷ calls) ≡ c ∷ own (k + 1) calls = rw (eq-eqb c.seat (k + 1) at) refl in
+    let rest : own 0 (c ∷ calls) ≡ own 0 calls = rw (ne_eqb c.seat 0 not) refl in
+    ((subst NoneReleased mine (kept k below)).0, each_kept n calls made.1 (sym rest ∙ none) (λ j lt. later_kept (j + 1) c calls (kept j lt))))
+
+-- ---- what a worker did
+
+module _ {F : Type 0} (library : F → Option Files) (faults loads : F → ℕ) (g : Given) (reading : Reading) (n : ℕ) (e : EndingSeen) (history : List Call) (k : ℕ) (before after : Worker F)
+    (ran : Ran (IsDrawnThrough n e) library faults loads g reading history (k + 1) before after) where
+  worked : Worked library faults loads g.library n (status_of e) history k before after
+  worked = record {
+    seat = ran.seat;
+    none = ran.none;
+    tells = ran.tells;
+    count = ran.faults_rose;
+    keys = ran.keys;
+    answered = ran.answered;
+    last = ran.last;
+    kept = λ h. ran.whole (through_by n e h);
+    loaded = ran.loaded;
+  }
+
+  module _ (capacity : ℕ) (one : IsOneHistory capacity n (status_of e) history) (alone : AloneIsHistory) (law : SoloIsOne) (below : k < n) where
+    solo : n ≡ 1 → IsUnbrokenBy (status_of e) → history ≡ solo_history capacity 1 ran.keys
+    solo single unbroken =
+        let first : k + 1 ≡ 1 = omega arith in
+        let made : AllMade 2 history = subst (λ (m : ℕ). AllMade (m + 1) history) single one.made in
+        let whole : own 1 history ≡ history = alone 2 1 history made (λ other lt not. let zero_is : 0 ≡ other = omega (arith, lt, not) in subst (λ (m : ℕ). own m history ≡ []) zero_is one.none_of_first) in
+        let mine : own (k + 1) history ≡ history = subst (λ (m : ℕ). own m history ≡ history) (sym first) whole in
+        law capacity 1 ran.keys history (record {
+          legal = one.legal;
+          own = are_of history made one.none_of_first;
+          for_keys = subst (SeatCalls ran.keys) mine ran.answered;
+          kept = subst NoneReleased mine (ran.whole (inr (single, unbroken_by e unbroken)));
+        })
+
+    answered : Answered g reading capacity n (status_of e) history k after
+    answered = record {
+      keys = ran.keys;
+      looked = ran.looked;
+      through = λ h. ran.drawn_out (through_by n e h);
+      answered = ran.answered;
+      one = solo;
+    }
+
+-- ---- the history of all
+
+-- one of some workers
+pub one_of : {A : Type 0} (xs : List A) (k : ℕ) → k < length xs → A
+one_of [] k lt = absurd (omega arith)
+one_of (x ∷ xs) k lt = x
+
+pub one_history : {F : Type 0} (library : F → Option Files) (faults loads : F → ℕ) (g : Given) (n capacity : ℕ) (old new : Option (List ℕ)) (P : Type 0) (reading : Reading) (values : List PageValue) (e : EndingSeen)
+    (history : List Call) (before after : List (Worker F)) → EndsPages old new P (Unit {0}) e reading values → Legal capacity history → AllMade (n + 1) history → own 0 history ≡ [] → FewClaims history
+    → EachUsed n before after (λ k was now. Ran (IsDrawnThrough n e) library faults loads g reading history (k + 1) was now) → ((k : ℕ) → k < n → Worker F) → IsOneHistory capacity n (status_of e) history
+one_history library faults loads g n capacity old new P reading values e history before after ends legal made first few ran some = record {
+  legal = legal;
+  made = made;
+  none_of_first = first;
+  few_claims = few;
+  kept = λ is. each_kept n history made first (λ k lt. (ran k (some k lt) lt).whole (inl (is_written e is)));
+  idle = λ among. absurd (ends_late old new P (Unit {0}) reading values e ends among);
+}
+
+-- ---- the pages of a document
+
+module _ {F : Type 0} (library : F → Option Files) (faults loads : F → ℕ) (g : Given) (reading : Reading) (capacity n : ℕ) (old new : Option (List ℕ)) (P : Type 0) (e : EndingSeen) (history : List Call)
+    (before after : List (Worker F)) (drew : DrewPages library faults loads g reading capacity n old new P e history before after) where
+  pub are_done : RestIsKept n before after → AreDone library faults loads g.library capacity n (status_of e) e history before after
+  are_done rest = record {
+    failed = drew.failed;
+    one = drew.one;
+    worked = λ k d lt. worked library faults loads g reading n e history k (get_or before k d) (get_or after k d) (drew.ran k d lt);
+    shares = (pages_begun reading, drew.shares.drew);
+    rest = rest;
+  }
+
+  pub drew_together : (bytes : List ℕ) → IsDocument g.res bytes reading → AloneIsHistory → SoloIsOne → DrewTogether g old new capacity n (status_of e) e history before after bytes
+  drew_together bytes document alone law =
+      inr (
+        reading,
+        drew.ends.0,
+        record { document = document; pages = drew.ends.1 },
+        (
+          ends_so old new P (Unit {0}) reading drew.ends.0 e drew.ends.2,
+          drew.shares,
+          λ k d lt. answered library faults loads g reading n e history k (get_or before k d) (get_or after k d) (drew.ran k d lt) capacity drew.one alone law lt,
+        ),
+      )
+
+  pub ends_used : EndsPages old new P (SomeUsed n before after (SourceRose faults)) e reading drew.ends.0
+  ends_used = ends_by old new P (SomeUsed n before after (SourceRose faults)) reading drew.ends.0 e drew.ends.2 (λ page is. some_rose faults n before after page (drew.failed page is))
+
+-- the end of a run
+pub ended_at : {F : Type 0} (faults : F → ℕ) (g : Given) (capacity n : ℕ) (left : Option (List ℕ)) (e : EndingSeen) (old new notes_old notes_new : Option (List ℕ)) (notes_before notes_now : ℕ)
+    (history : List Call) (before after : List (Worker F)) → IsNoted g e left old new notes_old notes_new notes_before notes_now
+    → ((page : ℕ) → e ≡ Source page → SomeUsed n before after (FailedAt faults page)) → OfRead left (DrewTogether g old new capacity n (status_of e) e history before after)
+    → (status : ℕ) → status ≡ status_of e → HasEnded faults g capacity n status e left old new notes_old notes_new notes_before notes_now history before after
+ended_at faults g capacity n left e old new notes_old notes_new notes_before notes_now history before after noted failed drew status is =
+    subst (λ (m : ℕ). HasEnded faults g capacity n m e left old new notes_old notes_new notes_before notes_now history before after) (sym is) (record { noted = noted; failed = failed; drew = drew })
+
+-- a run without words uses one worker
+pub one_worker : the_default_settings.workers ≡ 1
+unfolding the_default_settings
+one_worker = refl
+
+-- a worker as it was made is ready for a run that is told no library
+pub ready_untold : {F : Type 0} (library : F → Option Files) (w : Worker F) → IsUnused w → IsReady library None w
+ready_untold library w unused = record { fresh = record { tells = tt; none = unused.none; loads = unused.loads; pages = unused.pages }; seat = unused.seat }
+
+-- and so are those of a list that one more was added to
+pub more_unused : {F : Type 0} (n : ℕ) (ws : List (Worker F)) (w : Worker F) → length ws ≡ n → IsUnused w → ((k : ℕ) (d : Worker F) → k < n → IsUnused (get_or ws k d))
+    → (k : ℕ) (d : Worker F) → k < n + 1 → IsUnused (get_or (ws ++ w ∷ []) k d)
+more_unused n ws w long unused each k d lt = elim (cases_lt k n) [
+  | inl below ↦ subst IsUnused (sym (get_or_append_left ws (w ∷ []) d k (omega arith))) (each k d below)
+  | inr at ↦ subst IsUnused (sym (get_or_push ws w d k (omega arith))) unused
+]
+
+-- ---- a run in which no cache was made
+
+idle_worked : {F : Type 0} (library : F → Option Files) (faults loads : F → ℕ) (told : Option Files) (n status k : ℕ) (w : Worker F) → IsReady library told w
+    → Worked library faults loads told n status [] k w w
+idle_worked library faults loads told n status k w ready = record {
+  seat = ready.seat;
+  none = ready.fresh.none;
+  tells = ready.fresh.tells;
+  count = omega arith;
+  keys = [];
+  answered = refl;
+  last = tt;
+  kept = λ h. tt;
+  loaded = record {
+    loads = record { most = omega arith; never_falls = omega arith };
+    counted = record { most = omega arith; never_falls = omega arith };
+    same = λ low. omega arith;
+  };
+}
+
+not_source : (e : EndingSeen) → IsIdle e → (page : ℕ) → e ≡ Source page → ⊥
+not_source e idle page is = subst IsIdle is idle
+
+pub idle_done : {F : Type 0} (library : F → Option Files) (faults loads : F → ℕ) (told : Option Files) (capacity n status : ℕ) (e : EndingSeen) (history : List Call) (ws : List (Worker F))
+    → ((k : ℕ) (d : Worker F) → k < n → IsReady library told (get_or ws k d)) → IsIdle e → history ≡ [] → AreDone library faults loads told capacity n status e history ws ws
+idle_done library faults loads told capacity n status e history ws ready idle none =
+    subst (λ (h : List Call). AreDone library faults loads told capacity n status e h ws ws) (sym none) (record {
+      failed = λ page is. absurd (not_source e idle page is);
+      one = record { legal = refl; made = tt; none_of_first = refl; few_claims = λ k. omega arith; kept = λ is. tt; idle = λ among. refl };
+      worked = λ k d lt. idle_worked library faults loads told n status k (get_or ws k d) (ready k d lt);
+      shares = (0, record { rounds = 0; shared = λ k d lt. (ready k d lt).fresh.pages });
+      rest = λ k d le. refl;
+    })
+
+pub idle_drew : {F : Type 0} (g : Given) (old new : Option (List ℕ)) (capacity n status : ℕ) (e : EndingSeen) (history : List Call) (ws : List (Worker F)) (left : Option (List ℕ)) → IsIdle e → history ≡ []
+    → OfRead left (DrewTogether g old new capacity n status e history ws ws)
+idle_drew g old new capacity n status e history ws None idle none = tt
+idle_drew g old new capacity n status e history ws (Some bytes) idle none = inl (idle, none, refl)
+
+-- ---- the first of some workers
+
+module _ {F : Type 0} (library : F → Option Files) (faults loads : F → ℕ) (g : Given) (reading : Reading) (capacity : ℕ) (old new : Option (List ℕ)) (P : Type 0) (e : EndingSeen) (history : List Call)
+    (n : ℕ) (before front rest : List (Worker F)) (long : length front ≡ n) where
+  was : (k : ℕ) (d : Worker F) → k < n → get_or (take n before) k d ≡ get_or before k d
+  was k d lt = get_or-take n before k d lt
+
+  is : (k : ℕ) (d : Worker F) → k < n → get_or front k d ≡ get_or (front ++ rest) k d
+  is k d lt = sym (get_or_append_left front rest d k (omega arith))
+
+  pub of_front : DrewPages library faults loads g reading capacity n old new P e history (take n before) front
+      → DrewPages library faults loads g reading capacity n old new P e history before (front ++ rest)
+  of_front d = record {
+    ends = d.ends;
+    failed = λ page at.
+        let f = d.failed page at in
+        (f.0, f.1, λ w. subst (λ (x : Worker F). FailedAt faults page x (get_or (front ++ rest) f.0 w)) (was f.0 w f.1) (subst (λ (x : Worker F). FailedAt faults page (get_or (take n before) f.0 w) x) (is f.0 w f.1) (f.2 w)));
+    shares = record {
+      drew = record { rounds = d.shares.drew.rounds; shared = λ k w lt. sym (ap (λ (x : Worker F). x.pages.items) (is k w lt)) ∙ d.shares.drew.shared k w lt };
+      begun = d.shares.begun;
+    };
+    one = d.one;
+    ran = λ k w lt.
+        subst (λ (x : Worker F). Ran (IsDrawnThrough n e) library faults loads g reading history (k + 1) x (get_or (front ++ rest) k w)) (was k w lt)
+        (subst (λ (x : Worker F). Ran (IsDrawnThrough n e) library faults loads g reading history (k + 1) (get_or (take n before) k w) x) (is k w lt) (d.ran k w lt));
+  }
+
+-- and the others are as they were
+pub rest_of_front : {F : Type 0} (n : ℕ) (before front : List (Worker F)) → length front ≡ n → RestIsKept n before (front ++ drop n before)
+rest_of_front n before front long k d le =
+    let j = k - n in
+    let at : k ≡ length front + j = omega arith in
+    let back : n + j ≡ k = omega arith in
+    ap (λ (i : ℕ). get_or (front ++ drop n before) i d) at ∙ get_or-append-add front (drop n before) j d ∙ get_or-drop n before j d ∙ ap (λ (i : ℕ). get_or before i d) back
+
+-- the first of them may begin
+module _ {F : Type 0} (n : ℕ) (ws : List (Worker F)) (there : n ≤ length ws) where
+  long_front : length (take n ws) ≡ n
+  long_front = length-take-le n ws there
+
+  pub front_some : 1 ≤ n → 1 ≤ length (take n ws)
+  front_some some = subst (λ (m : ℕ). 1 ≤ m) (sym long_front) some
+
+  pub front_few : n ≤ 32 → length (take n ws) ≤ 32
+  front_few few = subst (λ (m : ℕ). m ≤ 32) (sym long_front) few
+
+  front_at : (k : ℕ) (d : Worker F) → k < length (take n ws) → (k < n) × (get_or (take n ws) k d ≡ get_or ws k d)
+  front_at k d lt = let below : k < n = subst (λ (m : ℕ). k < m) long_front lt in (below, get_or-take n ws k d below)
+
+module _ {F : Type 0} (library : F → Option Files) (told : Option Files) (n : ℕ) (ws : List (Worker F)) (there : n ≤ length ws)
+    (ready : (k : ℕ) (d : Worker F) → k < n → IsReady library told (get_or ws k d)) where
+  pub front_fresh : (k : ℕ) (d : Worker F) → k < length (take n ws) → IsFresh library told (get_or (take n ws) k d)
+  front_fresh k d lt = let at = front_at n ws there k d lt in subst (λ (w : Worker F). IsFresh library told w) (sym at.1) (ready k d at.0).fresh
+
+  pub front_seatless : (k : ℕ) (d : Worker F) → k < length (take n ws) → (get_or (take n ws) k d).seat ≡ None
+  front_seatless k d lt = let at = front_at n ws there k d lt in ap (λ (w : Worker F). w.seat) at.1 ∙ (ready k d at.0).seat

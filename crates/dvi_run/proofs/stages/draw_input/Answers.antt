@@ -1,0 +1,70 @@
+use mir.Syntax.{of_param}
+use Rattle.std.proofs.Common.{◌≡◌, List, ℕ, ap, subst, rules}
+use Rattle.outside.specs.Counts.{Rose}
+use Rattle.cache_core.specs.Views.{calls_of}
+use Rattle.dvi_run.specs.Endings.{EndsBytes, Input, Memory, seen_ending, status_of}
+use Rattle.dvi_run.specs.Pages.{Given, given_by}
+use Rattle.dvi_run.specs.Together.{DrewTogether, SomeUsed, SourceRose}
+use Rattle.dvi_run.proofs.Outcomes.{bytes_end}
+use Rattle.dvi_run.proofs.Together.{idle_done, idle_drew}
+use Rattle.dvi_run.proofs.Told.{of_read}
+use Rattle.dvi_run.proofs.stages.draw_input.Goals as goal
+
+pub draw_document-requires : goal.draw_document-requires
+draw_document-requires g c κs within =
+    let q = c.requires.1.1.1.1.1.1 in
+    let sent = c.requires.1.1.1.1.0 in (
+      search rules fits 100000 depth 60,
+      (
+        search rules fits 100000 depth 60,
+        (
+          search rules fits 100000 depth 60,
+          (
+            record { owned = sent.owned; leaving = λ k x w. sent.leaving (λ _. k (of_param 1)) x w },
+            (search rules fits 100000 depth 60, (q.0, (q.1.0, (q.1.1.0, q.1.1.1)))),
+          ),
+        ),
+      ),
+    )
+
+pub returns-in-Ok-clause-ends : goal.returns-in-Ok-clause-ends
+returns-in-Ok-clause-ends g c =
+    let given : Given = given_by g.told c.args.settings.now in
+    let old = g.O.Output.written c.args.out.now in
+    let new = g.O.Output.written c.draw_document.new.out in
+    let OutputFailed = Rose (g.O.Output.faults c.args.out.now) (g.O.Output.faults c.draw_document.new.out) in
+    let SourceFailed = SomeUsed c.args.settings.now.workers c.args.workers.now c.draw_document.new.workers (SourceRose g.F.FontSource.faults) in
+    let Kept = c.draw_document.new.out ≡ c.args.out.now in
+    let e = seen_ending c.draw_document.result in
+    let ends = subst (λ (bytes : List ℕ). EndsBytes old new OutputFailed SourceFailed Kept given bytes e) c.as_slice.ensures.value c.draw_document.ensures.ends in
+    bytes_end old new OutputFailed SourceFailed Kept given (Rose (g.I.Input.faults c.args.input.now) (g.I.Input.faults c.read_all.new.input)) (g.I.Input.left c.args.input.now)
+    (g.I.Input.left c.read_all.new.input) _ c.in-Ok.ensures.bytes e ends
+
+pub returns-in-Ok-clause-drew : goal.returns-in-Ok-clause-drew
+returns-in-Ok-clause-drew g c =
+    let given : Given = given_by g.told c.args.settings.now in
+    let old = g.O.Output.written c.args.out.now in
+    let new = g.O.Output.written c.draw_document.new.out in
+    let e = seen_ending c.draw_document.result in
+    let Of = DrewTogether given old new c.args.settings.now.cache c.args.settings.now.workers (status_of e) e (calls_of c.draw_document.new.history.items) c.args.workers.now c.draw_document.new.workers in
+    of_read Of (g.I.Input.left c.args.input.now) (g.I.Input.left c.read_all.new.input) _ c.in-Ok.ensures.bytes (subst Of c.as_slice.ensures.value c.draw_document.ensures.drew)
+
+pub returns-in-Err-Failed-clause-done : goal.returns-in-Err-Failed-clause-done
+returns-in-Err-Failed-clause-done g c = let q = c.requires.1.1.1.1.1.1 in idle_done _ _ _ _ _ _ _ _ _ _ q.1.1.0 tt (ap calls_of q.1.1.1)
+
+pub returns-in-Err-Failed-clause-drew : goal.returns-in-Err-Failed-clause-drew
+returns-in-Err-Failed-clause-drew g c =
+    let q = c.requires.1.1.1.1.1.1 in
+    let old = g.O.Output.written c.args.out.now in
+    idle_drew (given_by g.told c.args.settings.now) old old c.args.settings.now.cache c.args.settings.now.workers (status_of Input) Input (calls_of c.args.history.now.items) c.args.workers.now
+    (g.I.Input.left c.args.input.now) tt (ap calls_of q.1.1.1)
+
+pub returns-in-Err-NoMemory-clause-done : goal.returns-in-Err-NoMemory-clause-done
+returns-in-Err-NoMemory-clause-done g c = let q = c.requires.1.1.1.1.1.1 in idle_done _ _ _ _ _ _ _ _ _ _ q.1.1.0 tt (ap calls_of q.1.1.1)
+
+pub returns-in-Err-NoMemory-clause-drew : goal.returns-in-Err-NoMemory-clause-drew
+returns-in-Err-NoMemory-clause-drew g c =
+    let q = c.requires.1.1.1.1.1.1 in
+    let old = g.O.Output.written c.args.out.now in
+    idle_drew (given_by g.told c.args.settings.now) old old c.args.settings.now.cache c.args.settings.now.workers (status_of Memory) Memory (calls_of c.args.history.now.items) c.args.workers.now
+    (g.I.Input.left c.args.input.now) tt (ap calls_of q.1.1.1)

@@ -1,0 +1,129 @@
+//! The stages of a run: the input is read, the pages are found, and the workers draw them.
+ghost use Rattle.std.specs.Prelude.{◌≡◌, ◌≤◌, ◌<◌, ℕ, Option, [], length, slice_index_or};
+ghost use Rattle.outside.specs.Counts.{Rose};
+ghost use Rattle.outside.specs.Library.{Files};
+ghost use Rattle.cache_core.specs.Views.{calls_of};
+ghost use Rattle.dvi_run.specs.Settings.{AreSettings};
+ghost use Rattle.dvi_run.specs.Reading.{OfRead};
+ghost use Rattle.dvi_run.specs.Pages.{given_by};
+ghost use Rattle.dvi_run.specs.Endings.{EndsBytes, IsEnding, seen_ending, status_of};
+ghost use Rattle.dvi_run.specs.Together.{AreDone, DrewPages, DrewTogether, IsReady, RestIsKept, SomeUsed, SourceRose};
+
+use crate::at_once::draw_at_once;
+use crate::ending::Ending;
+use crate::reading::{ReadStop, read_all};
+use crate::settings::Settings;
+use cache_core::Entry;
+use outside::{FontSource, Input, Output};
+use page_index::{Index, IndexStop};
+use page_workers::Worker;
+use std::alloc::Global;
+use std::sync::Wait;
+use std::thread::Threads;
+
+// Draws and writes the pages of a document by the first workers, as many as the settings say, and answers
+// how that ended.
+fn draw_pages<R: Threads + Wait + Sync, F: FontSource + Send, O: Output>(
+    rt: &R,
+    alloc: Global,
+    settings: &Settings,
+    index: &Index,
+    workers: &mut [Worker<F>],
+    out: &mut O,
+    history: &mut Vec<Entry>,
+) -> Ending
+    ghost told: { Option Files }
+    requires settings { AreSettings settings.now }
+    requires there { settings.now.workers ≤ length workers.old }
+    requires ready { (k : ℕ) (d : _) → k < settings.now.workers
+        → IsReady F.library told (slice_index_or workers.old k d) }
+    requires empty { history.old.items ≡ [] }
+    requires resolution { index.now.res ≡ settings.now.res }
+    ensures drew { DrewPages F.library F.faults F.loads (given_by told settings.now) index.now.reading
+        settings.now.cache settings.now.workers (O.written out.old) (O.written out.new)
+        (Rose (O.faults out.old) (O.faults out.new)) (seen_ending result) (calls_of history.new.items)
+        workers.old workers.new }
+    ensures rest { RestIsKept settings.now.workers workers.old workers.new }
+    ensures output { O.faults out.old ≤ O.faults out.new }
+{
+    draw_at_once(
+        rt,
+        alloc,
+        &mut workers[..settings.workers as usize],
+        settings.cache as usize,
+        index,
+        &settings.sheet,
+        out,
+        history,
+    )
+}
+
+// Draws and writes the document of these bytes, and answers how that ended.
+fn draw_document<R: Threads + Wait + Sync, F: FontSource + Send, O: Output>(
+    rt: &R,
+    alloc: Global,
+    settings: &Settings,
+    bytes: &[u8],
+    workers: &mut [Worker<F>],
+    out: &mut O,
+    history: &mut Vec<Entry>,
+) -> Ending
+    ghost told: { Option Files }
+    requires settings { AreSettings settings.now }
+    requires there { settings.now.workers ≤ length workers.old }
+    requires ready { (k : ℕ) (d : _) → k < settings.now.workers
+        → IsReady F.library told (slice_index_or workers.old k d) }
+    requires empty { history.old.items ≡ [] }
+    ensures ends { EndsBytes (O.written out.old) (O.written out.new) (Rose (O.faults out.old) (O.faults out.new))
+        (SomeUsed settings.now.workers workers.old workers.new (SourceRose F.faults)) (out.new ≡ out.old)
+        (given_by told settings.now) bytes.now (seen_ending result) }
+    ensures done { AreDone F.library F.faults F.loads told settings.now.cache settings.now.workers
+        (status_of (seen_ending result)) (seen_ending result) (calls_of history.new.items)
+        workers.old workers.new }
+    ensures drew { DrewTogether (given_by told settings.now) (O.written out.old) (O.written out.new)
+        settings.now.cache settings.now.workers (status_of (seen_ending result)) (seen_ending result)
+        (calls_of history.new.items) workers.old workers.new bytes.now }
+    ensures output { O.faults out.old ≤ O.faults out.new }
+{
+    match Index::read(alloc, bytes, settings.res) {
+        Ok(index) => draw_pages(rt, alloc, settings, &index, workers, out, history),
+        Err(IndexStop::Fault(fault)) => Ending::Document(fault),
+        Err(IndexStop::NoMemory) => Ending::Memory,
+    }
+}
+
+/// Reads, draws and writes, and answers how that ended.
+pub fn draw_input<R: Threads + Wait + Sync, I: Input, F: FontSource + Send, O: Output>(
+    rt: &R,
+    alloc: Global,
+    settings: &Settings,
+    input: &mut I,
+    workers: &mut [Worker<F>],
+    out: &mut O,
+    history: &mut Vec<Entry>,
+) -> Ending
+    ghost told: { Option Files }
+    requires settings { AreSettings settings.now }
+    requires there { settings.now.workers ≤ length workers.old }
+    requires ready { (k : ℕ) (d : _) → k < settings.now.workers
+        → IsReady F.library told (slice_index_or workers.old k d) }
+    requires empty { history.old.items ≡ [] }
+    ensures ends { IsEnding (O.written out.old) (O.written out.new) (Rose (O.faults out.old) (O.faults out.new))
+        (SomeUsed settings.now.workers workers.old workers.new (SourceRose F.faults)) (out.new ≡ out.old)
+        (Rose (I.faults input.old) (I.faults input.new)) (given_by told settings.now)
+        (I.left input.old) (I.left input.new) (seen_ending result) }
+    ensures done { AreDone F.library F.faults F.loads told settings.now.cache settings.now.workers
+        (status_of (seen_ending result)) (seen_ending result) (calls_of history.new.items)
+        workers.old workers.new }
+    ensures drew { OfRead (I.left input.old) (DrewTogether (given_by told settings.now) (O.written out.old)
+        (O.written out.new) settings.now.cache settings.now.workers (status_of (seen_ending result))
+        (seen_ending result) (calls_of history.new.items) workers.old workers.new) }
+    ensures input { I.faults input.old ≤ I.faults input.new }
+    ensures output { O.faults out.old ≤ O.faults out.new }
+{
+    match read_all(alloc, input) {
+        Ok(bytes) => draw_document(rt, alloc, settings, bytes.as_slice(), workers, out, history),
+        Err(ReadStop::Failed) => Ending::Input,
+        Err(ReadStop::NoMemory) => Ending::Memory,
+    }
+}
