@@ -17,6 +17,7 @@ for crate in low high; do
   printf '== %s\nmany lines\nof %s\n' $crate $crate
 done
 if [ -n "$FAILS" ]; then printf '== summary\nlow: ok\nhigh: failed (1)\n'; exit 1; fi
+if [ -n "$SIDE" ]; then printf '== side\nmany lines\nlogic=proved functions=1\n'; fi
 printf '== dvipbm\nlogic=proved\n== summary\n3 of 3 crates ok\n'
 '''
 
@@ -54,6 +55,11 @@ class Build(unittest.TestCase):
         self.assertEqual((status, lines[1:4]), (0, ['1 of 3: low proved before', '2 of 3: high proved before', '3 of 3: dvipbm proved before']))
         self.assertEqual(lines[4:], ['crates/dvipbm/out/dvipbm is built, 0 s', ''])
         self.assertEqual(self.read('asked'), 'all check --jobs 2\nrun\n')
+
+    def test_a_library_that_nothing_stands_on_is_proved_and_not_built(self):
+        self.write('crates.txt', 'low:\nhigh: low\nside: low\ndvipbm: high\n')
+        status, said, _ = self.called('tools/build', SIDE='yes', LINKS='yes')
+        self.assertEqual((status, said.split('\n')[3:5]), (0, ['3 of 4: side proved before', '4 of 4: dvipbm proved before']))
 
     def test_what_the_toolchain_said_of_a_crate_that_failed_alone(self):
         status, said, errors = self.called('tools/build', FAILS='high')
