@@ -1,0 +1,4 @@
+pub mod Joined
+pub mod Counted
+pub mod Words
+pub mod ReadBack

@@ -1,0 +1,8 @@
+use Rattle.run_report.proofs.Counted.{counts_add_up, looks_are_answers}
+use Rattle.run_report.proofs.laws.counts.Goals as goal
+
+pub returns-clause-looks : goal.returns-clause-looks
+returns-clause-looks c = looks_are_answers
+
+pub returns-clause-joined : goal.returns-clause-joined
+returns-clause-joined c = counts_add_up

@@ -1,0 +1,39 @@
+//! Laws over the texts, each a clause of a function without a body.
+ghost use Rattle.std.specs.Prelude.{◌≡◌};
+ghost use Rattle.cache_core.specs.Rows.{history_of_one, history_of_three, second_is_busy};
+ghost use Rattle.run_report.specs.Laws.{CountsAddUp, LooksAreAnswers};
+ghost use Rattle.run_report.specs.Laws.{LinesTell, TracesAreJoined, TracesTell};
+ghost use Rattle.run_report.specs.Rows.{page_counts, summary_of_one, summary_of_three};
+ghost use Rattle.run_report.specs.Rows.{summary_of_two_seats, trace_of_two_seats};
+ghost use Rattle.run_report.specs.Rows.{trace_of_one, trace_of_three};
+ghost use Rattle.run_report.specs.Summary.{summary_text};
+ghost use Rattle.run_report.specs.Trace.{trace_text};
+
+/// Looks are hits, claims and busy ones together, and the counts of joined histories add up.
+pub fn counts()
+    ensures looks { LooksAreAnswers }
+    ensures joined { CountsAddUp }
+{}
+
+/// The trace of joined histories is one trace after the other. A line tells its call: the seat, the
+/// key as it is shown, and what was done, with the key that left. A trace tells each of its calls.
+pub fn traces()
+    ensures joined { TracesAreJoined }
+    ensures lines { LinesTell }
+    ensures tell { TracesTell }
+{}
+
+/// The traces of a page that looks fonts up five times, with a cache of one font and of three, and
+/// of a claim that is given up while another seat looks for its key.
+pub fn worked_traces()
+    ensures of_one { trace_text history_of_one ≡ trace_of_one }
+    ensures of_three { trace_text history_of_three ≡ trace_of_three }
+    ensures of_two_seats { trace_text second_is_busy ≡ trace_of_two_seats }
+{}
+
+/// The summaries of these.
+pub fn worked_summaries()
+    ensures of_one { summary_text page_counts history_of_one ≡ summary_of_one }
+    ensures of_three { summary_text page_counts history_of_three ≡ summary_of_three }
+    ensures of_two_seats { summary_text page_counts second_is_busy ≡ summary_of_two_seats }
+{}
