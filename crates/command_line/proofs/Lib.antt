@@ -1,0 +1,17 @@
+pub mod Rules
+pub mod Looks
+pub mod Forms
+pub mod States
+pub mod Shapes
+pub mod Steps
+pub mod Lines
+pub mod Found
+pub mod Spelled
+pub mod ShapedLemmas
+pub mod Answers
+pub mod Allowed
+pub mod Named
+pub mod Apart
+pub mod Orders
+pub mod Digits
+pub mod Places

@@ -1,0 +1,205 @@
+-- All settings within their limits can be given.
+use Rattle.std.proofs.Common.{◌≡◌, ◌∙◌, ◌≤◌, ◌<◌, ◌^◌, ◌&&◌, ℕ, Bool, cond, true, false, List}
+use Rattle.std.proofs.Common.{[], ◌∷◌, ◌++◌, length, Option, Some, None, codes, decimal, refl, ap}
+use Rattle.std.proofs.Common.{arith, le-leb}
+use Rattle.std.specs.Prelude.{IfSome, nat_le, option_and_then}
+use Rattle.std.specs.List.{list_all}
+use Rattle.std.specs.Str.Parse.{digits_value}
+use Rattle.std.proofs.lemmas.Bool.{and_from}
+use Rattle.std.proofs.lemmas.Fmt.{decimal_nonempty, digits_decimal, digits_value-decimal}
+use Rattle.std.proofs.lemmas.Fmt.{length-decimal-le}
+use Rattle.command_line.specs.declared.settings.Settings.{Settings}
+use Rattle.command_line.specs.Settings.{AreSettings}
+use Rattle.command_line.specs.Line.{Choice, Text, Use, are_distinct, choices, is_in_range, is_used}
+use Rattle.command_line.specs.Line.{is_value, is_within, number_in, number_of, settings_among}
+use Rattle.command_line.specs.Line.{settings_from, settings_of, switch, uses_from, uses_of}
+use Rattle.command_line.specs.Laws.{naming_all, naming_if, naming_some}
+use Rattle.command_line.proofs.Digits.{own}
+
+-- ---- numbers in decimal
+
+told : (n : ℕ) → n < 10 ^ 7 → digits_value 10 (decimal n) ≡ n
+told n small = digits_value-decimal own n (omega arith)
+
+is_value-decimal : (n : ℕ) → n < 10 ^ 7 → is_value (decimal n) ≡ true
+is_value-decimal n small =
+    let fits : n < 2 ^ 64 = omega arith in
+    let few : length (decimal n) ≤ 7 = length-decimal-le 7 n (omega arith) small fits in
+    and_from _ _ (and_from _ _ (le-leb 1 _ (decimal_nonempty n fits)) (le-leb _ 7 few))
+    (digits_decimal own n fits)
+
+-- ---- the uses that name the settings
+
+abbrev use_of : Choice → ℕ → Use
+use_of c n = record { choice = c; value = decimal n }
+
+abbrev sample_uses : Option ℕ → List Use
+sample_uses None = []
+sample_uses (Some n) = use_of (number_in (codes "sample") 1 1000) n ∷ []
+
+abbrev switch_uses : Text → Bool → List Use
+switch_uses name true = record { choice = switch name; value = [] } ∷ []
+switch_uses name false = []
+
+abbrev more_uses : Option ℕ → Bool → Bool → List Use
+more_uses sample trace summary = sample_uses sample
+    ++ (switch_uses (codes "trace") trace ++ switch_uses (codes "summary") summary)
+
+abbrev uses_for : Settings → List Use
+uses_for s = use_of (number_in (codes "res") 1 4800) s.res
+    ∷ use_of (number_in (codes "width") 1 20000) s.sheet.width
+    ∷ use_of (number_in (codes "height") 1 20000) s.sheet.height
+    ∷ use_of (number_in (codes "left") 0 20000) s.sheet.left
+    ∷ use_of (number_in (codes "top") 0 20000) s.sheet.top
+    ∷ use_of (number_in (codes "workers") 1 32) s.workers
+    ∷ use_of (number_in (codes "cache") 1 256) s.cache
+    ∷ more_uses s.sample s.trace s.summary
+
+switches : (trace summary : Bool)
+    → uses_from choices None
+    (naming_if (codes "trace") trace ++ naming_if (codes "summary") summary)
+    ≡ Some (switch_uses (codes "trace") trace ++ switch_uses (codes "summary") summary)
+switches true true = refl
+switches true false = refl
+switches false true = refl
+switches false false = refl
+
+more_spelled : (sample : Option ℕ) (trace summary : Bool)
+    → IfSome sample (λ n. (1 ≤ n) × (n ≤ 1000))
+    → uses_from choices None (naming_some (codes "sample") sample
+    ++ (naming_if (codes "trace") trace ++ naming_if (codes "summary") summary))
+    ≡ Some (more_uses sample trace summary)
+more_spelled None trace summary h = switches trace summary
+more_spelled (Some n) trace summary h =
+    let small : n < 10 ^ 7 = omega (arith, h.1) in
+    rw (is_value-decimal n small, switches trace summary) refl
+
+spelled : (s : Settings) → AreSettings s → uses_of (naming_all s) ≡ Some (uses_for s)
+spelled s h =
+    let res = is_value-decimal s.res (omega (arith, h.resolution.1)) in
+    let width = is_value-decimal s.sheet.width (omega (arith, h.sheet.width)) in
+    let height = is_value-decimal s.sheet.height (omega (arith, h.sheet.height)) in
+    let left = is_value-decimal s.sheet.left (omega (arith, h.sheet.left)) in
+    let top = is_value-decimal s.sheet.top (omega (arith, h.sheet.top)) in
+    let workers = is_value-decimal s.workers (omega (arith, h.workers.1)) in
+    let cache = is_value-decimal s.cache (omega (arith, h.cache.1)) in
+    let more = more_spelled s.sample s.trace s.summary h.sample in
+    rw (res, width, height, left, top, workers, cache, more) refl
+
+-- ---- what these uses set
+
+distinct : (s : Settings) → are_distinct (uses_for s) ≡ true
+distinct s = go s.sample s.trace s.summary
+  where
+    go : (sample : Option ℕ) (trace summary : Bool)
+        → are_distinct (uses_for (record s { sample = sample; trace = trace; summary = summary }))
+        ≡ true
+    go None true true = refl
+    go None true false = refl
+    go None false true = refl
+    go None false false = refl
+    go (Some n) true true = refl
+    go (Some n) true false = refl
+    go (Some n) false true = refl
+    go (Some n) false false = refl
+
+sample_is : (sample : Option ℕ) (trace summary : Bool)
+    → IfSome sample (λ n. (1 ≤ n) × (n ≤ 1000))
+    → number_of (codes "sample") (more_uses sample trace summary) ≡ sample
+sample_is None true true h = refl
+sample_is None true false h = refl
+sample_is None false true h = refl
+sample_is None false false h = refl
+sample_is (Some n) trace summary h = ap Some (told n (omega arith))
+
+trace_is : (sample : Option ℕ) (trace summary : Bool)
+    → is_used (codes "trace") (more_uses sample trace summary) ≡ trace
+trace_is None true summary = refl
+trace_is None false true = refl
+trace_is None false false = refl
+trace_is (Some n) true summary = refl
+trace_is (Some n) false true = refl
+trace_is (Some n) false false = refl
+
+summary_is : (sample : Option ℕ) (trace summary : Bool)
+    → is_used (codes "summary") (more_uses sample trace summary) ≡ summary
+summary_is None true true = refl
+summary_is None true false = refl
+summary_is None false true = refl
+summary_is None false false = refl
+summary_is (Some n) true true = refl
+summary_is (Some n) true false = refl
+summary_is (Some n) false true = refl
+summary_is (Some n) false false = refl
+
+-- the numbers are those of the settings
+record AreTold (s : Settings) : Type 0 where
+  res : digits_value 10 (decimal s.res) ≡ s.res
+  width : digits_value 10 (decimal s.sheet.width) ≡ s.sheet.width
+  height : digits_value 10 (decimal s.sheet.height) ≡ s.sheet.height
+  left : digits_value 10 (decimal s.sheet.left) ≡ s.sheet.left
+  top : digits_value 10 (decimal s.sheet.top) ≡ s.sheet.top
+  workers : digits_value 10 (decimal s.workers) ≡ s.workers
+  cache : digits_value 10 (decimal s.cache) ≡ s.cache
+  sample : number_of (codes "sample") (more_uses s.sample s.trace s.summary) ≡ s.sample
+
+all_told : (s : Settings) → AreSettings s → AreTold s
+all_told s h = record {
+  res = told s.res (omega (arith, h.resolution.1));
+  width = told s.sheet.width (omega (arith, h.sheet.width));
+  height = told s.sheet.height (omega (arith, h.sheet.height));
+  left = told s.sheet.left (omega (arith, h.sheet.left));
+  top = told s.sheet.top (omega (arith, h.sheet.top));
+  workers = told s.workers (omega (arith, h.workers.1));
+  cache = told s.cache (omega (arith, h.cache.1));
+  sample = sample_is s.sample s.trace s.summary h.sample;
+}
+
+bounds : (least most n given : ℕ) → given ≡ n → least ≤ n → n ≤ most
+    → (nat_le least given && nat_le given most) ≡ true
+bounds least most n given e low high = rw e (and_from _ _ (le-leb least n low) (le-leb n most high))
+
+sample_bounds : (sample given : Option ℕ) → given ≡ sample
+    → IfSome sample (λ n. (1 ≤ n) × (n ≤ 1000)) → is_within 1 1000 given ≡ true
+sample_bounds None given e h = rw e refl
+sample_bounds (Some n) given e h =
+    rw e (and_from _ _ (le-leb 1 n h.0) (le-leb n 1000 h.1))
+
+ranges : (s : Settings) → AreSettings s → AreTold s
+    → list_all (is_in_range (uses_for s)) choices ≡ true
+ranges s h t =
+    and_from _ _ (bounds 1 4800 s.res _ t.res h.resolution.0 h.resolution.1)
+    (and_from _ _ (bounds 1 20000 s.sheet.width _ t.width h.sheet.some_width h.sheet.width)
+    (and_from _ _ (bounds 1 20000 s.sheet.height _ t.height h.sheet.some_height h.sheet.height)
+    (and_from _ _ (bounds 0 20000 s.sheet.left _ t.left (omega arith) h.sheet.left)
+    (and_from _ _ (bounds 0 20000 s.sheet.top _ t.top (omega arith) h.sheet.top)
+    (and_from _ _ (bounds 1 32 s.workers _ t.workers h.workers.0 h.workers.1)
+    (and_from _ _ (bounds 1 256 s.cache _ t.cache h.cache.0 h.cache.1)
+    (and_from _ _ (sample_bounds s.sample _ t.sample h.sample) refl)))))))
+
+same : (s : Settings) → AreTold s → settings_from (uses_for s) ≡ s
+same s t =
+    let trace = trace_is s.sample s.trace s.summary in
+    let summary = summary_is s.sample s.trace s.summary in
+    λ i. record {
+      res = t.res i;
+      sheet = record { width = t.width i; height = t.height i; left = t.left i; top = t.top i };
+      workers = t.workers i;
+      cache = t.cache i;
+      sample = t.sample i;
+      trace = trace i;
+      summary = summary i;
+    }
+
+chosen : (b : Bool) (x s : Settings) → b ≡ true → x ≡ s → cond b (Some x) None ≡ Some s
+chosen b x s is e = rw is (ap Some e)
+
+pub named : (workers : ℕ) (s : Settings) → AreSettings s → s.workers ≤ workers
+    → settings_of workers (naming_all s) ≡ Some s
+unfolding settings_of
+named workers s h enough =
+    let t = all_told s h in
+    let enough_given : nat_le (digits_value 10 (decimal s.workers)) workers ≡ true =
+    rw t.workers (le-leb s.workers workers enough) in
+    ap (option_and_then (settings_among workers)) (spelled s h)
+    ∙ chosen _ _ s (and_from _ _ (and_from _ _ (distinct s) (ranges s h t)) enough_given) (same s t)

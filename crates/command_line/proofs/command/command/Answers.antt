@@ -1,0 +1,21 @@
+-- each call adds its option to those before it
+use Rattle.std.proofs.Common.{◌∙◌, ap, codes, List, ℕ}
+use Rattle.std.proofs.lemmas.Result.{IfOk-weaker}
+use Rattle.clap.specs.Words.{App}
+use Rattle.command_line.specs.Commands.{with_number, with_switch}
+use Rattle.command_line.proofs.command.command.Goals as goal
+
+pub returns : goal.returns
+returns c =
+    let number = λ (name : List ℕ) (a : App). with_number a name in
+    let e1 = c.in_ok-command.ensures ∙ ap (number (codes "res")) c.plain-command.ensures in
+    let e2 = c.in_ok-command-2.ensures ∙ ap (number (codes "width")) e1 in
+    let e3 = c.in_ok-command-3.ensures ∙ ap (number (codes "height")) e2 in
+    let e4 = c.in_ok-command-4.ensures ∙ ap (number (codes "left")) e3 in
+    let e5 = c.in_ok-command-5.ensures ∙ ap (number (codes "top")) e4 in
+    let e6 = c.in_ok-command-6.ensures ∙ ap (number (codes "workers")) e5 in
+    let e7 = c.in_ok-command-7.ensures ∙ ap (number (codes "cache")) e6 in
+    let e8 = c.in_ok-command-8.ensures ∙ ap (number (codes "sample")) e7 in
+    let e9 = c.in_ok-command-9.ensures ∙ ap (λ (a : App). with_switch a (codes "trace")) e8 in
+    IfOk-weaker c.with_switch-2.result _ _
+    (λ r h. h ∙ ap (λ (a : App). with_switch a (codes "summary")) e9) c.with_switch-2.ensures

@@ -1,0 +1,58 @@
+-- The matches of a line, by its uses.
+use Rattle.std.specs.Prelude.{◌≡◌, ◌/◌, ◌*◌, ◌&&◌, ℕ, Bool, true, min, List, Some, codes}
+use Rattle.std.specs.Prelude.{find, if◌then◌else◌, nat_le, option_map, unwrap_or}
+use Rattle.clap.specs.Words.{first_value, one_text}
+use Rattle.clap.specs.declared.parser.matches.Found.{Found}
+use Rattle.command_line.specs.Line.{Text, Use, choice_of, choices, is_named, is_used, is_value}
+use Rattle.command_line.specs.Line.{is_within, number_in, number_of, switch}
+use Rattle.command_line.specs.declared.settings.Settings.{Settings}
+use Rattle.command_line.specs.declared.matches.Given.{Given}
+
+-- what the matches have at each name
+pub record Reads (us : List Use) (f : Found) : Type 0 where
+  pub number : (name : Text) (r : ℕ × ℕ) → choice_of choices name ≡ Some (number_in name r.0 r.1)
+      → first_value f name ≡ option_map (λ u. u.value) (find (is_named name) us)
+  pub digits : (name : Text) (r : ℕ × ℕ) (v : Text)
+      → choice_of choices name ≡ Some (number_in name r.0 r.1) → first_value f name ≡ Some v
+      → is_value v ≡ true
+  pub switch : (name : Text) → choice_of choices name ≡ Some (switch name)
+      → one_text f name ≡ Some (if is_used name us then codes "true" else codes "false")
+
+-- the numbers and switches of the uses
+abbrev pub given_of : List Use → Given
+given_of us = record {
+  res = number_of (codes "res") us;
+  width = number_of (codes "width") us;
+  height = number_of (codes "height") us;
+  left = number_of (codes "left") us;
+  top = number_of (codes "top") us;
+  workers = number_of (codes "workers") us;
+  cache = number_of (codes "cache") us;
+  sample = number_of (codes "sample") us;
+  trace = is_used (codes "trace") us;
+  summary = is_used (codes "summary") us;
+}
+
+-- each number lies in its range, and there are as many workers as are asked for
+abbrev pub is_allowed : ℕ → Given → Bool
+is_allowed workers g = is_within 1 4800 g.res && (is_within 1 20000 g.width
+    && (is_within 1 20000 g.height && (is_within 0 20000 g.left && (is_within 0 20000 g.top
+    && (is_within 1 32 g.workers && (is_within 1 256 g.cache && (is_within 1 1000 g.sample
+    && true)))))))
+    && nat_le (unwrap_or g.workers 1) workers
+
+abbrev pub settings_with : Given → Settings
+settings_with g = let res = unwrap_or g.res 300 in record {
+  res = res;
+  sheet = record {
+    width = unwrap_or g.width (min 20000 (17 * res / 2));
+    height = unwrap_or g.height (min 20000 (11 * res));
+    left = unwrap_or g.left res;
+    top = unwrap_or g.top res;
+  };
+  workers = unwrap_or g.workers 1;
+  cache = unwrap_or g.cache 16;
+  sample = g.sample;
+  trace = g.trace;
+  summary = g.summary;
+}

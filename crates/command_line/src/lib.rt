@@ -1,0 +1,17 @@
+//! The arguments of the command line, and the settings that they give.
+//!
+//! `line` reads them with `clap`. Its contract is by a definition of a line that knows nothing of
+//! `clap` (`specs/Line.antt`): where `clap` would take more, tests before and after it refuse.
+#![tactic(auto)]
+
+mod command;
+pub mod laws;
+mod matches;
+mod parse;
+mod settings;
+mod shape;
+#[cfg(test)]
+mod tests;
+
+pub use parse::{LineStop, line};
+pub use settings::{Settings, default_settings, default_sheet};

@@ -1,0 +1,101 @@
+//! Reads the matches.
+ghost use Rattle.std.specs.Prelude.{◌≡◌, List, Some, None, true, option_map, if◌then◌else◌};
+ghost use Rattle.std.specs.Str.Parse.{digits_value};
+ghost use Rattle.clap.specs.Words.{first_value, found_of, one_text};
+ghost use Rattle.command_line.specs.Line.{Text, Use, is_value, is_within};
+ghost use Rattle.command_line.specs.Reads.{Reads, given_of, is_allowed as are_allowed};
+ghost use Rattle.command_line.specs.Reads.{settings_with};
+
+use crate::{Settings, default_settings};
+use clap::ArgMatches;
+use page_draw::Sheet;
+
+/// The numbers and switches of a line.
+#[derive(Clone, Copy, Debug)]
+pub struct Given {
+    pub res: Option<u32>,
+    pub width: Option<u32>,
+    pub height: Option<u32>,
+    pub left: Option<u32>,
+    pub top: Option<u32>,
+    pub workers: Option<u32>,
+    pub cache: Option<u32>,
+    pub sample: Option<u32>,
+    pub trace: bool,
+    pub summary: bool,
+}
+
+fn number(matches: &ArgMatches<'_>, name: &str) -> Option<u32>
+    requires { (v : Text) → first_value (found_of matches.now) name.now ≡ Some v
+        → is_value v ≡ true }
+    ensures { result ≡ option_map (digits_value 10) (first_value (found_of matches.now) name.now) }
+{
+    match matches.get_str(name) {
+        Some(text) => text.parse().ok(),
+        None => None,
+    }
+}
+
+/// What the matches give at each name.
+pub fn given_in(matches: &ArgMatches<'_>) -> Given
+    requires { (us : List Use) × Reads us (found_of matches.now) }
+    ensures { (us : List Use) → Reads us (found_of matches.now) → result ≡ given_of us }
+{
+    Given {
+        res: number(matches, "res"),
+        width: number(matches, "width"),
+        height: number(matches, "height"),
+        left: number(matches, "left"),
+        top: number(matches, "top"),
+        workers: number(matches, "workers"),
+        cache: number(matches, "cache"),
+        sample: number(matches, "sample"),
+        trace: matches.get_flag("trace"),
+        summary: matches.get_flag("summary"),
+    }
+}
+
+fn within(number: Option<u32>, least: u32, most: u32) -> bool
+    ensures { result ≡ is_within least most number }
+{
+    match number {
+        Some(number) => least <= number && number <= most,
+        None => true,
+    }
+}
+
+/// The settings of a line, where each number lies in its range and there are so many workers.
+#[tactic(auto, unfolding(crate::specs::Settings::default_settings))]
+pub fn settings(given: &Given, workers: usize) -> Option<Settings>
+    ensures { result ≡ (if are_allowed workers given.now then Some (settings_with given.now)
+        else None) }
+{
+    let allowed = within(given.res, 1, 4800)
+        & within(given.width, 1, 20000)
+        & within(given.height, 1, 20000)
+        & within(given.left, 0, 20000)
+        & within(given.top, 0, 20000)
+        & within(given.workers, 1, 32)
+        & within(given.cache, 1, 256)
+        & within(given.sample, 1, 1000)
+        & (given.workers.unwrap_or(1) as usize <= workers);
+    if !allowed {
+        return None;
+    }
+    let defaults = default_settings();
+    let res = given.res.unwrap_or(defaults.res);
+    Some(Settings {
+        res,
+        sheet: Sheet {
+            width: given.width.unwrap_or((17 * res / 2).min(20000)),
+            height: given.height.unwrap_or((11 * res).min(20000)),
+            left: given.left.unwrap_or(res),
+            top: given.top.unwrap_or(res),
+        },
+        workers: given.workers.unwrap_or(defaults.workers),
+        cache: given.cache.unwrap_or(defaults.cache),
+        sample: given.sample,
+        trace: given.trace,
+        summary: given.summary,
+    })
+}

@@ -1,0 +1,60 @@
+//! What a run is told besides its input and its fonts.
+ghost use Rattle.std.specs.Prelude.{◌≡◌};
+ghost use Rattle.page_draw.specs.Sheets.{IsDrawable};
+ghost use Rattle.command_line.specs.Settings.{AreSettings};
+ghost use Rattle.command_line.specs.Settings.{default_settings as the_default_settings};
+ghost use Rattle.command_line.specs.Settings.{default_sheet as the_default_sheet};
+
+use page_draw::Sheet;
+
+/// What a run is told besides its input and its fonts.
+#[derive(Clone, Copy, Debug, PartialEq, Eq)]
+pub struct Settings {
+    /// Dots for an inch: 1 to 4800.
+    pub res: u32,
+    /// The sheet that each page is drawn on, in dots: sides of 1 to 20,000, margins of 0 to 20,000.
+    pub sheet: Sheet,
+    /// How many pages are drawn at a time: 1 to 32, and at most as many as there are workers.
+    pub workers: u32,
+    /// How many fonts are kept: 1 to 256.
+    pub cache: u32,
+    /// How many pages of the sample are drawn in place of the input's: 1 to 1000. `None` draws the
+    /// input's.
+    pub sample: Option<u32>,
+    /// Whether the notes tell each call of the cache.
+    pub trace: bool,
+    /// Whether the notes tell the counts of the run.
+    pub summary: bool,
+}
+
+/// 8.5 by 11 inches at 300 dots to the inch, with margins of one inch.
+#[tactic(auto, unfolding(crate::specs::Settings::default_sheet))]
+pub fn default_sheet() -> Sheet
+    ensures value { result ≡ the_default_sheet }
+    ensures drawable { IsDrawable result }
+{
+    Sheet {
+        width: 2550,
+        height: 3300,
+        left: 300,
+        top: 300,
+    }
+}
+
+/// The settings of a run without arguments: 300 dots to the inch, the sheet of `default_sheet`, one
+/// worker, 16 fonts kept, the input's pages, and no notes but the line of a run that is refused.
+#[tactic(auto, unfolding(crate::specs::Settings::default_settings))]
+pub fn default_settings() -> Settings
+    ensures value { result ≡ the_default_settings }
+    ensures allowed { AreSettings result }
+{
+    Settings {
+        res: 300,
+        sheet: default_sheet(),
+        workers: 1,
+        cache: 16,
+        sample: None,
+        trace: false,
+        summary: false,
+    }
+}
