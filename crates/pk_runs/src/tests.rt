@@ -5,13 +5,15 @@ mod spellings;
 use crate::{Raster, RunFault, RunStop, raster};
 use std::test::Fail;
 
-// The pixels of a row as a number, the last one in the lowest bit.
+// The pixels of a row as a number, the last one in the lowest bit; all bits where there is no such
+// row, or more pixels than bits.
 fn row_of(raster: &Raster, y: u32) -> u64 {
+    if y >= raster.height() || raster.width() > 63 {
+        return u64::MAX;
+    }
     let mut bits = 0u64;
-    if y < raster.height() {
-        for x in 0..raster.width() {
-            bits = (bits << 1) | u64::from(raster.black(x, y));
-        }
+    for x in 0..raster.width() {
+        bits = (bits << 1) | u64::from(raster.black(x, y));
     }
     bits
 }

@@ -19,3 +19,6 @@ mod step;
 pub use expander::Expander;
 pub use faults::PageFault;
 pub use step::Step;
+
+#[cfg(test)]
+mod tests;

@@ -2,12 +2,14 @@
 use super::*;
 use pk_runs::RunFault;
 
-// The fault of a file of these items, if it has one.
-fn fault(alloc: Global, items: &[u8]) -> Option<PkFault> {
-    match font(alloc, items) {
-        Err(PkStop::Fault(fault)) => Some(fault),
-        _ => None,
-    }
+// Why a file of these items isn't read, if it isn't.
+fn stop(alloc: Global, items: &[u8]) -> Option<PkStop> {
+    font(alloc, items).err()
+}
+
+// Stopped by this fault.
+fn by(fault: PkFault) -> Option<PkStop> {
+    Some(PkStop::Fault(fault))
 }
 
 fn is_short(alloc: Global, bytes: &[u8]) -> bool {
@@ -53,31 +55,31 @@ fn preambles(rt: HostRuntime) {
 
 #[test]
 fn undefined_opcodes(rt: HostRuntime) {
-    assert_eq!(rt; fault(rt.alloc(), &[0xf7]), Some(PkFault::Undefined(247)));
+    assert_eq!(rt; stop(rt.alloc(), &[0xf7]), by(PkFault::Undefined(247)));
     assert_eq!(rt;
-        fault(rt.alloc(), &[0xf6, 0xff]),
-        Some(PkFault::Undefined(255))
+        stop(rt.alloc(), &[0xf6, 0xff]),
+        by(PkFault::Undefined(255))
     );
-    assert_eq!(rt; fault(rt.alloc(), &[]), None);
+    assert_eq!(rt; stop(rt.alloc(), &[]), None);
 }
 
 #[test]
 fn lengths_at_the_edge(rt: HostRuntime) {
     let mut short = [0xe0, 8, 65, 0, 0, 0, 0, 0, 0, 0, 0];
-    assert_eq!(rt; fault(rt.alloc(), &short), None);
+    assert_eq!(rt; stop(rt.alloc(), &short), None);
     short[1] = 7;
-    assert_eq!(rt; fault(rt.alloc(), &short), Some(PkFault::Length(65)));
+    assert_eq!(rt; stop(rt.alloc(), &short), by(PkFault::Length(65)));
     let mut extended = [0xe4, 0, 13, 66, 0, 0, 0, 0, 0, 0, 0, 0, 0, 0, 0, 0, 0];
-    assert_eq!(rt; fault(rt.alloc(), &extended), None);
+    assert_eq!(rt; stop(rt.alloc(), &extended), None);
     extended[2] = 12;
-    assert_eq!(rt; fault(rt.alloc(), &extended), Some(PkFault::Length(66)));
+    assert_eq!(rt; stop(rt.alloc(), &extended), by(PkFault::Length(66)));
     let mut long = [0; 37];
     long[0] = 0xe7;
     long[4] = 28;
     long[7] = 1;
-    assert_eq!(rt; fault(rt.alloc(), &long), None);
+    assert_eq!(rt; stop(rt.alloc(), &long), None);
     long[4] = 27;
-    assert_eq!(rt; fault(rt.alloc(), &long), Some(PkFault::Length(256)));
+    assert_eq!(rt; stop(rt.alloc(), &long), by(PkFault::Length(256)));
 }
 
 // A packet in the extended form without a raster's bytes, with a length and sides of two bytes.
@@ -87,14 +89,14 @@ const SIDES: [u8; 17] = [0xe4, 0, 13, 66, 0, 0, 0, 0, 0, 0, 0, 0, 0, 0, 0, 0, 0]
 fn sides_at_the_edge(rt: HostRuntime) {
     let mut wide = SIDES;
     wide[9] = 0x40;
-    assert_eq!(rt; fault(rt.alloc(), &wide), None);
+    assert_eq!(rt; stop(rt.alloc(), &wide), None);
     wide[10] = 1;
-    assert_eq!(rt; fault(rt.alloc(), &wide), Some(PkFault::TooBig(66)));
+    assert_eq!(rt; stop(rt.alloc(), &wide), by(PkFault::TooBig(66)));
     let mut high = SIDES;
     high[11] = 0x40;
-    assert_eq!(rt; fault(rt.alloc(), &high), None);
+    assert_eq!(rt; stop(rt.alloc(), &high), None);
     high[12] = 1;
-    assert_eq!(rt; fault(rt.alloc(), &high), Some(PkFault::TooBig(66)));
+    assert_eq!(rt; stop(rt.alloc(), &high), by(PkFault::TooBig(66)));
 }
 
 // 16,384 by 4,096 black dots in one run, and one dot.
@@ -108,9 +110,9 @@ const ONE: [u8; 12] = [0xe0, 9, 65, 0, 0, 0, 0, 1, 1, 0, 0, 0x80];
 #[test]
 fn sums_at_the_edge(rt: HostRuntime) -> Result<(), Fail> {
     let mut items = Vec::from_slice(rt.alloc(), &MOST)?;
-    assert_eq!(rt; fault(rt.alloc(), &items), None);
+    assert_eq!(rt; stop(rt.alloc(), &items), None);
     items.extend_from_slice(&ONE)?;
-    assert_eq!(rt; fault(rt.alloc(), &items), Some(PkFault::FontTooBig));
+    assert_eq!(rt; stop(rt.alloc(), &items), by(PkFault::FontTooBig));
     Ok(())
 }
 
@@ -121,20 +123,20 @@ fn the_first_fault(rt: HostRuntime) {
     let mut packet = SIDES;
     packet[2] = 12;
     packet[9] = 0x41;
-    assert_eq!(rt; fault(rt.alloc(), &packet[..6]), Some(PkFault::Short));
+    assert_eq!(rt; stop(rt.alloc(), &packet[..6]), by(PkFault::Short));
     // a side that is too long in a packet that is too short
-    assert_eq!(rt; fault(rt.alloc(), &packet), Some(PkFault::Length(66)));
+    assert_eq!(rt; stop(rt.alloc(), &packet), by(PkFault::Length(66)));
     // a side that is too long in a raster that is too big
     packet[2] = 13;
     packet[11] = 0x40;
-    assert_eq!(rt; fault(rt.alloc(), &packet), Some(PkFault::TooBig(66)));
+    assert_eq!(rt; stop(rt.alloc(), &packet), by(PkFault::TooBig(66)));
     // a raster that is too big without bytes
     packet[9] = 0x40;
-    assert_eq!(rt; fault(rt.alloc(), &packet), Some(PkFault::FontTooBig));
+    assert_eq!(rt; stop(rt.alloc(), &packet), by(PkFault::FontTooBig));
     // a raster without bytes before an undefined opcode
     let runs = [0xe0, 8, 67, 0, 0, 0, 0, 1, 1, 0, 0, 0xff];
     assert_eq!(rt;
-        fault(rt.alloc(), &runs),
-        Some(PkFault::Runs(67, RunFault::Short))
+        stop(rt.alloc(), &runs),
+        by(PkFault::Runs(67, RunFault::Short))
     );
 }

@@ -1,0 +1,6 @@
+//! Pages whose steps were worked out by hand.
+
+mod files;
+mod packets;
+mod shown;
+mod stops;
