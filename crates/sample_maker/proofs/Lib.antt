@@ -1,0 +1,15 @@
+pub mod Blocks
+pub mod Pairs
+pub mod Counts
+pub mod TfmRead
+pub mod Spelled
+pub mod PageTexts
+pub mod Appended
+pub mod DviTexts
+pub mod DviPages
+pub mod DviRead
+pub mod DviMade
+pub mod DviSize
+pub mod VfItems
+pub mod Loops
+pub mod VfRead

@@ -1,0 +1,3 @@
+pub mod TfmFile
+pub mod DviFile
+pub mod VfFile

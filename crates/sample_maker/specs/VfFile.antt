@@ -1,0 +1,86 @@
+-- The VF file of given local fonts and packets: Knuth, VFtoVP, "Virtual fonts".
+use Rattle.std.specs.Prelude.{◌≡◌, ℕ, ◌+◌, ◌-◌, ◌%◌, ◌^◌, ◌<◌, ◌≤◌, ℤ, pos, Bool, true, not, ◌&&◌, ◌==◌, List, [], ◌∷◌, ◌++◌, length, nat_le, replicate, if◌then◌else◌, Option, Some, None}
+use Rattle.std.specs.List.{flat_map, list_any}
+use Rattle.big_endian.specs.Numbers.{IsUnsigned, int_eq, number_bytes}
+use Rattle.dvi_commands.specs.Spelling.{Definition, Define, Spells}
+use Rattle.dvi_commands.specs.ShortestSpelling.{shortest_spelling}
+use Rattle.vf_reader.specs.Fonts.{program_with}
+use Rattle.vf_reader.specs.Locals.{locals_of}
+use Rattle.vf_reader.specs.declared.locals.LocalDef.{LocalDef}
+
+-- ---- what is given
+
+-- a code, a width and commands
+abbrev pub Packet : Type 0
+Packet = ℕ × ℤ × List ℕ
+
+pub record IsLocalWritable (d : LocalDef) : Type 0 where
+  pub factor : d.factor < 2 ^ 31
+  pub points : d.points < 2 ^ 31
+  pub area : d.area ≤ length d.name
+  pub rest : length d.name - d.area ≤ 255
+
+pub record IsPacketWritable (p : Packet) : Type 0 where
+  pub code : p.0 < 256
+  pub width : IsUnsigned 3 p.1
+  pub commands : length p.2 < 2 ^ 32
+
+-- no two local fonts have one number, and no two packets one code
+abbrev pub have_own_numbers : List LocalDef → Bool
+have_own_numbers [] = true
+have_own_numbers (d ∷ locals) = not (list_any (λ e. int_eq d.number e.number) locals) && have_own_numbers locals
+
+abbrev pub have_own_codes : List Packet → Bool
+have_own_codes [] = true
+have_own_codes (p ∷ packets) = not (list_any (λ q. q.0 == p.0) packets) && have_own_codes packets
+
+-- the commands of a code, where a packet has it
+abbrev pub program_given : List Packet → ℕ → Option (List ℕ)
+program_given [] c = None
+program_given (p ∷ packets) c = if p.0 == c then Some p.2 else program_given packets c
+
+-- ---- the items
+
+-- with the checksum 0
+abbrev pub local_definition : LocalDef → Definition
+local_definition d = record { number = d.number; check = 0; size = pos d.factor; design = pos d.points; area = d.area; name = d.name }
+
+abbrev pub local_item : LocalDef → List ℕ
+local_item d = shortest_spelling (Define (local_definition d))
+
+-- a local font's definition has a spelling
+pub record IsLocalSpelled (d : LocalDef) : Type 0 where
+  pub spelled : Spells (Define (local_definition d)) (local_item d)
+
+abbrev pub short_packet : Packet → List ℕ
+short_packet p = length p.2 ∷ p.0 ∷ number_bytes 3 p.1 ++ p.2
+
+abbrev pub long_packet : Packet → List ℕ
+long_packet p = 242 ∷ number_bytes 4 (pos (length p.2)) ++ number_bytes 4 (pos p.0) ++ number_bytes 4 p.1 ++ p.2
+
+-- the short form up to 241 bytes of commands
+unfoldable pub packet_item : Packet → List ℕ
+packet_item p = if nat_le (length p.2) 241 then short_packet p else long_packet p
+
+-- ---- the file
+
+-- no comment, the checksum 0, and a design size of ten points
+abbrev pub vf_preamble : List ℕ
+vf_preamble = 0xf7 ∷ 0xca ∷ 0 ∷ 0 ∷ 0 ∷ 0 ∷ 0 ∷ 0 ∷ 0xa0 ∷ 0 ∷ 0 ∷ []
+
+-- so many closing commands behind these bytes make a multiple of four
+abbrev pub closing_behind : ℕ → ℕ
+closing_behind n = 1 + (4 - (n + 1) % 4) % 4
+
+unfoldable pub vf_items : List LocalDef → List Packet → List ℕ
+vf_items locals packets = vf_preamble ++ flat_map local_item locals ++ flat_map packet_item packets
+
+unfoldable pub vf_file : List LocalDef → List Packet → List ℕ
+vf_file locals packets = vf_items locals packets ++ replicate (closing_behind (length (vf_items locals packets))) 248
+
+-- ---- read again
+
+-- the items of a VF file give the local fonts, in their order, and the commands of each packet
+pub record GivesFont (locals : List LocalDef) (packets : List Packet) (items : List (List ℕ)) : Type 0 where
+  pub local : locals_of items ≡ locals
+  pub program : (c : ℕ) → program_with items c ≡ program_given packets c

@@ -1,0 +1,4 @@
+//! Files with the bytes that they are to have, and read again.
+mod documents;
+mod fonts;
+mod virtual_fonts;
