@@ -9,8 +9,8 @@ use Rattle.vf_expand.specs.Faults as fault
 use Rattle.page_draw.specs.Values.{PageValue}
 use Rattle.dvi_run.specs.Reading.{IsAllRead, OfRead}
 use Rattle.dvi_run.specs.Pages.{FailingPage, Given, IsRun, run_fault}
-use Rattle.dvi_run.specs.Endings.{EndingSeen, Written, Usage, Document, Page, Source, Input, Output, Memory, EndsPages, IsAmong, IsEnding, IsPlaced, OfRun, Stopped, Wrote, WroteBefore, WroteFront, WroteSome, page_status, status_of, statuses}
-use Rattle.dvi_run.specs.Promises.{GoodRunIsWhole}
+use Rattle.dvi_run.specs.Endings.{EndingSeen, Written, Usage, Document, Page, Source, Input, Output, Notes, Memory, EndsPages, IsAmong, IsEnding, IsPlaced, OfRun, Stopped, Wrote, WroteBefore, WroteAll, WroteFront, WroteSome, page_status, status_of, statuses}
+use Rattle.dvi_run.specs.Promises.{GoodRunIsWhole, GoodRunIsWritten}
 use Rattle.dvi_run.specs.Laws.{OneReading, OneRun, RunsHaveNoFault}
 use Rattle.dvi_run.proofs.OneRun.{all_good, ends_once}
 
@@ -18,15 +18,15 @@ pub of_each : (P Q : List ℕ → Type 0) (old : Option (List ℕ)) → ((bytes 
 of_each P Q None f p = tt
 of_each P Q (Some bytes) f p = f _ p
 
-of_all : (Q : List ℕ → Type 0) (old : Option (List ℕ)) → ((bytes : List ℕ) → Q bytes) → OfRead old Q
+pub of_all : (Q : List ℕ → Type 0) (old : Option (List ℕ)) → ((bytes : List ℕ) → Q bytes) → OfRead old Q
 of_all Q None f = tt
 of_all Q (Some bytes) f = f _
 
 -- a page's status is 3 or 4
-abbrev AtPage : ℕ → Type 0
+abbrev pub AtPage : ℕ → Type 0
 AtPage n = (n ≡ 3) ⊎ (n ≡ 4)
 
-at_page : (f : PageFaultSeen) → AtPage (page_status f)
+pub at_page : (f : PageFaultSeen) → AtPage (page_status f)
 at_page (fault.NoFont n) = inl refl
 at_page fault.NoCurrentFont = inl refl
 at_page (fault.NoCharacter k c) = inl refl
@@ -67,17 +67,19 @@ ends_late old new P Q reading values (Page page) h = page_is_late (page_status p
 ends_late old new P Q reading values (Source page) h = is_no_early 5 (λ is. cc) (λ is. cc) (λ is. cc)
 ends_late old new P Q reading values Input h = absurd h
 ends_late old new P Q reading values (Output page) h = is_no_early 7 (λ is. cc) (λ is. cc) (λ is. cc)
+ends_late old new P Q reading values Notes h = is_no_early 8 (λ is. cc) (λ is. cc) (λ is. cc)
 ends_late old new P Q reading values Memory h = is_no_early 9 (λ is. cc) (λ is. cc) (λ is. cc)
 
--- a number is none of six
-is_none : (n : ℕ) → (n ≡ 0 → ⊥) → (n ≡ 2 → ⊥) → (n ≡ 3 → ⊥) → (n ≡ 4 → ⊥) → (n ≡ 5 → ⊥) → (n ≡ 7 → ⊥) → IsAmong n (0 ∷ 2 ∷ 3 ∷ 4 ∷ 5 ∷ 7 ∷ []) → ⊥
-is_none n a b c d e f (inl is) = a is
-is_none n a b c d e f (inr (inl is)) = b is
-is_none n a b c d e f (inr (inr (inl is))) = c is
-is_none n a b c d e f (inr (inr (inr (inl is)))) = d is
-is_none n a b c d e f (inr (inr (inr (inr (inl is))))) = e is
-is_none n a b c d e f (inr (inr (inr (inr (inr (inl is)))))) = f is
-is_none n a b c d e f (inr (inr (inr (inr (inr (inr none)))))) = none
+-- a number is none of seven
+is_none : (n : ℕ) → (n ≡ 0 → ⊥) → (n ≡ 2 → ⊥) → (n ≡ 3 → ⊥) → (n ≡ 4 → ⊥) → (n ≡ 5 → ⊥) → (n ≡ 7 → ⊥) → (n ≡ 8 → ⊥) → IsAmong n (0 ∷ 2 ∷ 3 ∷ 4 ∷ 5 ∷ 7 ∷ 8 ∷ []) → ⊥
+is_none n a b c d e f h (inl is) = a is
+is_none n a b c d e f h (inr (inl is)) = b is
+is_none n a b c d e f h (inr (inr (inl is))) = c is
+is_none n a b c d e f h (inr (inr (inr (inl is)))) = d is
+is_none n a b c d e f h (inr (inr (inr (inr (inl is))))) = e is
+is_none n a b c d e f h (inr (inr (inr (inr (inr (inl is)))))) = f is
+is_none n a b c d e f h (inr (inr (inr (inr (inr (inr (inl is))))))) = h is
+is_none n a b c d e f h (inr (inr (inr (inr (inr (inr (inr none))))))) = none
 
 -- ---- what is owed for each, where the input tells its bytes
 
@@ -93,7 +95,8 @@ module _ (old new : Option (List ℕ)) (OutputFailed SourceFailed OutputKept Inp
   has_status (Source page) h = inr (inr (inr (inr (inl refl))))
   has_status Input h = inr (inr (inr (inr (inr (inl refl)))))
   has_status (Output page) h = inr (inr (inr (inr (inr (inr (inl refl))))))
-  has_status Memory h = inr (inr (inr (inr (inr (inr (inr (inl refl)))))))
+  has_status Notes h = inr (inr (inr (inr (inr (inr (inr (inl refl)))))))
+  has_status Memory h = inr (inr (inr (inr (inr (inr (inr (inr (inl refl))))))))
 
   -- a page's status is no other
   no_other : {A : Type 0} (page : FailingPage) (n : ℕ) → page_status page.fault ≡ n → (n ≡ 3 → ⊥) → (n ≡ 4 → ⊥) → A
@@ -123,6 +126,9 @@ module _ (old new : Option (List ℕ)) (OutputFailed SourceFailed OutputKept Inp
     refused_by Written h =
         let P : Reading → List PageValue → Type 0 = Wrote old new in
         of_each (λ bytes. OfRun g bytes P) (IsRefused Written) left (λ bytes run f first. absurd (not_both bytes P f run first)) h.1
+    refused_by Notes h =
+        let P : Reading → List PageValue → Type 0 = Wrote old new in
+        of_each (λ bytes. OfRun g bytes P) (IsRefused Notes) left (λ bytes run f first. absurd (not_both bytes P f run first)) h.1
     refused_by Memory h = of_all (IsRefused Memory) left (λ bytes f first. inr (inr (inl refl)))
 
     module _ (files : Files) (told : g.library ≡ Some files) where
@@ -149,26 +155,44 @@ module _ (old new : Option (List ℕ)) (OutputFailed SourceFailed OutputKept Inp
           let none : run_fault values ≡ None =
           all_good reading one_run g files told bytes run.0 r run.1 values (record { run = run.2; all = run.3.all }) run.3.good other in
           let bad : Some page ≡ None = sym is ∙ none in absurd cc) h.1
+      stopped_by Notes h =
+          of_each (λ bytes. OfRun g bytes (Wrote old new)) (IsStopped Notes) left
+          (λ bytes run r values page other is.
+          let none : run_fault values ≡ None =
+          all_good reading one_run g files told bytes run.0 r run.1 values (record { run = run.2; all = run.3.all }) run.3.good other in
+          let bad : Some page ≡ None = sym is ∙ none in absurd cc) h.1
       stopped_by Memory h = of_all (IsStopped Memory) left (λ bytes r values page run is. inr (inr (inr (inr (inl refl)))))
 
-      abbrev IsComplete : EndingSeen → List ℕ → Type 0
-      IsComplete e = GoodRunIsWhole g (status_of e)
+      abbrev IsWritten : EndingSeen → List ℕ → Type 0
+      IsWritten e = GoodRunIsWritten g (status_of e)
 
-      pub complete_by : (InputFailed → ⊥) → (SourceFailed → ⊥) → (OutputFailed → ⊥) → (e : EndingSeen) → Ends e → OfRead left (IsComplete e)
-      complete_by i s o Usage h = absurd h
-      complete_by i s o (Document fault) h =
-          of_each (λ bytes. IsFirstFault g.res bytes fault) (IsComplete (Document fault)) left
+      pub whole_by : (InputFailed → ⊥) → (SourceFailed → ⊥) → (OutputFailed → ⊥) → (e : EndingSeen) → Ends e → OfRead left (IsWritten e)
+      whole_by i s o Usage h = absurd h
+      whole_by i s o (Document fault) h =
+          of_each (λ bytes. IsFirstFault g.res bytes fault) (IsWritten (Document fault)) left
           (λ bytes first r values whole is. absurd (no_fault g bytes r values fault whole.run first)) h.1
-      complete_by i s o (Page own) h =
-          of_each (λ bytes. OfRun g bytes (λ _. Stopped old new own)) (IsComplete (Page own)) left
+      whole_by i s o (Page own) h =
+          of_each (λ bytes. OfRun g bytes (λ _. Stopped old new own)) (IsWritten (Page own)) left
           (λ bytes run r values whole is.
           let none : run_fault run.1 ≡ None = all_good reading one_run g files told bytes r run.0 values run.1 whole is run.2 in
           let bad : Some own ≡ None = sym run.3.fails ∙ none in absurd cc) h.1
-      complete_by i s o (Source n) h = of_all (IsComplete (Source n)) left (λ bytes r values whole is. absurd (s h.2))
-      complete_by i s o Input h = of_all (IsComplete Input) left (λ bytes r values whole is. absurd (i h.0))
-      complete_by i s o (Output n) h = of_all (IsComplete (Output n)) left (λ bytes r values whole is. absurd (o h.2))
-      complete_by i s o Written h = of_all (IsComplete Written) left (λ bytes r values whole is. inl refl)
-      complete_by i s o Memory h = of_all (IsComplete Memory) left (λ bytes r values whole is. inr (inl refl))
+      whole_by i s o (Source n) h = of_all (IsWritten (Source n)) left (λ bytes r values whole is. absurd (s h.2))
+      whole_by i s o Input h = of_all (IsWritten Input) left (λ bytes r values whole is. absurd (i h.0))
+      whole_by i s o (Output n) h = of_all (IsWritten (Output n)) left (λ bytes r values whole is. absurd (o h.2))
+      whole_by i s o Written h = of_all (IsWritten Written) left (λ bytes r values whole is. inl refl)
+      whole_by i s o Notes h = of_all (IsWritten Notes) left (λ bytes r values whole is. inr (inl refl))
+      whole_by i s o Memory h = of_all (IsWritten Memory) left (λ bytes r values whole is. inr (inr (inl refl)))
+
+      not_eight : (status : ℕ) → (status ≡ 8 → ⊥) → IsAmong status (0 ∷ 8 ∷ 9 ∷ []) → IsAmong status (0 ∷ 9 ∷ [])
+      not_eight status not (inl is) = inl is
+      not_eight status not (inr (inl is)) = absurd (not is)
+      not_eight status not (inr (inr (inl is))) = inr (inl is)
+      not_eight status not (inr (inr (inr none))) = absurd none
+
+      pub complete_by : (InputFailed → ⊥) → (SourceFailed → ⊥) → (OutputFailed → ⊥) → (e : EndingSeen) → (status_of e ≡ 8 → ⊥) → Ends e → OfRead left (GoodRunIsWhole g (status_of e))
+      complete_by i s o e n h =
+          of_each (IsWritten e) (GoodRunIsWhole g (status_of e)) left
+          (λ bytes written r values whole is. not_eight (status_of e) n (written r values whole is)) (whole_by i s o e h)
 
   -- ---- what a status has
 
@@ -183,6 +207,7 @@ module _ (old new : Option (List ℕ)) (OutputFailed SourceFailed OutputKept Inp
   document_by (Source page) is h = cc
   document_by Input is h = cc
   document_by (Output page) is h = cc
+  document_by Notes is h = cc
   document_by Memory is h = cc
 
   abbrev HasPage : ℕ → List ℕ → Type 0
@@ -202,6 +227,7 @@ module _ (old new : Option (List ℕ)) (OutputFailed SourceFailed OutputKept Inp
   page_by (Source page) is h = not_page 5 (λ three. cc) (λ four. cc) is
   page_by Input is h = not_page 6 (λ three. cc) (λ four. cc) is
   page_by (Output page) is h = not_page 7 (λ three. cc) (λ four. cc) is
+  page_by Notes is h = not_page 8 (λ three. cc) (λ four. cc) is
   page_by Memory is h = not_page 9 (λ three. cc) (λ four. cc) is
 
   abbrev HasBefore : List ℕ → Type 0
@@ -215,6 +241,7 @@ module _ (old new : Option (List ℕ)) (OutputFailed SourceFailed OutputKept Inp
   source_by (Source page) is h = (of_each (λ bytes. OfRun g bytes (WroteBefore old new page)) HasBefore left (λ bytes run. (page, run)) h.1, h.2)
   source_by Input is h = cc
   source_by (Output page) is h = cc
+  source_by Notes is h = cc
   source_by Memory is h = cc
 
   pub input_by : (e : EndingSeen) → status_of e ≡ 6 → Ends e → InputFailed × OutputKept
@@ -225,6 +252,7 @@ module _ (old new : Option (List ℕ)) (OutputFailed SourceFailed OutputKept Inp
   input_by (Source page) is h = cc
   input_by Input is h = h
   input_by (Output page) is h = cc
+  input_by Notes is h = cc
   input_by Memory is h = cc
 
   abbrev HasFront : List ℕ → Type 0
@@ -238,17 +266,23 @@ module _ (old new : Option (List ℕ)) (OutputFailed SourceFailed OutputKept Inp
   output_by (Source page) is h = cc
   output_by Input is h = cc
   output_by (Output page) is h = (of_each (λ bytes. OfRun g bytes (λ _. WroteFront old new page)) HasFront left (λ bytes run. (page, run)) h.1, h.2)
+  output_by Notes is h = cc
   output_by Memory is h = cc
 
-  pub written_by : (e : EndingSeen) → status_of e ≡ 0 → Ends e → OfRead left (λ bytes. OfRun g bytes (Wrote old new))
+  not_all : {A : Type 0} (n : ℕ) → (n ≡ 0 → ⊥) → (n ≡ 8 → ⊥) → WroteAll n → A
+  not_all n not_zero not_eight (inl is) = absurd (not_zero is)
+  not_all n not_zero not_eight (inr is) = absurd (not_eight is)
+
+  pub written_by : (e : EndingSeen) → WroteAll (status_of e) → Ends e → OfRead left (λ bytes. OfRun g bytes (Wrote old new))
   written_by Written is h = h.1
-  written_by Usage is h = cc
-  written_by (Document fault) is h = cc
-  written_by (Page page) is h = no_other page 0 is (λ three. cc) (λ four. cc)
-  written_by (Source page) is h = cc
-  written_by Input is h = cc
-  written_by (Output page) is h = cc
-  written_by Memory is h = cc
+  written_by Usage is h = not_all 1 (λ zero. cc) (λ eight. cc) is
+  written_by (Document fault) is h = not_all 2 (λ zero. cc) (λ eight. cc) is
+  written_by (Page page) is h = elim is [ inl zero ↦ no_other page 0 zero (λ three. cc) (λ four. cc) | inr eight ↦ no_other page 8 eight (λ three. cc) (λ four. cc) ]
+  written_by (Source page) is h = not_all 5 (λ zero. cc) (λ eight. cc) is
+  written_by Input is h = not_all 6 (λ zero. cc) (λ eight. cc) is
+  written_by (Output page) is h = not_all 7 (λ zero. cc) (λ eight. cc) is
+  written_by Notes is h = h.1
+  written_by Memory is h = not_all 9 (λ zero. cc) (λ eight. cc) is
 
   pub memory_by : (e : EndingSeen) → status_of e ≡ 9 → Ends e → (OutputKept ⊎ OfRead left (λ bytes. OfRun g bytes (λ _. WroteSome old new)))
   memory_by Written is h = cc
@@ -258,18 +292,20 @@ module _ (old new : Option (List ℕ)) (OutputFailed SourceFailed OutputKept Inp
   memory_by (Source page) is h = cc
   memory_by Input is h = cc
   memory_by (Output page) is h = cc
+  memory_by Notes is h = cc
   memory_by Memory is h = h
 
   -- the input was read, but where it failed or memory was wanting
-  pub read_by : (e : EndingSeen) → IsAmong (status_of e) (0 ∷ 2 ∷ 3 ∷ 4 ∷ 5 ∷ 7 ∷ []) → Ends e → IsAllRead left rest
+  pub read_by : (e : EndingSeen) → IsAmong (status_of e) (0 ∷ 2 ∷ 3 ∷ 4 ∷ 5 ∷ 7 ∷ 8 ∷ []) → Ends e → IsAllRead left rest
   read_by Written is h = h.0
   read_by Usage is h = absurd h
   read_by (Document fault) is h = h.0
   read_by (Page page) is h = h.0
   read_by (Source page) is h = h.0
-  read_by Input is h = absurd (is_none 6 (λ e. cc) (λ e. cc) (λ e. cc) (λ e. cc) (λ e. cc) (λ e. cc) is)
+  read_by Input is h = absurd (is_none 6 (λ e. cc) (λ e. cc) (λ e. cc) (λ e. cc) (λ e. cc) (λ e. cc) (λ e. cc) is)
   read_by (Output page) is h = h.0
-  read_by Memory is h = absurd (is_none 9 (λ e. cc) (λ e. cc) (λ e. cc) (λ e. cc) (λ e. cc) (λ e. cc) is)
+  read_by Notes is h = h.0
+  read_by Memory is h = absurd (is_none 9 (λ e. cc) (λ e. cc) (λ e. cc) (λ e. cc) (λ e. cc) (λ e. cc) (λ e. cc) is)
 
   -- what the line says is so
   pub placed_by : (e : EndingSeen) → Ends e → IsPlaced g e left old new
@@ -280,4 +316,5 @@ module _ (old new : Option (List ℕ)) (OutputFailed SourceFailed OutputKept Inp
   placed_by Written h = tt
   placed_by Usage h = tt
   placed_by Input h = tt
+  placed_by Notes h = tt
   placed_by Memory h = tt

@@ -1,9 +1,9 @@
 pub mod Told
-pub mod Notes
 pub mod Puts
 pub mod Fronts
 pub mod OneRun
 pub mod Written
+pub mod Dots
 pub mod Outcomes
 pub mod Clauses
 pub mod Looks
@@ -13,3 +13,5 @@ pub mod Promised
 pub mod OneWorker
 pub mod Shares
 pub mod Together
+pub mod Reported
+pub mod Spelled

@@ -1,12 +1,11 @@
 -- Every end of a run keeps what a run promises.
-use Rattle.std.proofs.Common.{◌≡◌, inl, inr, ℕ, List, [], ◌∷◌, Option, sym, subst}
+use Rattle.std.proofs.Common.{◌≡◌, ◌∙◌, inl, inr, ℕ, List, [], ◌∷◌, Option, refl, sym, subst}
 use Rattle.dvi_run.specs.Pages.{Given}
-use Rattle.dvi_run.specs.Lines.{line_of}
-use Rattle.dvi_run.specs.Endings.{EndingSeen, IsAmong, IsEnding, Tells, status_of}
+use Rattle.dvi_run.specs.Endings.{EndingSeen, IsAmong, IsEnding, TellsBy, WroteAll, status_of, statuses}
 use Rattle.dvi_run.specs.Laws.{OneReading, OneRun, RunsHaveNoFault}
-use Rattle.dvi_run.specs.Promises.{HasFailingPage, IsCaused, IsCutShort, IsNoted, IsWritten, StoppedAt}
+use Rattle.dvi_run.specs.Promises.{FailingPageIsNamed, FaultIsNamed, GoodRunIsWhole, GoodRunIsWritten, HasFailingPage, IsCaused, IsCutShort, IsNoted, IsWritten, StoppedAt}
 use Rattle.dvi_run.proofs.Clauses as end
-use Rattle.dvi_run.proofs.Clauses.{of_each}
+use Rattle.dvi_run.proofs.Clauses.{of_all, of_each}
 
 -- ---- how it ended
 
@@ -36,10 +35,10 @@ module _ (old new : Option (List ℕ)) (OutputFailed SourceFailed OutputKept Inp
     memory = λ is. end.memory_by old new OutputFailed SourceFailed OutputKept InputFailed g left rest e is h;
   }
 
-  module _ (reading : OneReading) (one_run : OneRun) (no_fault : RunsHaveNoFault) where
-    caused_by : (e : EndingSeen) → IsEnding old new OutputFailed SourceFailed OutputKept InputFailed g left rest e
-        → IsCaused g (status_of e) left InputFailed SourceFailed OutputFailed
-    caused_by e h = record {
+  module _ (reading : OneReading) (one_run : OneRun) (no_fault : RunsHaveNoFault) (NotesFailed : Type 0) where
+    caused_by : (e : EndingSeen) → (status_of e ≡ 8 → NotesFailed) → IsEnding old new OutputFailed SourceFailed OutputKept InputFailed g left rest e
+        → IsCaused g (status_of e) left InputFailed SourceFailed OutputFailed NotesFailed
+    caused_by e failed h = record {
       answers = end.has_status old new OutputFailed SourceFailed OutputKept InputFailed g left rest e h;
       document = λ is. (end.document_by old new OutputFailed SourceFailed OutputKept InputFailed g left rest e is h).0;
       refused = end.refused_by old new OutputFailed SourceFailed OutputKept InputFailed g left rest reading one_run no_fault e h;
@@ -50,13 +49,15 @@ module _ (old new : Option (List ℕ)) (OutputFailed SourceFailed OutputKept Inp
       source = λ is. (end.source_by old new OutputFailed SourceFailed OutputKept InputFailed g left rest e is h).1;
       input = λ is. (end.input_by old new OutputFailed SourceFailed OutputKept InputFailed g left rest e is h).0;
       output = λ is. (end.output_by old new OutputFailed SourceFailed OutputKept InputFailed g left rest e is h).1;
-      complete = λ files told i s o.
-          end.complete_by old new OutputFailed SourceFailed OutputKept InputFailed g left rest reading one_run no_fault files told i s o e h;
+      notes = failed;
+      whole = λ files told i s o. end.whole_by old new OutputFailed SourceFailed OutputKept InputFailed g left rest reading one_run no_fault files told i s o e h;
+      complete = λ files told i s o n.
+          end.complete_by old new OutputFailed SourceFailed OutputKept InputFailed g left rest reading one_run no_fault files told i s o e (λ eight. n (failed eight)) h;
     }
 
-    pub caused_at : (e : EndingSeen) → IsEnding old new OutputFailed SourceFailed OutputKept InputFailed g left rest e → (status : ℕ) → status ≡ status_of e
-        → IsCaused g status left InputFailed SourceFailed OutputFailed
-    caused_at e h status is = subst (λ (n : ℕ). IsCaused g n left InputFailed SourceFailed OutputFailed) (sym is) (caused_by e h)
+    pub caused_at : (e : EndingSeen) → (status_of e ≡ 8 → NotesFailed) → IsEnding old new OutputFailed SourceFailed OutputKept InputFailed g left rest e → (status : ℕ) → status ≡ status_of e
+        → IsCaused g status left InputFailed SourceFailed OutputFailed NotesFailed
+    caused_at e failed h status is = subst (λ (n : ℕ). IsCaused g n left InputFailed SourceFailed OutputFailed NotesFailed) (sym is) (caused_by e failed h)
 
   pub written_at : (e : EndingSeen) → IsEnding old new OutputFailed SourceFailed OutputKept InputFailed g left rest e → (status : ℕ) → status ≡ status_of e
       → IsWritten g status left rest old new
@@ -67,40 +68,74 @@ module _ (old new : Option (List ℕ)) (OutputFailed SourceFailed OutputKept Inp
   cut_short_at e h status is = subst (λ (n : ℕ). IsCutShort g n left old new OutputKept) (sym is) (cut_short_by e h)
 
   pub noted_at : (e : EndingSeen) → IsEnding old new OutputFailed SourceFailed OutputKept InputFailed g left rest e
-      → (notes_old notes_new : Option (List ℕ)) (before now : ℕ) → Tells notes_old notes_new before now (line_of e)
-      → IsNoted g e left old new notes_old notes_new before now
-  noted_at e h notes_old notes_new before now tells =
+      → (notes_old notes_new : Option (List ℕ)) (before now : ℕ) (report : List ℕ) → TellsBy e notes_old notes_new before now report
+      → IsNoted g e left old new notes_old notes_new before now report
+  noted_at e h notes_old notes_new before now report tells =
       record { placed = end.placed_by old new OutputFailed SourceFailed OutputKept InputFailed g left rest e h; told = tells }
 
--- ---- a run of words that are no line
+-- ---- a run that ends with 9 before anything was read
 
-not_early : IsAmong 1 (2 ∷ 6 ∷ []) → ⊥
+not_early : IsAmong 9 (2 ∷ 6 ∷ []) → ⊥
 not_early (inl is) = cc
 not_early (inr (inl is)) = cc
 not_early (inr (inr none)) = none
 
-not_page : IsAmong 1 (3 ∷ 4 ∷ []) → ⊥
+not_page : IsAmong 9 (3 ∷ 4 ∷ []) → ⊥
 not_page (inl is) = cc
 not_page (inr (inl is)) = cc
 not_page (inr (inr none)) = none
 
-not_read : IsAmong 1 (0 ∷ 2 ∷ 3 ∷ 4 ∷ 5 ∷ 7 ∷ []) → ⊥
+not_read : IsAmong 9 (0 ∷ 2 ∷ 3 ∷ 4 ∷ 5 ∷ 7 ∷ 8 ∷ []) → ⊥
 not_read (inl is) = cc
 not_read (inr (inl is)) = cc
 not_read (inr (inr (inl is))) = cc
 not_read (inr (inr (inr (inl is)))) = cc
 not_read (inr (inr (inr (inr (inl is))))) = cc
 not_read (inr (inr (inr (inr (inr (inl is)))))) = cc
-not_read (inr (inr (inr (inr (inr (inr none)))))) = none
+not_read (inr (inr (inr (inr (inr (inr (inl is))))))) = cc
+not_read (inr (inr (inr (inr (inr (inr (inr none))))))) = none
 
-pub usage_wrote : (g : Given) (left rest old new : Option (List ℕ)) → IsWritten g 1 left rest old new
-usage_wrote g left rest old new = record { whole = λ is. cc; read = λ is. absurd (not_read is) }
+not_all : WroteAll 9 → ⊥
+not_all (inl is) = cc
+not_all (inr is) = cc
 
-pub usage_cut_short : (g : Given) (left old new : Option (List ℕ)) (OutputKept : Type 0) → IsCutShort g 1 left old new OutputKept
-usage_cut_short g left old new OutputKept = record {
+pub idle_wrote : (g : Given) (left rest old new : Option (List ℕ)) → IsWritten g 9 left rest old new
+idle_wrote g left rest old new = record { whole = λ is. absurd (not_all is); read = λ is. absurd (not_read is) }
+
+pub idle_cut_short : (g : Given) (left old new : Option (List ℕ)) (OutputKept : Type 0) → OutputKept → IsCutShort g 9 left old new OutputKept
+idle_cut_short g left old new OutputKept kept = record {
   nothing = λ is. absurd (not_early is);
   stopped = λ is. absurd (not_page is);
   before = λ is. cc;
   front = λ is. cc;
-  memory = λ is. cc;
+  memory = λ is. inl kept;
 }
+
+pub idle_caused : (g : Given) (left : Option (List ℕ)) (InputFailed SourceFailed OutputFailed NotesFailed : Type 0) → IsCaused g 9 left InputFailed SourceFailed OutputFailed NotesFailed
+idle_caused g left I S O N = record {
+  answers = inr (inr (inr (inr (inr (inr (inr (inr (inl refl))))))));
+  document = λ is. cc;
+  refused = of_all (FaultIsNamed g 9) left (λ bytes fault first. inr (inr (inl refl)));
+  page = λ is. absurd (not_page is);
+  stopped = λ files told. of_all (FailingPageIsNamed g 9) left (λ bytes r values page run is. inr (inr (inr (inr (inl refl)))));
+  source = λ is. cc;
+  input = λ is. cc;
+  output = λ is. cc;
+  notes = λ is. cc;
+  whole = λ files told i s o. of_all (GoodRunIsWritten g 9) left (λ bytes r values whole is. inr (inr (inl refl)));
+  complete = λ files told i s o n. of_all (GoodRunIsWhole g 9) left (λ bytes r values whole is. inr (inl refl));
+}
+
+-- ---- a run of words that give settings
+
+pub not_usage : (n : ℕ) → IsAmong n statuses → n ≡ 1 → ⊥
+not_usage n (inl is) one = let e : 0 ≡ 1 = sym is ∙ one in cc
+not_usage n (inr (inl is)) one = let e : 2 ≡ 1 = sym is ∙ one in cc
+not_usage n (inr (inr (inl is))) one = let e : 3 ≡ 1 = sym is ∙ one in cc
+not_usage n (inr (inr (inr (inl is)))) one = let e : 4 ≡ 1 = sym is ∙ one in cc
+not_usage n (inr (inr (inr (inr (inl is))))) one = let e : 5 ≡ 1 = sym is ∙ one in cc
+not_usage n (inr (inr (inr (inr (inr (inl is)))))) one = let e : 6 ≡ 1 = sym is ∙ one in cc
+not_usage n (inr (inr (inr (inr (inr (inr (inl is))))))) one = let e : 7 ≡ 1 = sym is ∙ one in cc
+not_usage n (inr (inr (inr (inr (inr (inr (inr (inl is)))))))) one = let e : 8 ≡ 1 = sym is ∙ one in cc
+not_usage n (inr (inr (inr (inr (inr (inr (inr (inr (inl is))))))))) one = let e : 9 ≡ 1 = sym is ∙ one in cc
+not_usage n (inr (inr (inr (inr (inr (inr (inr (inr (inr none))))))))) one = none

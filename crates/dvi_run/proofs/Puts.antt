@@ -1,8 +1,8 @@
--- Texts that are put one behind another.
+-- Texts that are put one after another.
 use Rattle.std.proofs.Common.{◌≡◌, ◌++◌, ℕ, List, [], sym, subst, append_assoc, append-nil, Option}
 use Rattle.outside.specs.Gather.{Gathers}
 use Rattle.outside.specs.declared.gather.Gather.{Gather}
-use Rattle.dvi_run.specs.Puts.{Puts}
+use Rattle.run_report.specs.Puts.{Puts}
 
 pub puts_none : {a : Gather} {w : Option (List ℕ)} {f : ℕ} → Puts a a w w f f []
 puts_none {a} {w} {f} = record { puts = λ start count text held. subst (λ (t : List ℕ). Gathers start count a w f t) (sym (append-nil text)) held }

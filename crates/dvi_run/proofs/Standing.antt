@@ -1,5 +1,5 @@
 -- Workers through the rounds.
-use Rattle.std.proofs.Common.{length, get_or, set, ◌≡◌, ◌≢◌, ◌⊎◌, inl, inr, ℕ, ◌+◌, ◌-◌, ◌<◌, ◌≤◌, List, [], ◌∷◌, ◌++◌, Option, Some, Result, Ok, Err, refl, sym, ap, subst, ◌∙◌, arith}
+use Rattle.std.proofs.Common.{length, get_or, set, ◌≡◌, ◌≢◌, ◌⊎◌, inl, inr, ℕ, ◌+◌, ◌-◌, ◌<◌, ◌≤◌, Bool, List, [], ◌∷◌, ◌++◌, Option, Some, Result, Ok, Err, refl, sym, ap, subst, ◌∙◌, arith}
 use Rattle.std.specs.Prelude.{IsErrOf}
 use mathlib.Core.Logic.{dite}
 use Rattle.std.proofs.lemmas.Bool.{cases_lt}
@@ -27,9 +27,9 @@ use Rattle.page_workers.specs.declared.worker.Worker.{Worker}
 use Rattle.page_workers.specs.Seats.{Fits, asked_at, library_at, units_at, room_at, trail_at}
 use Rattle.page_workers.specs.Rounds.{Drew, IsOutcome, MayDraw, Rested, TookPart, trail_of}
 use Rattle.dvi_run.specs.Pages.{Given, IsValueOf, finding}
-use Rattle.dvi_run.specs.Endings.{IsWriteStop, Source, Written, ending_at}
-use Rattle.dvi_run.specs.Looked.{WholeLooks, BrokenLooks, IsUnbroken}
-use Rattle.dvi_run.specs.Rounds.{Site, Kept, Trails, Settled, Pending, Stands, Ended, MayBegin, SameBut, FailedAt, IsOutcomeOf, LooksTo, WroteOutcome, keys_of, indexed_of}
+use Rattle.dvi_run.specs.Endings.{IsWriteStop, Source, ending_at}
+use Rattle.dvi_run.specs.Looked.{WholeLooks, BrokenLooks, IsAllWritten, IsUnbroken}
+use Rattle.dvi_run.specs.Rounds.{Site, Kept, Trails, Settled, Pending, Stands, Ended, MayBegin, SameBut, FailedAt, IsOutcomeOf, LooksTo, WroteOutcome, black_of, keys_of, indexed_of}
 use Rattle.dvi_run.specs.declared.pages.WriteStop.{WriteStop}
 use Rattle.dvi_run.specs.declared.pages.WriteStop.TheVariants as stop
 use Rattle.dvi_run.proofs.Looks.{whole_more, broken_more, keys_are, keys_grew, broken_keys}
@@ -71,12 +71,12 @@ looks_to g reading i (Err draw.NoMemory) old new before after e h o w is =
     (subst (λ (ks : List FontKey). BrokenLooks Finds ix g.sheet (before ++ i ∷ []) ks) (sym b.1) (broken_more Finds ix g.sheet before (keys_of old) i b.0 w b.2))
 
 -- why a page isn't written, by what came of it
-module _ (before after : Option (List ℕ)) (OutputFails SourceFails : Type 0) (g : Given) (reading : Reading) (i : ℕ) where
+module _ (counted : Bool) (before after : Option (List ℕ)) (OutputFails SourceFails : Type 0) (g : Given) (reading : Reading) (i : ℕ) where
   abbrev Why : WriteStop → Type 0
   Why why = IsWriteStop before after OutputFails SourceFails (IsValueOf g reading i) (Unit {0}) why
 
   why_stops : (outcome : Result Bitmap PageStop) (why : WriteStop) → IsOutcomeOf g reading i outcome → (IsErrOf outcome draw.SourceFault → SourceFails)
-      → WroteOutcome before after OutputFails outcome (Err why) → Why why
+      → WroteOutcome counted before after OutputFails outcome (Err why) → Why why
   why_stops (Ok page) (stop.Draw reason) value rose wrote = absurd wrote
   why_stops (Ok page) stop.Output value rose wrote = (page, value, wrote.0, wrote.1)
   why_stops (Err (draw.Fault fault at)) (stop.Draw told) value rose wrote = subst (λ (t : PageStop). Why (stop.Draw t)) (sym wrote.0) (value, wrote.1)
@@ -87,41 +87,41 @@ module _ (before after : Option (List ℕ)) (OutputFails SourceFails : Type 0) (
   why_stops (Err draw.NoMemory) stop.Output value rose wrote = absurd wrote
 
 -- a run that ends with a failed source ends at a page of which a source failed
-source_failed : (before after : Option (List ℕ)) (OutputFails : Type 0) (page i : ℕ) (outcome : Result Bitmap PageStop) (why : WriteStop) → WroteOutcome before after OutputFails outcome (Err why)
+source_failed : (counted : Bool) (before after : Option (List ℕ)) (OutputFails : Type 0) (page i : ℕ) (outcome : Result Bitmap PageStop) (why : WriteStop) → WroteOutcome counted before after OutputFails outcome (Err why)
     → ending_at (i + 1) why ≡ Source page → (outcome ≡ Err draw.SourceFault) × (page ≡ i + 1)
-source_failed before after OutputFails page i (Ok p) (stop.Draw reason) wrote e = absurd wrote
-source_failed before after OutputFails page i (Ok p) stop.Output wrote e = absurd cc
-source_failed before after OutputFails page i (Err reason) (stop.Draw (draw.Fault fault at)) wrote e = absurd cc
-source_failed before after OutputFails page i (Err reason) (stop.Draw draw.SourceFault) wrote e = (ap Err (sym wrote.0), cc)
-source_failed before after OutputFails page i (Err reason) (stop.Draw draw.NoMemory) wrote e = absurd cc
-source_failed before after OutputFails page i (Err reason) stop.Output wrote e = absurd wrote
+source_failed counted before after OutputFails page i (Ok p) (stop.Draw reason) wrote e = absurd wrote
+source_failed counted before after OutputFails page i (Ok p) stop.Output wrote e = absurd cc
+source_failed counted before after OutputFails page i (Err reason) (stop.Draw (draw.Fault fault at)) wrote e = absurd cc
+source_failed counted before after OutputFails page i (Err reason) (stop.Draw draw.SourceFault) wrote e = (ap Err (sym wrote.0), cc)
+source_failed counted before after OutputFails page i (Err reason) (stop.Draw draw.NoMemory) wrote e = absurd cc
+source_failed counted before after OutputFails page i (Err reason) stop.Output wrote e = absurd wrote
 
 -- a page that isn't written doesn't end a run well
-pub never_written : (page : ℕ) (why : WriteStop) → ending_at page why ≡ Written → ⊥
-never_written page (stop.Draw (draw.Fault fault at)) e = cc
-never_written page (stop.Draw draw.SourceFault) e = cc
-never_written page (stop.Draw draw.NoMemory) e = cc
-never_written page stop.Output e = cc
+pub never_written : (page : ℕ) (why : WriteStop) → IsAllWritten (ending_at page why) → ⊥
+never_written page (stop.Draw (draw.Fault fault at)) all = all
+never_written page (stop.Draw draw.SourceFault) all = all
+never_written page (stop.Draw draw.NoMemory) all = all
+never_written page stop.Output all = all
 
 -- nothing was broken off for a page that isn't written, where the run wasn't
-whole_outcome : (before after : Option (List ℕ)) (OutputFails : Type 0) (page : ℕ) (outcome : Result Bitmap PageStop) (why : WriteStop) → WroteOutcome before after OutputFails outcome (Err why)
+whole_outcome : (counted : Bool) (before after : Option (List ℕ)) (OutputFails : Type 0) (page : ℕ) (outcome : Result Bitmap PageStop) (why : WriteStop) → WroteOutcome counted before after OutputFails outcome (Err why)
     → IsUnbroken (ending_at page why) → IsWhole outcome
-whole_outcome before after OutputFails page (Ok p) why wrote u = tt
-whole_outcome before after OutputFails page (Err (draw.Fault fault at)) why wrote u = tt
-whole_outcome before after OutputFails page (Err draw.SourceFault) (stop.Draw (draw.Fault fault at)) wrote u = absurd (let e = wrote.0 in cc)
-whole_outcome before after OutputFails page (Err draw.SourceFault) (stop.Draw draw.SourceFault) wrote u = absurd u
-whole_outcome before after OutputFails page (Err draw.SourceFault) (stop.Draw draw.NoMemory) wrote u = absurd u
-whole_outcome before after OutputFails page (Err draw.SourceFault) stop.Output wrote u = absurd wrote
-whole_outcome before after OutputFails page (Err draw.NoMemory) (stop.Draw (draw.Fault fault at)) wrote u = absurd (let e = wrote.0 in cc)
-whole_outcome before after OutputFails page (Err draw.NoMemory) (stop.Draw draw.SourceFault) wrote u = absurd u
-whole_outcome before after OutputFails page (Err draw.NoMemory) (stop.Draw draw.NoMemory) wrote u = absurd u
-whole_outcome before after OutputFails page (Err draw.NoMemory) stop.Output wrote u = absurd wrote
+whole_outcome counted before after OutputFails page (Ok p) why wrote u = tt
+whole_outcome counted before after OutputFails page (Err (draw.Fault fault at)) why wrote u = tt
+whole_outcome counted before after OutputFails page (Err draw.SourceFault) (stop.Draw (draw.Fault fault at)) wrote u = absurd (let e = wrote.0 in cc)
+whole_outcome counted before after OutputFails page (Err draw.SourceFault) (stop.Draw draw.SourceFault) wrote u = absurd u
+whole_outcome counted before after OutputFails page (Err draw.SourceFault) (stop.Draw draw.NoMemory) wrote u = absurd u
+whole_outcome counted before after OutputFails page (Err draw.SourceFault) stop.Output wrote u = absurd wrote
+whole_outcome counted before after OutputFails page (Err draw.NoMemory) (stop.Draw (draw.Fault fault at)) wrote u = absurd (let e = wrote.0 in cc)
+whole_outcome counted before after OutputFails page (Err draw.NoMemory) (stop.Draw draw.SourceFault) wrote u = absurd u
+whole_outcome counted before after OutputFails page (Err draw.NoMemory) (stop.Draw draw.NoMemory) wrote u = absurd u
+whole_outcome counted before after OutputFails page (Err draw.NoMemory) stop.Output wrote u = absurd wrote
 
 -- a page that was written
-wrote_it : (before after : Option (List ℕ)) (OutputFails : Type 0) (g : Given) (reading : Reading) (i : ℕ) (done : Unit {0}) (outcome : Result Bitmap PageStop) → IsOutcomeOf g reading i outcome
-    → WroteOutcome before after OutputFails outcome (Ok done) → (page : Bitmap) × IsValueOf g reading i (Ok page) × Appends before after (page_text page)
-wrote_it before after OutputFails g reading i done (Ok page) value wrote = (page, value, wrote)
-wrote_it before after OutputFails g reading i done (Err reason) value wrote = absurd wrote
+wrote_it : (counted : Bool) (before after : Option (List ℕ)) (OutputFails : Type 0) (g : Given) (reading : Reading) (i : ℕ) (done : ℕ) (outcome : Result Bitmap PageStop) → IsOutcomeOf g reading i outcome
+    → WroteOutcome counted before after OutputFails outcome (Ok done) → (page : Bitmap) × IsValueOf g reading i (Ok page) × Appends before after (page_text page) × (done ≡ black_of counted page)
+wrote_it counted before after OutputFails g reading i done (Ok page) value wrote = (page, value, wrote.0, wrote.1)
+wrote_it counted before after OutputFails g reading i done (Err reason) value wrote = absurd wrote
 
 -- one member is replaced
 pub set_each : {A : Type 0} (P : ℕ → A → A → Type 0) (xs ws : List A) (n j : ℕ) (v : A) → j < length ws → ((d : A) → P j (get_or xs j d) v)
@@ -238,10 +238,10 @@ module _ {F : Type 0} (s : Site F) where
     settled = λ either. st.settled (elim either [ inl low ↦ inl (omega arith) | inr high ↦ inr high ]);
   }
 
-  settles : (outcome : Result Bitmap PageStop) (old new : Option (List ℕ)) (OutputFails : Type 0) (done : Unit {0}) → WroteOutcome old new OutputFails outcome (Ok done)
+  settles : (outcome : Result Bitmap PageStop) (counted : Bool) (old new : Option (List ℕ)) (OutputFails : Type 0) (done : ℕ) → WroteOutcome counted old new OutputFails outcome (Ok done)
       → (page : Bitmap) × (outcome ≡ Ok page)
-  settles (Ok page) old new OutputFails done w = (page, refl)
-  settles (Err reason) old new OutputFails done w = absurd w
+  settles (Ok page) counted old new OutputFails done w = (page, refl)
+  settles (Err reason) counted old new OutputFails done w = absurd w
 
   -- a page that wasn't broken off has all its look-ups
   whole_looked : (outcome : Result Bitmap PageStop) (pages : List ℕ) (keys : List FontKey) → IsWhole outcome → LooksTo outcome (finding s.given s.reading) (indexed_of s.given s.reading) s.given pages keys
@@ -268,11 +268,11 @@ module _ {F : Type 0} (s : Site F) where
       }
 
   -- a worker whose page was written has no result, and may draw on
-  pub wrote_on : (n next i k : ℕ) (start old new : Worker F) (before after : Option (List ℕ)) (OutputFails : Type 0) (done : Unit {0}) → next + k ≡ i + n
-      → i < pages_begun s.reading → Stands s n next i k start old → (p : Pending s i start old) → WroteOutcome before after OutputFails p.outcome (Ok done) → SameBut old new → new.results.items ≡ []
+  pub wrote_on : (n next i k : ℕ) (start old new : Worker F) (counted : Bool) (before after : Option (List ℕ)) (OutputFails : Type 0) (done : ℕ) → next + k ≡ i + n
+      → i < pages_begun s.reading → Stands s n next i k start old → (p : Pending s i start old) → WroteOutcome counted before after OutputFails p.outcome (Ok done) → SameBut old new → new.results.items ≡ []
       → Stands s n next (i + 1) k start new
-  wrote_on n next i k start old new before after OutputFails done at below st p wrote same none =
-      let good = settles p.outcome before after OutputFails done wrote in
+  wrote_on n next i k start old new counted before after OutputFails done at below st p wrote same none =
+      let good = settles p.outcome counted before after OutputFails done wrote in
       record {
         room = let room : room_at new.loads new.seat ≡ room_at old.loads old.seat = ap (λ (c : ℕ). room_at c new.seat) same.loads ∙ ap (room_at old.loads) same.seat in omega (arith, st.room, room);
         pending = λ low high. absurd (omega arith);
@@ -335,13 +335,13 @@ module _ {F : Type 0} (s : Site F) where
 
   -- ---- why a page isn't written
 
-  pub stops : (i : ℕ) (start now : Worker F) (before after : Option (List ℕ)) (OutputFails : Type 0) (why : WriteStop) → (p : Pending s i start now)
-      → WroteOutcome before after OutputFails p.outcome (Err why) → IsWriteStop before after OutputFails (Rose (s.faults start.source) (s.faults now.source)) (IsValueOf s.given s.reading i) (Unit {0}) why
-  stops i start now before after OutputFails why p wrote = why_stops before after OutputFails (Rose (s.faults start.source) (s.faults now.source)) s.given s.reading i p.outcome why p.value p.rose wrote
+  pub stops : (i : ℕ) (start now : Worker F) (counted : Bool) (before after : Option (List ℕ)) (OutputFails : Type 0) (why : WriteStop) → (p : Pending s i start now)
+      → WroteOutcome counted before after OutputFails p.outcome (Err why) → IsWriteStop before after OutputFails (Rose (s.faults start.source) (s.faults now.source)) (IsValueOf s.given s.reading i) (Unit {0}) why
+  stops i start now counted before after OutputFails why p wrote = why_stops counted before after OutputFails (Rose (s.faults start.source) (s.faults now.source)) s.given s.reading i p.outcome why p.value p.rose wrote
 
-  pub wrote_page : (i : ℕ) (start now : Worker F) (before after : Option (List ℕ)) (OutputFails : Type 0) (done : Unit {0}) → (p : Pending s i start now)
-      → WroteOutcome before after OutputFails p.outcome (Ok done) → (page : Bitmap) × IsValueOf s.given s.reading i (Ok page) × Appends before after (page_text page)
-  wrote_page i start now before after OutputFails done p wrote = wrote_it before after OutputFails s.given s.reading i done p.outcome p.value wrote
+  pub wrote_page : (i : ℕ) (start now : Worker F) (counted : Bool) (before after : Option (List ℕ)) (OutputFails : Type 0) (done : ℕ) → (p : Pending s i start now)
+      → WroteOutcome counted before after OutputFails p.outcome (Ok done) → (page : Bitmap) × IsValueOf s.given s.reading i (Ok page) × Appends before after (page_text page) × (done ≡ black_of counted page)
+  wrote_page i start now counted before after OutputFails done p wrote = wrote_it counted before after OutputFails s.given s.reading i done p.outcome p.value wrote
 
   -- ---- all workers
 
@@ -372,19 +372,19 @@ module _ {F : Type 0} (s : Site F) where
     ]
 
     module _ (later j : ℕ) (now : List (Worker F)) (stand : All later i now) (at : later + j ≡ i + n) (below : i < pages_begun s.reading) (inside : j < n) (long : length now ≡ n) (r v : Worker F)
-        (before after : Option (List ℕ)) (OutputFails : Type 0) (same : SameBut (get_or now j r) v) where
+        (counted : Bool) (before after : Option (List ℕ)) (OutputFails : Type 0) (same : SameBut (get_or now j r) v) where
       pub pending_at : (d : Worker F) → Pending s i (get_or xs j d) (get_or now j d)
       pending_at d = now_pending n later i j (get_or xs j d) (get_or now j d) at below (stand j d inside)
 
       same_at : (d : Worker F) → SameBut (get_or now j d) v
       same_at d = subst (λ (w : Worker F). SameBut w v) (same_default now j r d (omega arith)) same
 
-      pub after_write : (done : Unit {0}) → ((q : PageResult) → (get_or now j r).results.items ≡ q ∷ [] → WroteOutcome before after OutputFails q.outcome (Ok done)) → v.results.items ≡ []
+      pub after_write : (done : ℕ) → ((q : PageResult) → (get_or now j r).results.items ≡ q ∷ [] → WroteOutcome counted before after OutputFails q.outcome (Ok done)) → v.results.items ≡ []
           → (k : ℕ) (d : Worker F) → k < n
           → Stands s n later (i + 1) k (get_or xs k d) (get_or (set now j v) k d)
       after_write done wrote none =
           set_each (λ k a b. Stands s n later (i + 1) k a b) xs now n j v (omega arith)
-          (λ d. wrote_on n later i j (get_or xs j d) (get_or now j d) v before after OutputFails done at below (stand j d inside) (pending_at d)
+          (λ d. wrote_on n later i j (get_or xs j d) (get_or now j d) v counted before after OutputFails done at below (stand j d inside) (pending_at d)
           (wrote (record { page = i; outcome = (pending_at d).outcome })
           (subst (λ (w : Worker F). w.results.items ≡ record { page = i; outcome = (pending_at d).outcome } ∷ []) (same_default now j d r (omega arith)) (pending_at d).result)) (same_at d) none)
           (λ k d other lt. other_on n later i k j (get_or xs k d) (get_or now k d) at other (stand k d lt))
@@ -396,18 +396,18 @@ module _ {F : Type 0} (s : Site F) where
           (λ k d other lt. stands_ends n later i k (get_or xs k d) (get_or now k d) (stand k d lt))
 
       -- where there is one worker, and nothing was broken off
-      pub after_whole : (why : WriteStop) → ((q : PageResult) → (get_or now j r).results.items ≡ q ∷ [] → WroteOutcome before after OutputFails q.outcome (Err why)) → v.results.items ≡ [] → n ≡ 1
+      pub after_whole : (why : WriteStop) → ((q : PageResult) → (get_or now j r).results.items ≡ q ∷ [] → WroteOutcome counted before after OutputFails q.outcome (Err why)) → v.results.items ≡ [] → n ≡ 1
           → IsUnbroken (ending_at (i + 1) why) → (k : ℕ) (d : Worker F) → k < n → Settled s (get_or xs k d) (get_or (set now j v) k d)
       after_whole why wrote none one unbroken k d lt =
           let here : k ≡ j = omega arith in
           let p = pending_at d in
           let q = subst (λ (w : Worker F). w.results.items ≡ record { page = i; outcome = p.outcome } ∷ []) (same_default now j d r (omega arith)) p.result in
-          let whole = whole_outcome before after OutputFails (i + 1) p.outcome why (wrote (record { page = i; outcome = p.outcome }) q) unbroken in
+          let whole = whole_outcome counted before after OutputFails (i + 1) p.outcome why (wrote (record { page = i; outcome = p.outcome }) q) unbroken in
           subst (λ (m : ℕ). Settled s (get_or xs m d) (get_or (set now j v) m d)) (sym here)
           (subst (λ (w : Worker F). Settled s (get_or xs j d) w) (sym (get_or-set_same now j v d (omega arith)))
           (settled_on i (get_or xs j d) (get_or now j d) v p whole (same_at d) none))
 
-      pub caused : (why : WriteStop) (page : ℕ) → ((q : PageResult) → (get_or now j r).results.items ≡ q ∷ [] → WroteOutcome before after OutputFails q.outcome (Err why)) → ending_at (i + 1) why ≡ Source page
+      pub caused : (why : WriteStop) (page : ℕ) → ((q : PageResult) → (get_or now j r).results.items ≡ q ∷ [] → WroteOutcome counted before after OutputFails q.outcome (Err why)) → ending_at (i + 1) why ≡ Source page
           → (m : ℕ) × (m < n) × ((d : Worker F) → FailedAt s.faults page (get_or xs m d) (get_or (set now j v) m d))
       caused why page wrote e = (
         j,
@@ -415,7 +415,7 @@ module _ {F : Type 0} (s : Site F) where
         λ d.
             let p = pending_at d in
             let q = subst (λ (w : Worker F). w.results.items ≡ record { page = i; outcome = p.outcome } ∷ []) (same_default now j d r (omega arith)) p.result in
-            let f = source_failed before after OutputFails page i p.outcome why (wrote (record { page = i; outcome = p.outcome }) q) e in
+            let f = source_failed counted before after OutputFails page i p.outcome why (wrote (record { page = i; outcome = p.outcome }) q) e in
             let same = same_at d in
             let here : get_or (set now j v) j d ≡ v = get_or-set_same now j v d (omega arith) in
             subst (λ (w : Worker F). FailedAt s.faults page (get_or xs j d) w) (sym here) (record {

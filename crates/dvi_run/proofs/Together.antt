@@ -1,5 +1,5 @@
 -- From the pages that workers drew to what holds of their run.
-use Rattle.std.proofs.Common.{◌≡◌, inl, inr, ℕ, ◌+◌, ◌-◌, ◌<◌, ◌≤◌, List, [], ◌∷◌, ◌++◌, length, get_or, take, drop, Option, Some, None, refl, sym, ap, subst, ◌∙◌, arith, eq-eqb, ne_eqb}
+use Rattle.std.proofs.Common.{◌≡◌, inl, inr, ℕ, ◌+◌, ◌-◌, ◌<◌, ◌≤◌, Bool, List, [], ◌∷◌, ◌++◌, length, get_or, take, drop, Option, Some, None, refl, sym, ap, subst, ◌∙◌, arith, eq-eqb, ne_eqb}
 use Rattle.std.proofs.lemmas.Bool.{cases_lt}
 use Rattle.std.proofs.lemmas.List.{get_or_append_left, get_or_push, get_or-append-add, get_or-drop, get_or-take, length-take-le}
 use Rattle.outside.specs.Library.{Files}
@@ -13,18 +13,19 @@ use Rattle.cache_core.specs.Solo.{solo_history}
 use Rattle.turn_lock.specs.Histories.{AllMade}
 use Rattle.turn_lock.specs.Laws.{AloneIsHistory}
 use Rattle.page_index.specs.Document.{IsDocument, Reading, pages_begun}
-use Rattle.vf_expand.specs.Faults.{PageFaultSeen}
-use Rattle.vf_expand.specs.Faults as fault
 use Rattle.page_draw.specs.Values.{PageValue}
 use Rattle.page_workers.specs.declared.worker.Worker.{Worker}
-use Rattle.dvi_run.specs.Pages.{Given}
+use Rattle.dvi_run.specs.Pages.{Given, given_by}
 use Rattle.dvi_run.specs.Promises.{HasEnded, IsNoted}
+use Rattle.dvi_run.specs.Report.{loads_of, report_text}
 use Rattle.dvi_run.specs.Reading.{OfRead}
-use Rattle.dvi_run.specs.Endings.{EndingSeen, Written, Usage, Document, Page, Source, Input, Output, Memory, EndsPages, page_status, status_of}
-use Rattle.dvi_run.specs.Looked.{IsDrawnThrough, IsIdle, IsUnbroken, IsUnbrokenBy}
+use Rattle.dvi_run.specs.Endings.{EndingSeen, Written, Usage, Document, Page, Source, Input, Output, Notes, Memory, EndsPages, WroteAll, page_status, status_of}
+use Rattle.dvi_run.specs.Looked.{IsAllWritten, IsDrawnThrough, IsIdle, IsUnbroken, IsUnbrokenBy}
+use Rattle.dvi_run.specs.Tally.{CountsTo, HadCache, Tallied}
+use Rattle.command_line.specs.declared.settings.Settings.{Settings}
+use Rattle.dvi_run.specs.declared.tally.Tally.{Tally}
 use Rattle.dvi_run.specs.Rounds.{FailedAt, IsFresh, Ran}
-use Rattle.dvi_run.specs.Settings.{default_settings as the_default_settings}
-use Rattle.dvi_run.proofs.Clauses.{ends_late}
+use Rattle.dvi_run.proofs.Clauses.{AtPage, at_page, ends_late}
 use Rattle.page_workers.specs.Seating.{IsUnused}
 use Rattle.dvi_run.specs.Together.{Answered, AreDone, DrewPages, DrewTogether, EachUsed, IsDrawnThroughBy, IsOneHistory, IsReady, RestIsKept, SomeUsed, SourceRose, Worked}
 
@@ -40,6 +41,7 @@ ends_so old new P Q reading values (Page page) h = h
 ends_so old new P Q reading values (Source page) h = (h.0, tt)
 ends_so old new P Q reading values Input h = h
 ends_so old new P Q reading values (Output page) h = (h.0, tt)
+ends_so old new P Q reading values Notes h = h
 ends_so old new P Q reading values Memory h = h
 
 pub ends_by : (old new : Option (List ℕ)) (P Q : Type 0) (reading : Reading) (values : List PageValue) (e : EndingSeen) → EndsPages old new P (Unit {0}) e reading values
@@ -51,6 +53,7 @@ ends_by old new P Q reading values (Page page) h failed = h
 ends_by old new P Q reading values (Source page) h failed = (h.0, failed page refl)
 ends_by old new P Q reading values Input h failed = h
 ends_by old new P Q reading values (Output page) h failed = h
+ends_by old new P Q reading values Notes h failed = h
 ends_by old new P Q reading values Memory h failed = h
 
 pub some_rose : {F : Type 0} (faults : F → ℕ) (n : ℕ) (before after : List (Worker F)) (page : ℕ) → SomeUsed n before after (FailedAt faults page) → SomeUsed n before after (SourceRose faults)
@@ -66,30 +69,49 @@ unbroken_by (Page page) h = tt
 unbroken_by (Source page) h = h.0 refl
 unbroken_by Input h = tt
 unbroken_by (Output page) h = tt
+unbroken_by Notes h = tt
 unbroken_by Memory h = h.1 refl
 
--- a page's status isn't 0
-not_good : (f : PageFaultSeen) → page_status f ≡ 0 → ⊥
-not_good (fault.NoFont n) e = cc
-not_good fault.NoCurrentFont e = cc
-not_good (fault.NoCharacter k c) e = cc
-not_good (fault.NoGlyph k c) e = cc
-not_good (fault.NoPacket k c) e = cc
-not_good (fault.NoLocalFont k n) e = cc
-not_good (fault.Depth k c) e = cc
-not_good fault.TooLong e = cc
-not_good (fault.Font k f) e = cc
-not_good (fault.Pen f) e = cc
+-- a page's status is neither 0 nor 8
+not_good : (n : ℕ) → AtPage n → WroteAll n → ⊥
+not_good n (inl three) (inl zero) = let e : 3 ≡ 0 = sym three ∙ zero in cc
+not_good n (inl three) (inr eight) = let e : 3 ≡ 8 = sym three ∙ eight in cc
+not_good n (inr four) (inl zero) = let e : 4 ≡ 0 = sym four ∙ zero in cc
+not_good n (inr four) (inr eight) = let e : 4 ≡ 8 = sym four ∙ eight in cc
 
-is_written : (e : EndingSeen) → status_of e ≡ 0 → e ≡ Written
-is_written Written is = refl
-is_written Usage is = cc
-is_written (Document fault) is = cc
-is_written (Page page) is = absurd (not_good page.fault is)
-is_written (Source page) is = cc
-is_written Input is = cc
-is_written (Output page) is = cc
-is_written Memory is = cc
+-- a number is none of two
+is_neither : (n : ℕ) → (n ≡ 0 → ⊥) → (n ≡ 8 → ⊥) → WroteAll n → ⊥
+is_neither n a b (inl is) = a is
+is_neither n a b (inr is) = b is
+
+is_written : (e : EndingSeen) → WroteAll (status_of e) → IsAllWritten e
+is_written Written is = tt
+is_written Usage is = is_neither 1 (λ e. cc) (λ e. cc) is
+is_written (Document fault) is = is_neither 2 (λ e. cc) (λ e. cc) is
+is_written (Page page) is = not_good (page_status page.fault) (at_page page.fault) is
+is_written (Source page) is = is_neither 5 (λ e. cc) (λ e. cc) is
+is_written Input is = is_neither 6 (λ e. cc) (λ e. cc) is
+is_written (Output page) is = is_neither 7 (λ e. cc) (λ e. cc) is
+is_written Notes is = tt
+is_written Memory is = is_neither 9 (λ e. cc) (λ e. cc) is
+
+-- ---- the tally
+
+had_cache : (old new : Option (List ℕ)) (P Q : Type 0) (reading : Reading) (values : List PageValue) (e : EndingSeen) → EndsPages old new P Q e reading values → HadCache e
+had_cache old new P Q reading values Written h = tt
+had_cache old new P Q reading values Usage h = h
+had_cache old new P Q reading values (Document fault) h = h
+had_cache old new P Q reading values (Page page) h = tt
+had_cache old new P Q reading values (Source page) h = tt
+had_cache old new P Q reading values Input h = h
+had_cache old new P Q reading values (Output page) h = tt
+had_cache old new P Q reading values Notes h = tt
+had_cache old new P Q reading values Memory h = tt
+
+counts_to : (counted : Bool) (old new : Option (List ℕ)) (P Q : Type 0) (reading : Reading) (values : List PageValue) (e : EndingSeen) (tally : Option Tally) → EndsPages old new P Q e reading values
+    → Tallied counted old new tally e values → CountsTo tally e
+counts_to counted old new P Q reading values e None h none = subst IsIdle (sym none.0) tt
+counts_to counted old new P Q reading values e (Some t) h tallied = (had_cache old new P Q reading values e h, tallied.next)
 
 through_by : (n : ℕ) (e : EndingSeen) → IsDrawnThroughBy n (status_of e) → IsDrawnThrough n e
 through_by n e (inl good) = inl (is_written e good)
@@ -183,10 +205,11 @@ one_history library faults loads g n capacity old new P reading values e history
 
 -- ---- the pages of a document
 
-module _ {F : Type 0} (library : F → Option Files) (faults loads : F → ℕ) (g : Given) (reading : Reading) (capacity n : ℕ) (old new : Option (List ℕ)) (P : Type 0) (e : EndingSeen) (history : List Call)
-    (before after : List (Worker F)) (drew : DrewPages library faults loads g reading capacity n old new P e history before after) where
-  pub are_done : RestIsKept n before after → AreDone library faults loads g.library capacity n (status_of e) e history before after
+module _ {F : Type 0} (library : F → Option Files) (faults loads : F → ℕ) (g : Given) (counted : Bool) (reading : Reading) (capacity n : ℕ) (old new : Option (List ℕ)) (P : Type 0) (e : EndingSeen) (tally : Option Tally)
+    (history : List Call) (before after : List (Worker F)) (drew : DrewPages library faults loads g counted reading capacity n old new P e tally history before after) where
+  pub are_done : RestIsKept n before after → AreDone library faults loads g.library capacity n (status_of e) e tally history before after
   are_done rest = record {
+    counts = counts_to counted old new P (Unit {0}) reading drew.ends.0 e tally drew.ends.2 drew.ends.3;
     failed = drew.failed;
     one = drew.one;
     worked = λ k d lt. worked library faults loads g reading n e history k (get_or before k d) (get_or after k d) (drew.ran k d lt);
@@ -194,7 +217,7 @@ module _ {F : Type 0} (library : F → Option Files) (faults loads : F → ℕ) 
     rest = rest;
   }
 
-  pub drew_together : (bytes : List ℕ) → IsDocument g.res bytes reading → AloneIsHistory → SoloIsOne → DrewTogether g old new capacity n (status_of e) e history before after bytes
+  pub drew_together : (bytes : List ℕ) → IsDocument g.res bytes reading → AloneIsHistory → SoloIsOne → DrewTogether g counted old new capacity n (status_of e) e tally history before after bytes
   drew_together bytes document alone law =
       inr (
         reading,
@@ -202,6 +225,7 @@ module _ {F : Type 0} (library : F → Option Files) (faults loads : F → ℕ) 
         record { document = document; pages = drew.ends.1 },
         (
           ends_so old new P (Unit {0}) reading drew.ends.0 e drew.ends.2,
+          drew.ends.3,
           drew.shares,
           λ k d lt. answered library faults loads g reading n e history k (get_or before k d) (get_or after k d) (drew.ran k d lt) capacity drew.one alone law lt,
         ),
@@ -211,17 +235,15 @@ module _ {F : Type 0} (library : F → Option Files) (faults loads : F → ℕ) 
   ends_used = ends_by old new P (SomeUsed n before after (SourceRose faults)) reading drew.ends.0 e drew.ends.2 (λ page is. some_rose faults n before after page (drew.failed page is))
 
 -- the end of a run
-pub ended_at : {F : Type 0} (faults : F → ℕ) (g : Given) (capacity n : ℕ) (left : Option (List ℕ)) (e : EndingSeen) (old new notes_old notes_new : Option (List ℕ)) (notes_before notes_now : ℕ)
-    (history : List Call) (before after : List (Worker F)) → IsNoted g e left old new notes_old notes_new notes_before notes_now
-    → ((page : ℕ) → e ≡ Source page → SomeUsed n before after (FailedAt faults page)) → OfRead left (DrewTogether g old new capacity n (status_of e) e history before after)
-    → (status : ℕ) → status ≡ status_of e → HasEnded faults g capacity n status e left old new notes_old notes_new notes_before notes_now history before after
-ended_at faults g capacity n left e old new notes_old notes_new notes_before notes_now history before after noted failed drew status is =
-    subst (λ (m : ℕ). HasEnded faults g capacity n m e left old new notes_old notes_new notes_before notes_now history before after) (sym is) (record { noted = noted; failed = failed; drew = drew })
-
--- a run without words uses one worker
-pub one_worker : the_default_settings.workers ≡ 1
-unfolding the_default_settings
-one_worker = refl
+pub ended_at : {F : Type 0} (faults : F → ℕ) (told : Option Files) (settings : Settings) (e : EndingSeen) (tally : Option Tally) (left old new notes_old notes_new : Option (List ℕ)) (notes_before notes_now : ℕ)
+    (history : List Call) (before after : List (Worker F))
+    → IsNoted (given_by told settings) e left old new notes_old notes_new notes_before notes_now (report_text settings tally (loads_of settings.workers after) history e) → CountsTo tally e
+    → ((page : ℕ) → e ≡ Source page → SomeUsed settings.workers before after (FailedAt faults page))
+    → OfRead left (DrewTogether (given_by told settings) settings.summary old new settings.cache settings.workers (status_of e) e tally history before after)
+    → (status : ℕ) → status ≡ status_of e → HasEnded faults told settings status e tally left old new notes_old notes_new notes_before notes_now history before after
+ended_at faults told settings e tally left old new notes_old notes_new notes_before notes_now history before after noted counted failed drew status is =
+    subst (λ (m : ℕ). HasEnded faults told settings m e tally left old new notes_old notes_new notes_before notes_now history before after) (sym is)
+    (record { noted = noted; counted = counted; failed = failed; drew = drew })
 
 -- a worker as it was made is ready for a run that is told no library
 pub ready_untold : {F : Type 0} (library : F → Option Files) (w : Worker F) → IsUnused w → IsReady library None w
@@ -259,9 +281,10 @@ not_source : (e : EndingSeen) → IsIdle e → (page : ℕ) → e ≡ Source pag
 not_source e idle page is = subst IsIdle is idle
 
 pub idle_done : {F : Type 0} (library : F → Option Files) (faults loads : F → ℕ) (told : Option Files) (capacity n status : ℕ) (e : EndingSeen) (history : List Call) (ws : List (Worker F))
-    → ((k : ℕ) (d : Worker F) → k < n → IsReady library told (get_or ws k d)) → IsIdle e → history ≡ [] → AreDone library faults loads told capacity n status e history ws ws
+    → ((k : ℕ) (d : Worker F) → k < n → IsReady library told (get_or ws k d)) → IsIdle e → history ≡ [] → AreDone library faults loads told capacity n status e None history ws ws
 idle_done library faults loads told capacity n status e history ws ready idle none =
-    subst (λ (h : List Call). AreDone library faults loads told capacity n status e h ws ws) (sym none) (record {
+    subst (λ (h : List Call). AreDone library faults loads told capacity n status e None h ws ws) (sym none) (record {
+      counts = idle;
       failed = λ page is. absurd (not_source e idle page is);
       one = record { legal = refl; made = tt; none_of_first = refl; few_claims = λ k. omega arith; kept = λ is. tt; idle = λ among. refl };
       worked = λ k d lt. idle_worked library faults loads told n status k (get_or ws k d) (ready k d lt);
@@ -269,23 +292,23 @@ idle_done library faults loads told capacity n status e history ws ready idle no
       rest = λ k d le. refl;
     })
 
-pub idle_drew : {F : Type 0} (g : Given) (old new : Option (List ℕ)) (capacity n status : ℕ) (e : EndingSeen) (history : List Call) (ws : List (Worker F)) (left : Option (List ℕ)) → IsIdle e → history ≡ []
-    → OfRead left (DrewTogether g old new capacity n status e history ws ws)
-idle_drew g old new capacity n status e history ws None idle none = tt
-idle_drew g old new capacity n status e history ws (Some bytes) idle none = inl (idle, none, refl)
+pub idle_drew : {F : Type 0} (g : Given) (counted : Bool) (old new : Option (List ℕ)) (capacity n status : ℕ) (e : EndingSeen) (history : List Call) (ws : List (Worker F)) (left : Option (List ℕ)) → IsIdle e → history ≡ []
+    → OfRead left (DrewTogether g counted old new capacity n status e None history ws ws)
+idle_drew g counted old new capacity n status e history ws None idle none = tt
+idle_drew g counted old new capacity n status e history ws (Some bytes) idle none = inl (idle, refl, none, refl)
 
 -- ---- the first of some workers
 
-module _ {F : Type 0} (library : F → Option Files) (faults loads : F → ℕ) (g : Given) (reading : Reading) (capacity : ℕ) (old new : Option (List ℕ)) (P : Type 0) (e : EndingSeen) (history : List Call)
-    (n : ℕ) (before front rest : List (Worker F)) (long : length front ≡ n) where
+module _ {F : Type 0} (library : F → Option Files) (faults loads : F → ℕ) (g : Given) (counted : Bool) (reading : Reading) (capacity : ℕ) (old new : Option (List ℕ)) (P : Type 0) (e : EndingSeen) (tally : Option Tally)
+    (history : List Call) (n : ℕ) (before front rest : List (Worker F)) (long : length front ≡ n) where
   was : (k : ℕ) (d : Worker F) → k < n → get_or (take n before) k d ≡ get_or before k d
   was k d lt = get_or-take n before k d lt
 
   is : (k : ℕ) (d : Worker F) → k < n → get_or front k d ≡ get_or (front ++ rest) k d
   is k d lt = sym (get_or_append_left front rest d k (omega arith))
 
-  pub of_front : DrewPages library faults loads g reading capacity n old new P e history (take n before) front
-      → DrewPages library faults loads g reading capacity n old new P e history before (front ++ rest)
+  pub of_front : DrewPages library faults loads g counted reading capacity n old new P e tally history (take n before) front
+      → DrewPages library faults loads g counted reading capacity n old new P e tally history before (front ++ rest)
   of_front d = record {
     ends = d.ends;
     failed = λ page at.

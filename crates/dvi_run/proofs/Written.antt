@@ -1,12 +1,14 @@
 -- The pages of a document that were written so far.
-use Rattle.std.proofs.Common.{◌≡◌, ℕ, suc, ◌+◌, ◌<◌, ◌≤◌, List, [], ◌∷◌, ◌++◌, length, take, map, refl, sym, ap, subst, ◌∙◌, arith, append-nil, Option, Some, Ok, Err}
-use Rattle.std.specs.List.{flat_map}
+use Rattle.std.proofs.Common.{◌≡◌, ℕ, suc, ◌+◌, ◌<◌, ◌≤◌, Bool, true, cond, List, [], ◌∷◌, ◌++◌, length, take, map, refl, sym, ap, subst, ◌∙◌, arith, append-nil, Option, Some, Ok, Err}
+use Rattle.std.specs.List.{flat_map, sum_by}
 use Rattle.std.specs.Io.KnownBytes.{Appends}
 use Rattle.std.proofs.lemmas.Grind.{flat_map-append}
-use Rattle.std.proofs.lemmas.List.{length-append, length-map, map-append, take_all}
+use Rattle.std.proofs.lemmas.List.{length-append, length-map, map-append, take_all, take_at}
+use Rattle.std.proofs.lemmas.List.Sums.{sum_by_push}
 use Rattle.outside.specs.Streams.{AppendsPrefix}
 use Rattle.outside.proofs.Growth.{grown_none, grown_twice}
 use Rattle.packed_rows.specs.Bitmap.{Bitmap}
+use Rattle.packed_rows.specs.Changes.{black_count}
 use Rattle.page_index.specs.Document.{Reading, pages_begun}
 use Rattle.vf_expand.specs.Faults.{seen_fault}
 use Rattle.page_draw.specs.Values.{PageValue, PlacedFault}
@@ -14,10 +16,12 @@ use Rattle.page_draw.specs.declared.stop.PageStop.TheVariants as draw
 use Rattle.pbm_output.specs.Pbm.{page_text}
 use Rattle.dvi_run.specs.Pages.{AreValues, Given, HaveValues, IsValueOf, failing_page, run_text, whole_pages}
 use Rattle.dvi_run.specs.Laws.{good}
-use Rattle.dvi_run.specs.Endings.{EndingSeen, EndsPages, IsWriteStop, Stopped, Wrote, WroteBefore, WroteFront, WroteSome, ending_at}
+use Rattle.dvi_run.specs.Endings.{EndingSeen, EndsPages, IsWriteStop, Stopped, Wrote, WroteBefore, Written, WroteFront, WroteSome, ending_at}
+use Rattle.dvi_run.specs.Rounds.{black_of}
+use Rattle.dvi_run.specs.Tally.{AreWritten, IsAfter, IsTally}
 use Rattle.dvi_run.specs.declared.pages.WriteStop.{WriteStop}
 use Rattle.dvi_run.specs.declared.pages.WriteStop.TheVariants as stop
-use Rattle.dvi_run.proofs.Fronts.{runs_end, runs_of_good_pages, whole_all}
+use Rattle.dvi_run.proofs.Fronts.{runs_end, runs_of_good_pages, whole_all, whole_first}
 
 -- ---- one value more
 
@@ -30,17 +34,22 @@ values_more g r i n (w ∷ values) v have is value =
     let next : n ≡ suc i + length values = omega (arith, is) in
     (have.0, values_more g r (suc i) n values v have.1 next value)
 
--- the pages before the one with a number, from 0, have bitmaps, and they were written
-pub record IsWrittenTo (g : Given) (r : Reading) (old now : Option (List ℕ)) (i : ℕ) : Type 0 where
+-- the pages before the one with a number, from 0, have bitmaps, and they were written; with their black dots, where they are counted
+pub record IsWrittenTo (g : Given) (r : Reading) (old now : Option (List ℕ)) (i : ℕ) (counted : Bool) (black : ℕ) : Type 0 where
   pub pages : List Bitmap
   pub count : length pages ≡ i
   pub values : HaveValues g r 0 (map good pages)
   pub grew : Appends old now (flat_map page_text pages)
+  pub dots : counted ≡ true → black ≡ sum_by black_count pages
 
-unfoldable pub written_none : (g : Given) (r : Reading) (old : Option (List ℕ)) → IsWrittenTo g r old old 0
-written_none g r old = record { pages = []; count = refl; values = tt; grew = grown_none old }
+unfoldable pub written_none : (g : Given) (r : Reading) (old : Option (List ℕ)) (counted : Bool) → IsWrittenTo g r old old 0 counted 0
+written_none g r old counted = record { pages = []; count = refl; values = tt; grew = grown_none old; dots = λ is. refl }
 
-module _ (g : Given) (r : Reading) (old now : Option (List ℕ)) (i : ℕ) (w : IsWrittenTo g r old now i) where
+-- where they are counted
+pub all_black : (counted : Bool) (page : Bitmap) → counted ≡ true → black_of counted page ≡ black_count page
+all_black counted page is = ap (λ (b : Bool). black_of b page) is
+
+module _ (g : Given) (r : Reading) (old now : Option (List ℕ)) (i : ℕ) (counted : Bool) (black : ℕ) (w : IsWrittenTo g r old now i counted black) where
   pub size : length (map good w.pages) ≡ i
   size = length-map w.pages good ∙ w.count
 
@@ -50,12 +59,18 @@ module _ (g : Given) (r : Reading) (old now : Option (List ℕ)) (i : ℕ) (w : 
   pub texts : (page : Bitmap) → flat_map page_text w.pages ++ page_text page ≡ flat_map page_text (w.pages ++ page ∷ [])
   texts page = ap (λ (t : List ℕ). flat_map page_text w.pages ++ t) (sym (append-nil (page_text page))) ∙ sym (flat_map-append page_text w.pages (page ∷ []))
 
-  unfoldable pub written_more : (new : Option (List ℕ)) (page : Bitmap) → IsValueOf g r i (Ok page) → Appends now new (page_text page) → IsWrittenTo g r old new (suc i)
+  unfoldable pub written_more : (new : Option (List ℕ)) (page : Bitmap) → IsValueOf g r i (Ok page) → Appends now new (page_text page)
+      → IsWrittenTo g r old new (suc i) counted (black + black_of counted page)
   written_more new page value more = record {
     pages = w.pages ++ page ∷ [];
     count = let count = w.count in let size = length-append w.pages (page ∷ []) in omega (arith, count, size);
     values = subst (HaveValues g r 0) (sym (map-append good w.pages (page ∷ []))) (one_more (Ok page) value);
     grew = subst (Appends old new) (texts page) (grown_twice old now new (flat_map page_text w.pages) (page_text page) w.grew more);
+    dots = λ is.
+        let so_far = w.dots is in
+        let here = all_black counted page is in
+        let all = sum_by_push black_count w.pages page in
+        omega (arith, so_far, here, all);
   }
 
   -- the values of the pages that were written, and of one more
@@ -74,15 +89,36 @@ module _ (g : Given) (r : Reading) (old now : Option (List ℕ)) (i : ℕ) (w : 
   grew_so : Appends old now (run_text (map good w.pages))
   grew_so = subst (Appends old now) (sym text_is) w.grew
 
+  -- ---- the tally
+
+  -- among values whose bitmaps begin with these pages
+  first_pages : (values : List PageValue) (rest : List Bitmap) → whole_pages values ≡ w.pages ++ rest → take i (whole_pages values) ≡ w.pages
+  first_pages values rest is = ap (take i) is ∙ take_at w.pages rest i w.count
+
+  tally_of : (new : Option (List ℕ)) (e : EndingSeen) (values : List PageValue) (rest : List Bitmap) → whole_pages values ≡ w.pages ++ rest → IsAfter i e → AreWritten old new i e values
+      → IsTally counted old new (record { pages = i; black = black }) e values
+  tally_of new e values rest is next written = record {
+    few = let size = ap length is in let more = length-append w.pages rest in let count = w.count in omega (arith, size, more, count);
+    black = λ asked. w.dots asked ∙ ap (sum_by black_count) (sym (first_pages values rest is));
+    next = next;
+    written = written;
+  }
+
+  none_more : whole_pages (map good w.pages) ≡ w.pages ++ []
+  none_more = whole_all w.pages ∙ sym (append-nil w.pages)
+
   -- how it ends, with the values that say so
   abbrev Ends : (OutputFailed SourceFailed : Type 0) → Option (List ℕ) → EndingSeen → Type 0
   Ends OutputFailed SourceFailed new e = (values : List PageValue) × AreValues g r values × EndsPages old new OutputFailed SourceFailed e r values
+      × IsTally counted old new (record { pages = i; black = black }) e values
 
   -- with all pages
-  pub ends_written : i ≡ pages_begun r → AreValues g r (map good w.pages) × Wrote old now r (map good w.pages)
+  pub ends_written : i ≡ pages_begun r
+      → AreValues g r (map good w.pages) × Wrote old now r (map good w.pages) × IsTally counted old now (record { pages = i; black = black }) Written (map good w.pages)
   ends_written all = (
     before (omega (arith, all)),
     record { all = size ∙ all; good = (runs_of_good_pages w.pages).1; grew = grew_so },
+    tally_of now Written (map good w.pages) [] none_more tt (sym (ap length (whole_all w.pages) ∙ w.count)),
   )
 
   -- the values of those that were written and of one more
@@ -142,7 +178,16 @@ module _ (g : Given) (r : Reading) (old now : Option (List ℕ)) (i : ℕ) (w : 
     pub ends_at : (OutputFails SourceFails OutputFailed SourceFailed : Type 0) → (OutputFails → OutputFailed) → (SourceFails → SourceFailed) → (s : WriteStop)
         → IsWriteStop now new OutputFails SourceFails (IsValueOf g r i) (Unit {0}) s → Ends OutputFailed SourceFailed new (ending_at page s)
     ends_at P Q P' Q' o s (stop.Draw (draw.Fault fault at)) h =
-        let e = stops (record { fault = seen_fault fault; at = at }) h.0 h.1 in (with_one (Err (record { fault = seen_fault fault; at = at })), e.0, e.1)
-    ends_at P Q P' Q' o s (stop.Draw draw.SourceFault) h = let b = breaks h.2 in (map good w.pages, b.0, (b.1, s h.0))
-    ends_at P Q P' Q' o s (stop.Draw draw.NoMemory) h = let e = wants h.1 in (map good w.pages, e.0, e.1)
-    ends_at P Q P' Q' o s stop.Output h = let f = fails h.0 h.1 h.2 in (with_one (Ok h.0), f.0, (f.1, o h.3))
+        let f : PlacedFault = record { fault = seen_fault fault; at = at } in
+        let e = stops f h.0 h.1 in (with_one (Err f), e.0, e.1, tally_of new _ (with_one (Err f)) [] (whole_first w.pages (Err f ∷ [])) number tt)
+    ends_at P Q P' Q' o s (stop.Draw draw.SourceFault) h =
+        let b = breaks h.2 in (map good w.pages, b.0, (b.1, s h.0), tally_of new _ (map good w.pages) [] none_more number tt)
+    ends_at P Q P' Q' o s (stop.Draw draw.NoMemory) h =
+        let e = wants h.1 in
+        let same = first_pages (map good w.pages) [] none_more in
+        let grew = subst (λ (l : Option (List ℕ)). Appends old l (flat_map page_text (take i (whole_pages (map good w.pages))))) (sym h.1)
+        (subst (λ (ps : List Bitmap). Appends old now (flat_map page_text ps)) (sym same) w.grew) in
+        (map good w.pages, e.0, e.1, tally_of new _ (map good w.pages) [] none_more tt grew)
+    ends_at P Q P' Q' o s stop.Output h =
+        let f = fails h.0 h.1 h.2 in
+        (with_one (Ok h.0), f.0, (f.1, o h.3), tally_of new _ (with_one (Ok h.0)) (h.0 ∷ []) (whole_first w.pages (Ok h.0 ∷ [])) number tt)

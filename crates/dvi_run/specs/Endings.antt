@@ -1,5 +1,5 @@
 -- How a run ends: what it wrote, and why.
-use Rattle.std.specs.Prelude.{◌≡◌, ◌⊎◌, ◌≤◌, ◌<◌, ◌++◌, ℕ, suc, List, [], ◌∷◌, length, take, Option, Some, None, Ok}
+use Rattle.std.specs.Prelude.{◌≡◌, ◌⊎◌, ◌≤◌, ◌<◌, ◌++◌, ℕ, suc, Bool, true, false, List, [], ◌∷◌, length, take, Option, Some, None, Ok}
 use Rattle.std.specs.List.{flat_map}
 use Rattle.std.specs.Io.KnownBytes.{Appends}
 use Rattle.outside.specs.Counts.{Rose}
@@ -19,8 +19,9 @@ use Rattle.dvi_run.specs.declared.ending.Ending.TheVariants as code
 use Rattle.dvi_run.specs.declared.pages.WriteStop.{WriteStop}
 use Rattle.dvi_run.specs.declared.pages.WriteStop.TheVariants as stop
 
--- how a run ends: all pages were written; there is a word; the bytes are no document; a page has no bitmap; the source of the fonts
--- failed at a page, or the input, or the output at a page; or memory was wanting. Pages are counted from 1
+-- how a run ends: all pages were written, and the report; the words are no line; the bytes are no document; a page has no bitmap; the
+-- source of the fonts failed at a page, or the input, or the output at a page; all pages were written, and the notes failed to take the
+-- report; or memory was wanting. Pages are counted from 1
 pub data EndingSeen : Type 0 where
   Written : EndingSeen
   Usage : EndingSeen
@@ -29,6 +30,7 @@ pub data EndingSeen : Type 0 where
   Source : ℕ → EndingSeen
   Input : EndingSeen
   Output : ℕ → EndingSeen
+  Notes : EndingSeen
   Memory : EndingSeen
 
 abbrev pub seen_ending : Ending → EndingSeen
@@ -40,6 +42,12 @@ seen_ending (code.Source page) = Source page
 seen_ending code.Input = Input
 seen_ending (code.Output page) = Output page
 seen_ending code.Memory = Memory
+
+-- how a run ends that came to such an end, by whether the notes took its report. That they fail matters only where all pages were written
+abbrev pub with_notes : EndingSeen → (taken : Bool) → EndingSeen
+with_notes Written true = Written
+with_notes Written false = Notes
+with_notes e taken = e
 
 -- ---- statuses
 
@@ -56,6 +64,7 @@ status_of (Page page) = page_status page.fault
 status_of (Source page) = 5
 status_of Input = 6
 status_of (Output page) = 7
+status_of Notes = 8
 status_of Memory = 9
 
 abbrev pub IsAmong : ℕ → List ℕ → Type 0
@@ -64,7 +73,11 @@ IsAmong n (x ∷ xs) = (n ≡ x) ⊎ IsAmong n xs
 
 -- of a run whose words are a line
 abbrev pub statuses : List ℕ
-statuses = 0 ∷ 2 ∷ 3 ∷ 4 ∷ 5 ∷ 6 ∷ 7 ∷ 9 ∷ []
+statuses = 0 ∷ 2 ∷ 3 ∷ 4 ∷ 5 ∷ 6 ∷ 7 ∷ 8 ∷ 9 ∷ []
+
+-- all pages were written: 0, and 8 where the notes failed
+abbrev pub WroteAll : ℕ → Type 0
+WroteAll status = (status ≡ 0) ⊎ (status ≡ 8)
 
 -- ---- what was written, by the values of a document's pages
 
@@ -124,7 +137,7 @@ IsPlaced g (Source page) left old new = OfRead left (λ bytes. OfRun g bytes (Wr
 IsPlaced g (Output page) left old new = OfRead left (λ bytes. OfRun g bytes (λ _. WroteFront old new page))
 IsPlaced g _ left old new = Unit {0}
 
--- the text was written, or a front of it where the count rose
+-- the text was written, or a prefix of it, never all, where the count rose
 abbrev pub Tells : Option (List ℕ) → Option (List ℕ) → ℕ → ℕ → List ℕ → Type 0
 Tells old new before now text =
     Appends old new text ⊎ (AppendsPrefix old new text × Rose before now)
@@ -133,6 +146,12 @@ Tells old new before now text =
 pub record IsTold (old new : Option (List ℕ)) (before now : ℕ) (text : List ℕ) : Type 0 where
   pub tells : Tells old new before now text
   pub count : before ≤ now
+
+-- what the notes took of the report of a run that ends so: where all pages were written the end says whether all of it
+abbrev pub TellsBy : EndingSeen → Option (List ℕ) → Option (List ℕ) → ℕ → ℕ → List ℕ → Type 0
+TellsBy Written old new before now text = Appends old new text
+TellsBy Notes old new before now text = AppendsPrefix old new text × Rose before now
+TellsBy _ old new before now text = Tells old new before now text
 
 -- ---- the parts of a run
 
@@ -158,6 +177,7 @@ module _ (old new : Option (List ℕ)) (OutputFailed SourceFailed : Type 0) wher
   EndsPages (Page page) reading values = Stopped old new page values
   EndsPages (Source page) reading values = WroteBefore old new page reading values × SourceFailed
   EndsPages (Output page) reading values = WroteFront old new page values × OutputFailed
+  EndsPages Notes reading values = Wrote old new reading values
   EndsPages Memory reading values = WroteSome old new values
   EndsPages _ reading values = ⊥
 
@@ -168,6 +188,7 @@ module _ (old new : Option (List ℕ)) (OutputFailed SourceFailed : Type 0) wher
   EndsBytes OutputKept g bytes (Page page) = OfRun g bytes (λ _. Stopped old new page)
   EndsBytes OutputKept g bytes (Source page) = OfRun g bytes (WroteBefore old new page) × SourceFailed
   EndsBytes OutputKept g bytes (Output page) = OfRun g bytes (λ _. WroteFront old new page) × OutputFailed
+  EndsBytes OutputKept g bytes Notes = OfRun g bytes (Wrote old new)
   EndsBytes OutputKept g bytes Memory = OutputKept ⊎ OfRun g bytes (λ _. WroteSome old new)
   EndsBytes OutputKept g bytes _ = ⊥
 
@@ -184,4 +205,5 @@ module _ (old new : Option (List ℕ)) (OutputFailed SourceFailed : Type 0) wher
   IsEnding OutputKept InputFailed g left rest Input = InputFailed × OutputKept
   IsEnding OutputKept InputFailed g left rest (Output page) =
       IsAllRead left rest × OfRead left (λ bytes. OfRun g bytes (λ _. WroteFront old new page)) × OutputFailed
+  IsEnding OutputKept InputFailed g left rest Notes = IsAllRead left rest × OfRead left (λ bytes. OfRun g bytes (Wrote old new))
   IsEnding OutputKept InputFailed g left rest Memory = OutputKept ⊎ OfRead left (λ bytes. OfRun g bytes (λ _. WroteSome old new))

@@ -1,7 +1,5 @@
--- The keys of fonts, and what is wrong with a font's files, in words.
-use Rattle.std.specs.Prelude.{ℕ, List, ◌++◌, map, codes, decimal, if◌then◌else◌}
-use Rattle.std.specs.Int.{is_in_range}
-use Rattle.outside.specs.declared.keys.FontKey.{FontKey}
+-- What is wrong with a font's files, in words.
+use Rattle.std.specs.Prelude.{ℕ, List, ◌++◌, codes, decimal}
 use Rattle.tfm_reader.specs.declared.faults.TfmFault.{TfmFault}
 use Rattle.tfm_reader.specs.declared.faults.TfmFault.TheVariants as tfm
 use Rattle.pk_runs.specs.declared.faults.RunFault.{RunFault}
@@ -13,18 +11,6 @@ use Rattle.font_decode.specs.declared.faults.FileKind.TheVariants as kind
 use Rattle.font_decode.specs.declared.faults.FontFault.{FontFault}
 use Rattle.font_decode.specs.declared.faults.FontFault.TheVariants as font
 use Rattle.dvi_run.specs.VfTexts.{vf_text}
-
--- ---- keys
-
--- a visible ASCII character stands for itself, and each other byte is a question mark
-abbrev pub shown_byte : ℕ → ℕ
-shown_byte b = if is_in_range 33 126 b then b else 63
-
--- the name, the size and the design size
-abbrev pub key_text : FontKey → List ℕ
-key_text k = map shown_byte k.name ++ codes " " ++ decimal k.size ++ codes " " ++ decimal k.design
-
--- ---- faults
 
 abbrev pub tfm_text : TfmFault → List ℕ
 tfm_text tfm.Short = codes "short"

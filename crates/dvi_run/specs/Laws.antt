@@ -1,5 +1,5 @@
 -- Laws over the values of runs.
-use Rattle.std.specs.Prelude.{◌≡◌, ◌<◌, ◌≤◌, ℕ, suc, Option, List, ◌∷◌, ◌++◌, length, map, Some, None, Ok, Err, unwrap_or}
+use Rattle.std.specs.Prelude.{◌≡◌, ◌<◌, ◌≤◌, ℕ, suc, Option, List, [], ◌∷◌, ◌++◌, length, map, Some, None, Ok, Err, unwrap_or}
 use Rattle.std.specs.List.{flat_map}
 use Rattle.std.specs.Io.KnownBytes.{Appends}
 use Rattle.outside.specs.Library.{Files}
@@ -10,6 +10,8 @@ use Rattle.page_index.specs.Faults.{IsFirstFault}
 use Rattle.page_index.specs.declared.faults.DocFault.{DocFault}
 use Rattle.page_draw.specs.Values.{PageValue, PlacedFault}
 use Rattle.pbm_output.specs.Pbm.{page_text}
+use Rattle.command_line.specs.Settings.{default_settings}
+use Rattle.dvi_run.specs.Arguments.{run_settings}
 use Rattle.dvi_run.specs.Shares.{EachPageHasOneWorker}
 use Rattle.dvi_run.specs.Endings.{OfRun, Stopped, Wrote}
 use Rattle.dvi_run.specs.Pages.{FailingPage, Given, IsRun, failing_page, run_fault, run_text}
@@ -76,6 +78,12 @@ GoodRunsWriteAlike = (g : Given) (files : Files) (bytes : List ℕ) (old new oth
 abbrev pub StoppedRunsWriteAlike : Type 0
 StoppedRunsWriteAlike = (g : Given) (files : Files) (bytes : List ℕ) (old new other later : Option (List ℕ)) (p q : FailingPage) → g.library ≡ Some files
     → OfRun g bytes (λ _. Stopped old new p) → OfRun g bytes (λ _. Stopped other later q) → (p ≡ q) × GrewAlike old new other later
+
+-- ---- arguments
+
+-- no arguments at all ask for the default settings, wherever there is a worker
+abbrev pub NoArgumentsAskForTheDefaults : Type 0
+NoArgumentsAskForTheDefaults = (workers : ℕ) → 1 ≤ workers → run_settings workers [] ≡ Some default_settings
 
 -- ---- workers
 

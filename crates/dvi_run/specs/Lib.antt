@@ -1,5 +1,4 @@
 pub mod Reading
-pub mod Settings
 pub mod Pages
 pub mod Endings
 pub mod DocTexts
@@ -7,10 +6,13 @@ pub mod VfTexts
 pub mod FontTexts
 pub mod PageTexts
 pub mod Lines
-pub mod Puts
+pub mod Names
 pub mod Laws
 pub mod Looked
 pub mod Rounds
 pub mod Shares
+pub mod Tally
+pub mod Report
+pub mod Arguments
 pub mod Together
 pub mod Promises

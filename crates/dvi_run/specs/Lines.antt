@@ -1,8 +1,8 @@
--- The line that a run prints to its notes as it ends, unless all pages were written.
+-- The line that a run prints to its notes as it ends, unless all pages were written, and what stands before it.
 use Rattle.std.specs.Prelude.{ℕ, List, [], ◌++◌, codes, decimal}
 use Rattle.page_index.specs.declared.faults.DocFault.{DocFault}
 use Rattle.dvi_run.specs.Pages.{FailingPage}
-use Rattle.dvi_run.specs.Endings.{EndingSeen, Written, Usage, Document, Page, Source, Input, Output, Memory}
+use Rattle.dvi_run.specs.Endings.{EndingSeen, Written, Usage, Document, Page, Source, Input, Output, Notes, Memory}
 use Rattle.dvi_run.specs.DocTexts.{doc_place, doc_text}
 use Rattle.dvi_run.specs.PageTexts.{fault_text}
 
@@ -27,4 +27,5 @@ line_of (Page page) = page_line page
 line_of (Source page) = source_line page
 line_of Input = codes "dvipbm: input failed\n"
 line_of (Output page) = output_line page
+line_of Notes = []
 line_of Memory = codes "dvipbm: out of memory\n"

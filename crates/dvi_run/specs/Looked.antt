@@ -6,7 +6,7 @@ use Rattle.page_draw.specs.Members.{Finding}
 use Rattle.page_draw.specs.Values.{PageValue}
 use Rattle.page_draw.specs.Drawn.{IsBroken, IsPageValue}
 use Rattle.page_draw.specs.declared.sheet.Sheet.{Sheet}
-use Rattle.dvi_run.specs.Endings.{EndingSeen, Written, Page, Source, Output, Memory}
+use Rattle.dvi_run.specs.Endings.{EndingSeen, Written, Page, Source, Output, Notes, Memory}
 
 -- all look-ups of a page that came to its value
 abbrev pub IsLookedUp : Finding → Indexed → Sheet → ℕ → List FontKey → Type 0
@@ -41,10 +41,16 @@ IsUnbroken (Source page) = ⊥
 IsUnbroken Memory = ⊥
 IsUnbroken _ = Unit {0}
 
+-- all pages were written
+abbrev pub IsAllWritten : EndingSeen → Type 0
+IsAllWritten Written = Unit {0}
+IsAllWritten Notes = Unit {0}
+IsAllWritten _ = ⊥
+
 -- each page that was drawn came to its end: all were written, or there is one worker, and neither its source failed nor was memory
 -- wanting
 abbrev pub IsDrawnThrough : ℕ → EndingSeen → Type 0
-IsDrawnThrough n e = (e ≡ Written) ⊎ ((n ≡ 1) × IsUnbroken e)
+IsDrawnThrough n e = IsAllWritten e ⊎ ((n ≡ 1) × IsUnbroken e)
 
 -- by its status: neither the source failed (5) nor was memory wanting (9)
 abbrev pub IsUnbrokenBy : ℕ → Type 0
@@ -56,4 +62,5 @@ IsIdle Written = ⊥
 IsIdle (Page page) = ⊥
 IsIdle (Source page) = ⊥
 IsIdle (Output page) = ⊥
+IsIdle Notes = ⊥
 IsIdle _ = Unit {0}

@@ -5,7 +5,8 @@ use Rattle.drift_rules.specs.declared.faults.PenFault.{PenFault}
 use Rattle.drift_rules.specs.declared.faults.PenFault.TheVariants as pen
 use Rattle.vf_expand.specs.Faults.{PageFaultSeen}
 use Rattle.vf_expand.specs.Faults as page
-use Rattle.dvi_run.specs.FontTexts.{font_text, key_text}
+use Rattle.run_report.specs.Keys.{key_text}
+use Rattle.dvi_run.specs.FontTexts.{font_text}
 
 abbrev pub pen_text : PenFault → List ℕ
 pen_text pen.Overflow = codes "overflow"

@@ -14,7 +14,7 @@ use Rattle.page_draw.specs.Values.{PageValue, PlacedFault}
 use Rattle.page_draw.specs.Drawn.{IsPageValue}
 use Rattle.page_draw.specs.declared.sheet.Sheet.{Sheet}
 use Rattle.pbm_output.specs.Pbm.{page_text}
-use Rattle.dvi_run.specs.declared.settings.Settings.{Settings}
+use Rattle.command_line.specs.declared.settings.Settings.{Settings}
 
 -- what a run is given besides its document: all the font files, where they are told, the dots for an inch, and the sheet
 pub record Given : Type 0 where

@@ -1,11 +1,12 @@
 -- Workers that draw the pages of a document in rounds.
-use Rattle.std.specs.Prelude.{◌≡◌, ◌⊎◌, ℕ, ◌+◌, ◌-◌, ◌*◌, ◌^◌, ◌<◌, ◌≤◌, List, [], ◌∷◌, ◌++◌, Option, Some, None, Result, Ok, Err, IsErrOf, IfSome}
+use Rattle.std.specs.Prelude.{◌≡◌, ◌⊎◌, ℕ, ◌+◌, ◌-◌, ◌*◌, ◌^◌, ◌<◌, ◌≤◌, Bool, cond, List, [], ◌∷◌, ◌++◌, Option, Some, None, Result, Ok, Err, IsErrOf, IfSome}
 use Rattle.std.specs.Io.KnownBytes.{Appends}
 use Rattle.outside.specs.Counts.{Rose}
 use Rattle.outside.specs.Library.{Files}
 use Rattle.outside.specs.Streams.{AppendsPrefix}
 use Rattle.outside.specs.declared.keys.FontKey.{FontKey}
 use Rattle.packed_rows.specs.Bitmap.{Bitmap}
+use Rattle.packed_rows.specs.Changes.{black_count}
 use Rattle.page_index.specs.Document.{Reading, pages_begun}
 use Rattle.page_index.specs.Pages.{Indexed, document_units}
 use Rattle.turn_lock.specs.Seats.{SeatView}
@@ -117,13 +118,17 @@ pub record MayBegin {F : Type 0} (s : Site F) (w : Worker F) : Type 0 where
 
 -- ---- a result that is written
 
-abbrev pub WroteOutcome : (old new : Option (List ℕ)) (OutputFails : Type 0) → Result Bitmap PageStop → Result (Unit {0}) WriteStop → Type 0
-WroteOutcome old new OutputFails (Ok page) (Ok done) = Appends old new (page_text page)
-WroteOutcome old new OutputFails (Ok page) (Err (stop.Draw reason)) = ⊥
-WroteOutcome old new OutputFails (Ok page) (Err stop.Output) = AppendsPrefix old new (page_text page) × OutputFails
-WroteOutcome old new OutputFails (Err reason) (Ok done) = ⊥
-WroteOutcome old new OutputFails (Err reason) (Err (stop.Draw told)) = (told ≡ reason) × (new ≡ old)
-WroteOutcome old new OutputFails (Err reason) (Err stop.Output) = ⊥
+-- the black pixels of a page, where they are counted
+abbrev pub black_of : (counted : Bool) → Bitmap → ℕ
+black_of counted page = cond counted (black_count page) 0
+
+abbrev pub WroteOutcome : (counted : Bool) (old new : Option (List ℕ)) (OutputFails : Type 0) → Result Bitmap PageStop → Result ℕ WriteStop → Type 0
+WroteOutcome counted old new OutputFails (Ok page) (Ok black) = Appends old new (page_text page) × (black ≡ black_of counted page)
+WroteOutcome counted old new OutputFails (Ok page) (Err (stop.Draw reason)) = ⊥
+WroteOutcome counted old new OutputFails (Ok page) (Err stop.Output) = AppendsPrefix old new (page_text page) × OutputFails
+WroteOutcome counted old new OutputFails (Err reason) (Ok black) = ⊥
+WroteOutcome counted old new OutputFails (Err reason) (Err (stop.Draw told)) = (told ≡ reason) × (new ≡ old)
+WroteOutcome counted old new OutputFails (Err reason) (Err stop.Output) = ⊥
 
 -- a worker but for its results
 pub record SameBut {F : Type 0} (before after : Worker F) : Type 0 where

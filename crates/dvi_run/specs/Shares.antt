@@ -1,7 +1,7 @@
 -- Which pages each of some workers draws, round by round.
 use Rattle.std.specs.Prelude.{◌≡◌, ◌⊎◌, ℕ, zero, suc, ◌+◌, ◌*◌, ◌<◌, ◌≤◌, ◌++◌, ◌==◌, Bool, true, false, List, [], ◌∷◌, nat_lt, count_by, slice_index_or}
 use Rattle.page_workers.specs.declared.worker.Worker.{Worker}
-use Rattle.dvi_run.specs.Endings.{EndingSeen, Written, Page, Source, Output}
+use Rattle.dvi_run.specs.Endings.{EndingSeen, Written, Page, Source, Output, Notes}
 
 -- the page with this number, from 0, where there is one
 abbrev pub if_there : Bool → ℕ → List ℕ
@@ -26,6 +26,7 @@ AreBegun total n rounds Written = (total ≤ rounds * n) × (rounds * n < total 
 AreBegun total n rounds (Page page) = (page.page ≤ rounds * n) × (rounds * n < page.page + n)
 AreBegun total n rounds (Source page) = (page ≤ rounds * n) × (rounds * n < page + n)
 AreBegun total n rounds (Output page) = (page ≤ rounds * n) × (rounds * n < page + n)
+AreBegun total n rounds Notes = (total ≤ rounds * n) × (rounds * n < total + n)
 AreBegun total n rounds _ = Unit {0}
 
 -- and each of the n workers drew its share of these rounds

@@ -1,5 +1,5 @@
 -- A run over workers: what each of them did, and how their calls make one history.
-use Rattle.std.specs.Prelude.{◌≡◌, ◌⊎◌, ℕ, ◌+◌, ◌*◌, ◌<◌, ◌≤◌, List, [], ◌∷◌, Option, Some, None, IfSome, slice_index_or}
+use Rattle.std.specs.Prelude.{◌≡◌, ◌⊎◌, ℕ, ◌+◌, ◌*◌, ◌<◌, ◌≤◌, Bool, List, [], ◌∷◌, Option, Some, None, IfSome, slice_index_or}
 use Rattle.outside.specs.Counts.{Rose}
 use Rattle.outside.specs.Library.{Files}
 use Rattle.outside.specs.declared.keys.FontKey.{FontKey}
@@ -14,10 +14,12 @@ use Rattle.page_index.specs.Document.{Reading, pages_begun}
 use Rattle.page_draw.specs.Values.{PageValue}
 use Rattle.page_workers.specs.declared.worker.Worker.{Worker}
 use Rattle.dvi_run.specs.Pages.{AreValues, Given, finding}
-use Rattle.dvi_run.specs.Endings.{EndingSeen, Source, EndsPages, IsAmong, OfRun, status_of}
+use Rattle.dvi_run.specs.Endings.{EndingSeen, Source, EndsPages, IsAmong, OfRun, WroteAll, status_of}
 use Rattle.dvi_run.specs.Looked.{BrokenLooks, IsDrawnThrough, IsIdle, IsUnbrokenBy, WholeLooks}
 use Rattle.dvi_run.specs.Rounds.{FailedAt, IsFresh, Ran, indexed_of}
 use Rattle.dvi_run.specs.Shares.{AreShares, DrewShares}
+use Rattle.dvi_run.specs.Tally.{CountsTo, Tallied}
+use Rattle.dvi_run.specs.declared.tally.Tally.{Tally}
 
 -- ---- the workers that a run uses: the first n of them
 
@@ -48,7 +50,7 @@ pub record IsReady {F : Type 0} (library : F → Option Files) (told : Option Fi
 -- each page that was drawn came to its end: all were written, or there is one worker, and neither its source failed nor was memory
 -- wanting
 abbrev pub IsDrawnThroughBy : (n status : ℕ) → Type 0
-IsDrawnThroughBy n status = (status ≡ 0) ⊎ ((n ≡ 1) × IsUnbrokenBy status)
+IsDrawnThroughBy n status = WroteAll status ⊎ ((n ≡ 1) × IsUnbrokenBy status)
 
 -- ---- the history
 
@@ -61,8 +63,8 @@ pub record IsOneHistory (capacity n status : ℕ) (history : List Call) : Type 0
   pub none_of_first : own 0 history ≡ []
   -- a key is claimed at most once more than it left or was given up
   pub few_claims : FewClaims history
-  -- 0: no claim was given up
-  pub kept : status ≡ 0 → NoneReleased history
+  -- 0 and 8: no claim was given up
+  pub kept : WroteAll status → NoneReleased history
   -- 1, 2 and 6: there is no call
   pub idle : IsAmong status (1 ∷ 2 ∷ 6 ∷ []) → history ≡ []
 
@@ -97,25 +99,27 @@ module _ {F : Type 0} (g : Given) (reading : Reading) where
 
 -- What was drawn of these bytes in a run that ended so: nothing where no cache was made. Else they are a document, whose pages have the
 -- values that say what was written, each font being what the library has for its key; the used workers drew its first pages, each page
--- once, to the end of the round of the page named; and the calls of each answer what its pages looked up.
-abbrev pub DrewTogether : {F : Type 0} → Given → (old new : Option (List ℕ)) → (capacity n status : ℕ) → EndingSeen → List Call → (before after : List (Worker F)) → List ℕ → Type 0
-DrewTogether g old new capacity n status e history before after bytes =
-    (IsIdle e × (history ≡ []) × (after ≡ before))
-    ⊎ OfRun g bytes (λ reading values. EndsPages old new (Unit {0}) (Unit {0}) e reading values
+-- once, to the end of the round of the page named; the calls of each answer what its pages looked up; and the tally is that of the pages
+-- written whole, with their black pixels where they were counted.
+abbrev pub DrewTogether : {F : Type 0} → Given → (counted : Bool) → (old new : Option (List ℕ)) → (capacity n status : ℕ) → EndingSeen → Option Tally → List Call → (before after : List (Worker F)) → List ℕ → Type 0
+DrewTogether g counted old new capacity n status e tally history before after bytes =
+    (IsIdle e × (tally ≡ None) × (history ≡ []) × (after ≡ before))
+    ⊎ OfRun g bytes (λ reading values. EndsPages old new (Unit {0}) (Unit {0}) e reading values × Tallied counted old new tally e values
     × DrewShares (pages_begun reading) n e after × EachUsed n before after (λ k _ now. Answered g reading capacity n status history k now))
 
 -- ---- the parts of a run
 
 -- the pages of a document were drawn by n workers, and it ended so
-pub record DrewPages {F : Type 0} (library : F → Option Files) (faults loads : F → ℕ) (g : Given) (reading : Reading) (capacity n : ℕ) (old new : Option (List ℕ)) (OutputFailed : Type 0) (e : EndingSeen) (history : List Call) (before after : List (Worker F)) : Type 0 where
-  pub ends : (values : List PageValue) × AreValues g reading values × EndsPages old new OutputFailed (Unit {0}) e reading values
+pub record DrewPages {F : Type 0} (library : F → Option Files) (faults loads : F → ℕ) (g : Given) (counted : Bool) (reading : Reading) (capacity n : ℕ) (old new : Option (List ℕ)) (OutputFailed : Type 0) (e : EndingSeen) (tally : Option Tally) (history : List Call) (before after : List (Worker F)) : Type 0 where
+  pub ends : (values : List PageValue) × AreValues g reading values × EndsPages old new OutputFailed (Unit {0}) e reading values × Tallied counted old new tally e values
   pub failed : (page : ℕ) → e ≡ Source page → SomeUsed n before after (FailedAt faults page)
   pub shares : DrewShares (pages_begun reading) n e after
   pub one : IsOneHistory capacity n (status_of e) history
   pub ran : EachUsed n before after (λ k was now. Ran (IsDrawnThrough n e) library faults loads g reading history (k + 1) was now)
 
 -- what holds of the workers after any run that ended so
-pub record AreDone {F : Type 0} (library : F → Option Files) (faults loads : F → ℕ) (told : Option Files) (capacity n status : ℕ) (e : EndingSeen) (history : List Call) (before after : List (Worker F)) : Type 0 where
+pub record AreDone {F : Type 0} (library : F → Option Files) (faults loads : F → ℕ) (told : Option Files) (capacity n status : ℕ) (e : EndingSeen) (tally : Option Tally) (history : List Call) (before after : List (Worker F)) : Type 0 where
+  pub counts : CountsTo tally e
   pub failed : (page : ℕ) → e ≡ Source page → SomeUsed n before after (FailedAt faults page)
   pub one : IsOneHistory capacity n status history
   pub worked : EachUsed n before after (λ k was now. Worked library faults loads told n status history k was now)

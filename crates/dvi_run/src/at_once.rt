@@ -18,11 +18,13 @@ ghost use Rattle.dvi_run.specs.Endings.{EndsPages, Source, seen_ending};
 ghost use Rattle.dvi_run.specs.Looked.{IsDrawnThrough};
 ghost use Rattle.dvi_run.specs.Shares.{DrewShares};
 ghost use Rattle.dvi_run.specs.Rounds.{FailedAt, IsFresh, Ran};
+ghost use Rattle.dvi_run.specs.Tally.{IsTally, Tallied};
 
 use crate::clearing::clear_all;
 use crate::ending::Ending;
 use crate::opening::open_cache;
 use crate::rounds::write_rounds;
+use crate::tally::Tally;
 use cache_core::Entry;
 use font_cache::CacheSeat;
 use font_decode::Decoded;
@@ -44,7 +46,8 @@ pub fn draw_over<R: Threads + Wait + Sync, F: FontSource + Send, O: Output>(
     index: &Index,
     sheet: &Sheet,
     out: &mut O,
-) -> (Ending, Vec<Entry>)
+    counted: bool,
+) -> (Ending, Tally, Vec<Entry>)
     ghost told: { Option Files }
     requires some { 1 ≤ length workers.old }
     requires few { length workers.old ≤ 32 }
@@ -57,29 +60,31 @@ pub fn draw_over<R: Threads + Wait + Sync, F: FontSource + Send, O: Output>(
     ensures ends { (values : List PageValue)
         × AreValues (record { library = told; res = index.now.res; sheet = sheet.now }) index.now.reading values
         × EndsPages (O.written out.old) (O.written out.new) (Rose (O.faults out.old) (O.faults out.new))
-        (Unit {0}) (seen_ending result.0) index.now.reading values }
+        (Unit {0}) (seen_ending result.0) index.now.reading values
+        × IsTally counted (O.written out.old) (O.written out.new) result.1 (seen_ending result.0) values }
     ensures cause { (page : ℕ) → seen_ending result.0 ≡ Source page → (k : ℕ) × (k < length workers.old)
         × ((d : _) → FailedAt F.faults page (slice_index_or workers.old k d) (slice_index_or workers.new k d)) }
     ensures shares { DrewShares (pages_begun index.now.reading) (length workers.old) (seen_ending result.0) workers.new }
-    ensures legal { Legal first.view.part.capacity (calls_of result.1.items) }
-    ensures made { AllMade (length workers.old + 1) (calls_of result.1.items) }
-    ensures first { own 0 (calls_of result.1.items) ≡ [] }
-    ensures few_claims { FewClaims (calls_of result.1.items) }
+    ensures legal { Legal first.view.part.capacity (calls_of result.2.items) }
+    ensures made { AllMade (length workers.old + 1) (calls_of result.2.items) }
+    ensures first { own 0 (calls_of result.2.items) ≡ [] }
+    ensures few_claims { FewClaims (calls_of result.2.items) }
     ensures workers { (k : ℕ) (d : _) → k < length workers.old
-        → Ran (IsDrawnThrough (length workers.old) (seen_ending result.0)) F.library F.faults F.loads (record { library = told; res = index.now.res; sheet = sheet.now }) index.now.reading (calls_of result.1.items) (k + 1)
+        → Ran (IsDrawnThrough (length workers.old) (seen_ending result.0)) F.library F.faults F.loads (record { library = told; res = index.now.res; sheet = sheet.now }) index.now.reading (calls_of result.2.items) (k + 1)
         (slice_index_or workers.old k d) (slice_index_or workers.new k d) }
     ensures output { O.faults out.old ≤ O.faults out.new }
 {
     let mut first = first;
     seat_all(&bench.cache, &mut first, workers);
-    let ending = write_rounds(rt, alloc, workers, &bench, index, sheet, out);
+    let (ending, tally) = write_rounds(rt, alloc, workers, &bench, index, sheet, out, counted);
     join_all(&bench.cache, &mut first, workers);
     clear_all(workers);
     let Bench { cache, units: _ } = bench;
-    (ending, cache.close(first))
+    (ending, tally, cache.close(first))
 }
 
 /// Draws and writes the pages with a new cache of so many fonts at most. The list of its calls goes into `history`.
+/// There is no tally where there is no memory for the cache.
 pub fn draw_at_once<R: Threads + Wait + Sync, F: FontSource + Send, O: Output>(
     rt: &R,
     alloc: Global,
@@ -89,7 +94,8 @@ pub fn draw_at_once<R: Threads + Wait + Sync, F: FontSource + Send, O: Output>(
     sheet: &Sheet,
     out: &mut O,
     history: &mut Vec<Entry>,
-) -> Ending
+    counted: bool,
+) -> (Ending, Option<Tally>)
     ghost told: { Option Files }
     requires some { 1 ≤ length workers.old }
     requires few { length workers.old ≤ 32 }
@@ -102,25 +108,28 @@ pub fn draw_at_once<R: Threads + Wait + Sync, F: FontSource + Send, O: Output>(
     ensures ends { (values : List PageValue)
         × AreValues (record { library = told; res = index.now.res; sheet = sheet.now }) index.now.reading values
         × EndsPages (O.written out.old) (O.written out.new) (Rose (O.faults out.old) (O.faults out.new))
-        (Unit {0}) (seen_ending result) index.now.reading values }
-    ensures cause { (page : ℕ) → seen_ending result ≡ Source page → (k : ℕ) × (k < length workers.old)
+        (Unit {0}) (seen_ending result.0) index.now.reading values
+        × Tallied counted (O.written out.old) (O.written out.new) result.1 (seen_ending result.0) values }
+    ensures cause { (page : ℕ) → seen_ending result.0 ≡ Source page → (k : ℕ) × (k < length workers.old)
         × ((d : _) → FailedAt F.faults page (slice_index_or workers.old k d) (slice_index_or workers.new k d)) }
-    ensures shares { DrewShares (pages_begun index.now.reading) (length workers.old) (seen_ending result) workers.new }
+    ensures shares { DrewShares (pages_begun index.now.reading) (length workers.old) (seen_ending result.0) workers.new }
     ensures legal { Legal capacity (calls_of history.new.items) }
     ensures made { AllMade (length workers.old + 1) (calls_of history.new.items) }
     ensures first { own 0 (calls_of history.new.items) ≡ [] }
     ensures few_claims { FewClaims (calls_of history.new.items) }
     ensures workers { (k : ℕ) (d : _) → k < length workers.old
-        → Ran (IsDrawnThrough (length workers.old) (seen_ending result)) F.library F.faults F.loads (record { library = told; res = index.now.res; sheet = sheet.now }) index.now.reading (calls_of history.new.items) (k + 1)
+        → Ran (IsDrawnThrough (length workers.old) (seen_ending result.0)) F.library F.faults F.loads (record { library = told; res = index.now.res; sheet = sheet.now }) index.now.reading (calls_of history.new.items) (k + 1)
         (slice_index_or workers.old k d) (slice_index_or workers.new k d) }
     ensures output { O.faults out.old ≤ O.faults out.new }
 {
     let units = index.units();
     let Ok((cache, first)) = open_cache(alloc, capacity, &units) else {
-        return Ending::Memory;
+        return (Ending::Memory, None);
     };
     let bench = Bench { cache, units };
-    let (ending, calls) = draw_over(rt, alloc, workers, bench, first, index, sheet, out);
+    let (ending, tally, calls) = draw_over(
+        rt, alloc, workers, bench, first, index, sheet, out, counted,
+    );
     *history = calls;
-    ending
+    (ending, Some(tally))
 }

@@ -10,7 +10,7 @@ use vf_expand::PageFault;
 pub enum Ending {
     /// All pages were written.
     Written,
-    /// There is a word.
+    /// The words are no line.
     Usage,
     /// The bytes that were read aren't a document.
     Document(DocFault),
@@ -26,6 +26,6 @@ pub enum Ending {
     Input,
     /// The output failed at this page.
     Output(usize),
-    /// Memory was wanting.
+    /// Memory ran out.
     Memory,
 }

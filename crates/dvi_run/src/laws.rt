@@ -1,9 +1,10 @@
 //! Laws over the definitions, each a clause of a function without a body.
-ghost use Rattle.dvi_run.specs.Laws.{EachPageHasItsEop, FaultsEndTheRun, GoodRunsWriteAlike, OneReading, OneRun, PagesAreShared, RunsEndAtTheFirstFault, RunsHaveFronts, RunsHaveNoFault, RunsOfGoodPages, StoppedRunsWriteAlike};
+ghost use Rattle.dvi_run.specs.Laws.{EachPageHasItsEop, FaultsEndTheRun, GoodRunsWriteAlike, NoArgumentsAskForTheDefaults, OneReading, OneRun, PagesAreShared, RunsEndAtTheFirstFault, RunsHaveFronts, RunsHaveNoFault, RunsOfGoodPages, StoppedRunsWriteAlike};
 
+use command_line::laws::given_settings;
 use page_index::laws::documents;
 
-/// A run writes the pages before the first that fails, and no page behind it matters.
+/// A run writes the pages before the first that fails, and no page after it matters.
 pub fn texts()
     ensures good { RunsOfGoodPages }
     ensures stopped { RunsEndAtTheFirstFault }
@@ -31,3 +32,10 @@ pub fn runs()
 pub fn shares()
     ensures { PagesAreShared }
 {}
+
+/// No arguments at all ask for the settings of `default_settings`.
+pub fn no_arguments()
+    ensures { NoArgumentsAskForTheDefaults }
+{
+    given_settings();
+}

@@ -5,6 +5,7 @@
 //! and the notes, each a part of its own that the calls' contracts don't name.
 #![tactic(auto)]
 
+mod arguments;
 mod at_once;
 mod clearing;
 mod ending;
@@ -13,13 +14,14 @@ mod note;
 mod opening;
 mod pages;
 mod reading;
+mod report;
 mod rounds;
 mod run;
-mod settings;
 mod stages;
+mod tally;
 #[cfg(test)]
 mod tests;
 mod texts;
 
+pub use command_line::{LineStop, Settings, default_settings, default_sheet, line};
 pub use run::{dvipbm_run, run_with};
-pub use settings::{Settings, default_settings, default_sheet};

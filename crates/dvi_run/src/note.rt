@@ -1,92 +1,93 @@
-//! Prints the line of a run's end.
+//! The line of a run's end.
+ghost use Rattle.std.specs.Prelude.{[]};
 ghost use Rattle.vf_expand.specs.Faults.{seen_fault};
-ghost use Rattle.dvi_run.specs.Endings.{IsTold, seen_ending};
+ghost use Rattle.run_report.specs.Puts.{Puts};
+ghost use Rattle.dvi_run.specs.Endings.{seen_ending};
 ghost use Rattle.dvi_run.specs.Lines.{document_line, line_of, output_line, page_line, source_line};
 
 use crate::ending::Ending;
 use crate::texts::document::{doc_name, place};
+use crate::texts::name::put_name;
 use crate::texts::page::put_fault;
-use crate::texts::puts::{put, put_name, put_number};
-use outside::{Gather, Output, write_all};
+use outside::{Gather, Output};
 use page_index::DocFault;
+use run_report::puts::{put, put_number};
 use vf_expand::PageFault;
 
-// Prints a line.
-fn tell<N: Output>(notes: &mut N, line: &[u8])
-    ensures { IsTold (N.written notes.old) (N.written notes.new) (N.faults notes.old)
-        (N.faults notes.new) line.now }
+// Puts the line of a document's fault.
+fn put_document<N: Output>(gather: &mut Gather, notes: &mut N, fault: &DocFault)
+    ensures { Puts gather.old gather.new (N.written notes.old) (N.written notes.new)
+        (N.faults notes.old) (N.faults notes.new) (document_line fault.now) }
 {
-    let _ = write_all(notes, line);
+    put(gather, notes, b"dvipbm: document: ");
+    put_name(gather, notes, &doc_name(fault));
+    put(gather, notes, b" at ");
+    put_number(gather, notes, place(fault));
+    put(gather, notes, b"\n");
 }
 
-// Prints the line of a document's fault.
-fn tell_document<N: Output>(notes: &mut N, fault: &DocFault)
-    ensures { IsTold (N.written notes.old) (N.written notes.new) (N.faults notes.old)
-        (N.faults notes.new) (document_line fault.now) }
-{
-    let name = doc_name(fault);
-    let mut gather = Gather::new();
-    put(&mut gather, notes, b"dvipbm: document: ");
-    put_name(&mut gather, notes, &name);
-    put(&mut gather, notes, b" at ");
-    put_number(&mut gather, notes, place(fault));
-    put(&mut gather, notes, b"\n");
-    let _ = gather.finish(notes);
-}
-
-// Prints the line of a page that fails at the command with this position.
-fn tell_page<N: Output>(notes: &mut N, page: usize, fault: &PageFault, at: usize)
-    ensures { IsTold (N.written notes.old) (N.written notes.new) (N.faults notes.old) (N.faults notes.new)
+// Puts the line of a page that fails at the command with this position.
+fn put_page<N: Output>(
+    gather: &mut Gather,
+    notes: &mut N,
+    page: usize,
+    fault: &PageFault,
+    at: usize,
+)
+    ensures { Puts gather.old gather.new (N.written notes.old) (N.written notes.new)
+        (N.faults notes.old) (N.faults notes.new)
         (page_line (record { page = page; fault = seen_fault fault.now; at = at })) }
 {
-    let mut gather = Gather::new();
-    put(&mut gather, notes, b"dvipbm: page ");
-    put_number(&mut gather, notes, page);
-    put(&mut gather, notes, b" at ");
-    put_number(&mut gather, notes, at);
-    put(&mut gather, notes, b": ");
-    put_fault(&mut gather, notes, fault);
-    put(&mut gather, notes, b"\n");
-    let _ = gather.finish(notes);
+    put(gather, notes, b"dvipbm: page ");
+    put_number(gather, notes, page);
+    put(gather, notes, b" at ");
+    put_number(gather, notes, at);
+    put(gather, notes, b": ");
+    put_fault(gather, notes, fault);
+    put(gather, notes, b"\n");
 }
 
-// Prints the line of a page that the source of the fonts failed at.
-fn tell_source<N: Output>(notes: &mut N, page: usize)
-    ensures { IsTold (N.written notes.old) (N.written notes.new) (N.faults notes.old)
-        (N.faults notes.new) (source_line page) }
+// Puts the line of a page that the source of the fonts failed at.
+fn put_source<N: Output>(gather: &mut Gather, notes: &mut N, page: usize)
+    ensures { Puts gather.old gather.new (N.written notes.old) (N.written notes.new)
+        (N.faults notes.old) (N.faults notes.new) (source_line page) }
 {
-    let mut gather = Gather::new();
-    put(&mut gather, notes, b"dvipbm: page ");
-    put_number(&mut gather, notes, page);
-    put(&mut gather, notes, b": font source failed\n");
-    let _ = gather.finish(notes);
+    put(gather, notes, b"dvipbm: page ");
+    put_number(gather, notes, page);
+    put(gather, notes, b": font source failed\n");
 }
 
-// Prints the line of a page that the output failed at.
-fn tell_output<N: Output>(notes: &mut N, page: usize)
-    ensures { IsTold (N.written notes.old) (N.written notes.new) (N.faults notes.old)
-        (N.faults notes.new) (output_line page) }
+// Puts the line of a page that the output failed at.
+fn put_output<N: Output>(gather: &mut Gather, notes: &mut N, page: usize)
+    ensures { Puts gather.old gather.new (N.written notes.old) (N.written notes.new)
+        (N.faults notes.old) (N.faults notes.new) (output_line page) }
 {
-    let mut gather = Gather::new();
-    put(&mut gather, notes, b"dvipbm: page ");
-    put_number(&mut gather, notes, page);
-    put(&mut gather, notes, b": output failed\n");
-    let _ = gather.finish(notes);
+    put(gather, notes, b"dvipbm: page ");
+    put_number(gather, notes, page);
+    put(gather, notes, b": output failed\n");
 }
 
-/// Prints the line of a run's end, or a front of it where the notes fail.
-pub fn print<N: Output>(notes: &mut N, ending: &Ending)
-    ensures { IsTold (N.written notes.old) (N.written notes.new) (N.faults notes.old)
-        (N.faults notes.new) (line_of (seen_ending ending.now)) }
+// Puts nothing.
+fn put_none<N: Output>(gather: &mut Gather, notes: &mut N)
+    ensures { Puts gather.old gather.new (N.written notes.old) (N.written notes.new)
+        (N.faults notes.old) (N.faults notes.new) [] }
+{
+    put(gather, notes, b"");
+}
+
+/// Puts the line of a run's end.
+pub fn put_end<N: Output>(gather: &mut Gather, notes: &mut N, ending: &Ending)
+    ensures { Puts gather.old gather.new (N.written notes.old) (N.written notes.new)
+        (N.faults notes.old) (N.faults notes.new) (line_of (seen_ending ending.now)) }
 {
     match ending {
-        Ending::Written => tell(notes, b""),
-        Ending::Usage => tell(notes, b"dvipbm: usage\n"),
-        Ending::Document(fault) => tell_document(notes, fault),
-        Ending::Page { page, fault, at } => tell_page(notes, *page, fault, *at),
-        Ending::Source(page) => tell_source(notes, *page),
-        Ending::Input => tell(notes, b"dvipbm: input failed\n"),
-        Ending::Output(page) => tell_output(notes, *page),
-        Ending::Memory => tell(notes, b"dvipbm: out of memory\n"),
+        Ending::Written => put_none(gather, notes),
+        Ending::Usage => put(gather, notes, b"dvipbm: usage\n"),
+        Ending::Document(fault) => put_document(gather, notes, fault),
+        Ending::Page { page, fault, at } => put_page(gather, notes, *page, fault, *at),
+        Ending::Source(page) => put_source(gather, notes, *page),
+        Ending::Input => put(gather, notes, b"dvipbm: input failed\n"),
+        Ending::Output(page) => put_output(gather, notes, *page),
+        Ending::Memory => put(gather, notes, b"dvipbm: out of memory\n"),
     }
 }

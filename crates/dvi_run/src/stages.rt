@@ -3,7 +3,7 @@ ghost use Rattle.std.specs.Prelude.{◌≡◌, ◌≤◌, ◌<◌, ℕ, Option, 
 ghost use Rattle.outside.specs.Counts.{Rose};
 ghost use Rattle.outside.specs.Library.{Files};
 ghost use Rattle.cache_core.specs.Views.{calls_of};
-ghost use Rattle.dvi_run.specs.Settings.{AreSettings};
+ghost use Rattle.command_line.specs.Settings.{AreSettings};
 ghost use Rattle.dvi_run.specs.Reading.{OfRead};
 ghost use Rattle.dvi_run.specs.Pages.{given_by};
 ghost use Rattle.dvi_run.specs.Endings.{EndsBytes, IsEnding, seen_ending, status_of};
@@ -12,8 +12,9 @@ ghost use Rattle.dvi_run.specs.Together.{AreDone, DrewPages, DrewTogether, IsRea
 use crate::at_once::draw_at_once;
 use crate::ending::Ending;
 use crate::reading::{ReadStop, read_all};
-use crate::settings::Settings;
+use crate::tally::Tally;
 use cache_core::Entry;
+use command_line::Settings;
 use outside::{FontSource, Input, Output};
 use page_index::{Index, IndexStop};
 use page_workers::Worker;
@@ -31,7 +32,7 @@ fn draw_pages<R: Threads + Wait + Sync, F: FontSource + Send, O: Output>(
     workers: &mut [Worker<F>],
     out: &mut O,
     history: &mut Vec<Entry>,
-) -> Ending
+) -> (Ending, Option<Tally>)
     ghost told: { Option Files }
     requires settings { AreSettings settings.now }
     requires there { settings.now.workers ≤ length workers.old }
@@ -39,9 +40,10 @@ fn draw_pages<R: Threads + Wait + Sync, F: FontSource + Send, O: Output>(
         → IsReady F.library told (slice_index_or workers.old k d) }
     requires empty { history.old.items ≡ [] }
     requires resolution { index.now.res ≡ settings.now.res }
-    ensures drew { DrewPages F.library F.faults F.loads (given_by told settings.now) index.now.reading
+    ensures drew { DrewPages F.library F.faults F.loads (given_by told settings.now)
+        settings.now.summary index.now.reading
         settings.now.cache settings.now.workers (O.written out.old) (O.written out.new)
-        (Rose (O.faults out.old) (O.faults out.new)) (seen_ending result) (calls_of history.new.items)
+        (Rose (O.faults out.old) (O.faults out.new)) (seen_ending result.0) result.1 (calls_of history.new.items)
         workers.old workers.new }
     ensures rest { RestIsKept settings.now.workers workers.old workers.new }
     ensures output { O.faults out.old ≤ O.faults out.new }
@@ -55,6 +57,7 @@ fn draw_pages<R: Threads + Wait + Sync, F: FontSource + Send, O: Output>(
         &settings.sheet,
         out,
         history,
+        settings.summary,
     )
 }
 
@@ -67,7 +70,7 @@ fn draw_document<R: Threads + Wait + Sync, F: FontSource + Send, O: Output>(
     workers: &mut [Worker<F>],
     out: &mut O,
     history: &mut Vec<Entry>,
-) -> Ending
+) -> (Ending, Option<Tally>)
     ghost told: { Option Files }
     requires settings { AreSettings settings.now }
     requires there { settings.now.workers ≤ length workers.old }
@@ -76,19 +79,19 @@ fn draw_document<R: Threads + Wait + Sync, F: FontSource + Send, O: Output>(
     requires empty { history.old.items ≡ [] }
     ensures ends { EndsBytes (O.written out.old) (O.written out.new) (Rose (O.faults out.old) (O.faults out.new))
         (SomeUsed settings.now.workers workers.old workers.new (SourceRose F.faults)) (out.new ≡ out.old)
-        (given_by told settings.now) bytes.now (seen_ending result) }
+        (given_by told settings.now) bytes.now (seen_ending result.0) }
     ensures done { AreDone F.library F.faults F.loads told settings.now.cache settings.now.workers
-        (status_of (seen_ending result)) (seen_ending result) (calls_of history.new.items)
+        (status_of (seen_ending result.0)) (seen_ending result.0) result.1 (calls_of history.new.items)
         workers.old workers.new }
-    ensures drew { DrewTogether (given_by told settings.now) (O.written out.old) (O.written out.new)
-        settings.now.cache settings.now.workers (status_of (seen_ending result)) (seen_ending result)
+    ensures drew { DrewTogether (given_by told settings.now) settings.now.summary (O.written out.old) (O.written out.new)
+        settings.now.cache settings.now.workers (status_of (seen_ending result.0)) (seen_ending result.0) result.1
         (calls_of history.new.items) workers.old workers.new bytes.now }
     ensures output { O.faults out.old ≤ O.faults out.new }
 {
     match Index::read(alloc, bytes, settings.res) {
         Ok(index) => draw_pages(rt, alloc, settings, &index, workers, out, history),
-        Err(IndexStop::Fault(fault)) => Ending::Document(fault),
-        Err(IndexStop::NoMemory) => Ending::Memory,
+        Err(IndexStop::Fault(fault)) => (Ending::Document(fault), None),
+        Err(IndexStop::NoMemory) => (Ending::Memory, None),
     }
 }
 
@@ -101,7 +104,7 @@ pub fn draw_input<R: Threads + Wait + Sync, I: Input, F: FontSource + Send, O: O
     workers: &mut [Worker<F>],
     out: &mut O,
     history: &mut Vec<Entry>,
-) -> Ending
+) -> (Ending, Option<Tally>)
     ghost told: { Option Files }
     requires settings { AreSettings settings.now }
     requires there { settings.now.workers ≤ length workers.old }
@@ -111,19 +114,19 @@ pub fn draw_input<R: Threads + Wait + Sync, I: Input, F: FontSource + Send, O: O
     ensures ends { IsEnding (O.written out.old) (O.written out.new) (Rose (O.faults out.old) (O.faults out.new))
         (SomeUsed settings.now.workers workers.old workers.new (SourceRose F.faults)) (out.new ≡ out.old)
         (Rose (I.faults input.old) (I.faults input.new)) (given_by told settings.now)
-        (I.left input.old) (I.left input.new) (seen_ending result) }
+        (I.left input.old) (I.left input.new) (seen_ending result.0) }
     ensures done { AreDone F.library F.faults F.loads told settings.now.cache settings.now.workers
-        (status_of (seen_ending result)) (seen_ending result) (calls_of history.new.items)
+        (status_of (seen_ending result.0)) (seen_ending result.0) result.1 (calls_of history.new.items)
         workers.old workers.new }
-    ensures drew { OfRead (I.left input.old) (DrewTogether (given_by told settings.now) (O.written out.old)
-        (O.written out.new) settings.now.cache settings.now.workers (status_of (seen_ending result))
-        (seen_ending result) (calls_of history.new.items) workers.old workers.new) }
+    ensures drew { OfRead (I.left input.old) (DrewTogether (given_by told settings.now) settings.now.summary (O.written out.old)
+        (O.written out.new) settings.now.cache settings.now.workers (status_of (seen_ending result.0))
+        (seen_ending result.0) result.1 (calls_of history.new.items) workers.old workers.new) }
     ensures input { I.faults input.old ≤ I.faults input.new }
     ensures output { O.faults out.old ≤ O.faults out.new }
 {
     match read_all(alloc, input) {
         Ok(bytes) => draw_document(rt, alloc, settings, bytes.as_slice(), workers, out, history),
-        Err(ReadStop::Failed) => Ending::Input,
-        Err(ReadStop::NoMemory) => Ending::Memory,
+        Err(ReadStop::Failed) => (Ending::Input, None),
+        Err(ReadStop::NoMemory) => (Ending::Memory, None),
     }
 }

@@ -1,12 +1,13 @@
 //! Runs in memory, with documents at half a dot for a unit (num 1270, den 3, mag 1000).
-ghost use Rattle.std.specs.Prelude.{◌≡◌, ◌≤◌};
+ghost use Rattle.std.specs.Prelude.{◌≡◌, ◌≤◌, None};
 ghost use Rattle.page_draw.specs.Sheets.{IsDrawable};
-ghost use Rattle.dvi_run.specs.Settings.{AreSettings};
+ghost use Rattle.command_line.specs.Settings.{AreSettings};
 
 mod alone;
 mod characters;
 mod desks;
 mod drawing;
+mod entries;
 mod faults;
 mod files;
 mod font_faults;
@@ -14,7 +15,13 @@ mod limits;
 mod machine;
 mod one;
 mod pages;
+mod reports;
 mod streams;
+mod virtual_faults;
+mod virtual_files;
+mod virtual_fonts;
+mod virtual_runs;
+mod words;
 mod workers;
 
 use crate::Settings;
@@ -158,6 +165,7 @@ fn on(sheet: Sheet) -> Settings
     requires { IsDrawable sheet }
     ensures allowed { AreSettings result }
     ensures one { result.workers ≡ 1 }
+    ensures own_document { result.sample ≡ None }
 {
     Settings {
         res: 300,
@@ -183,6 +191,7 @@ fn ends_on<R: Threads + Wait + Sync, F: FontSource + Send>(
 ) -> Result<bool, Fail>
     requires settings { AreSettings settings.now }
     requires one { settings.now.workers ≡ 1 }
+    requires own_document { settings.now.sample ≡ None }
 {
     let mut input = SureInput::new(Vec::from_slice(alloc, bytes)?);
     let mut out = MemOutput::new(alloc, 64, Vec::new(alloc));

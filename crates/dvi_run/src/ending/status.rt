@@ -1,17 +1,17 @@
 //! Exit statuses.
 ghost use Rattle.std.specs.Prelude.{◌≡◌};
-ghost use Rattle.dvi_run.specs.Endings.{seen_ending, status_of};
+ghost use Rattle.dvi_run.specs.Endings.{seen_ending, status_of, with_notes};
 
 use super::Ending;
 use vf_expand::PageFault;
 
 impl Ending {
-    /// The exit status.
-    pub fn status(&self) -> u8
-        ensures { result ≡ status_of (seen_ending self.now) }
+    /// The exit status, by whether the notes took the report.
+    pub fn status(&self, taken: bool) -> u8
+        ensures { result ≡ status_of (with_notes (seen_ending self.now) taken) }
     {
         match self {
-            Ending::Written => 0,
+            Ending::Written => if taken { 0 } else { 8 },
             Ending::Usage => 1,
             Ending::Document(_) => 2,
             Ending::Page {

@@ -2,7 +2,7 @@
 
 use super::{PUT_RULE, PUT_RULE_DOTS, document, ends, is_refused, page_text};
 use crate::ending::Ending;
-use crate::note::print;
+use crate::report::tell;
 use drift_rules::PenFault;
 use dvi_commands::CommandFault;
 use outside::MemOutput;
@@ -228,7 +228,7 @@ fn has_a_line_for_each_ending(rt: HostRuntime) -> Result<(), Fail> {
     ];
     for (ending, line) in lines {
         let mut notes = MemOutput::new(alloc, 7, Vec::new(alloc));
-        print(&mut notes, &ending);
+        let _ = tell(&mut notes, &ending);
         assert_eq!(rt; notes.bytes(), line);
     }
     Ok(())

@@ -1,36 +1,10 @@
-//! Words, and inputs, outputs and notes that fail.
+//! Inputs, outputs and notes that fail.
 
 use super::one::run_by_words;
 use super::{PUT_RULE, PUT_RULE_DOTS, document, ends, no_fonts, numbers, page_text};
 use outside::{MemInput, MemOutput};
 use std::process::Abort;
 use std::test::Fail;
-
-#[test]
-fn takes_no_words(rt: HostRuntime) -> Result<(), Fail> {
-    let alloc = rt.alloc();
-    let mut input = MemInput::new(Vec::from_slice(alloc, &PUT_RULE)?, 64, Vec::new(alloc));
-    let mut out = MemOutput::new(alloc, 64, Vec::new(alloc));
-    let mut notes = MemOutput::new(alloc, 64, Vec::new(alloc));
-    let words = vec![in alloc; String::from_str(alloc, "--trace")?]?;
-    let source = no_fonts(alloc)?;
-    let mut history = Vec::new(alloc);
-    let answer = run_by_words(
-        &rt,
-        alloc,
-        &words,
-        &mut input,
-        source,
-        &mut out,
-        &mut notes,
-        &mut history,
-    )?;
-    assert_eq!(rt; answer, 1);
-    assert!(rt; history.is_empty());
-    assert!(rt; out.bytes().is_empty());
-    assert_eq!(rt; notes.bytes(), b"dvipbm: usage\n".as_slice());
-    Ok(())
-}
 
 #[test]
 fn tells_what_failed(rt: HostRuntime) -> Result<(), Fail> {

@@ -1,7 +1,7 @@
 //! The faults of a document in words.
 ghost use Rattle.std.specs.Prelude.{◌≡◌, ◌++◌, codes};
 ghost use Rattle.dvi_run.specs.DocTexts.{command_text, doc_place, doc_text, field_text};
-ghost use Rattle.dvi_run.specs.Puts.{name_text};
+ghost use Rattle.dvi_run.specs.Names.{name_text};
 
 use crate::texts::name::Name;
 use dvi_commands::CommandFault;

@@ -1,7 +1,7 @@
 //! What is wrong with a font's files, in words.
 ghost use Rattle.std.specs.Prelude.{◌≡◌, ◌++◌, codes};
 ghost use Rattle.dvi_run.specs.FontTexts.{font_text, kind_text, pk_text, raster_text, tfm_text};
-ghost use Rattle.dvi_run.specs.Puts.{name_text};
+ghost use Rattle.dvi_run.specs.Names.{name_text};
 
 use crate::texts::name::Name;
 use crate::texts::virtual_font::vf_name;

@@ -1,9 +1,13 @@
 //! Texts with numbers.
 ghost use Rattle.std.specs.Prelude.{◌≡◌, ◌++◌};
-ghost use Rattle.dvi_run.specs.Puts.{name_text, number_text};
+ghost use Rattle.dvi_run.specs.Names.{name_text, number_text};
+ghost use Rattle.run_report.specs.Puts.{Puts};
 
-/// What a fault is called: a text with a number behind it or none, and a further text with a number
-/// behind it or none.
+use outside::{Gather, Output};
+use run_report::puts::{put, put_number};
+
+/// What a fault is called: a text with a number after it or none, and a further text with a number
+/// after it or none.
 #[derive(Clone, Copy, Debug)]
 pub struct Name {
     pub text: &'static [u8],
@@ -53,4 +57,25 @@ impl Name {
             last,
         }
     }
+}
+
+// Puts a number, if there is one.
+fn put_any<N: Output>(gather: &mut Gather, notes: &mut N, number: Option<i64>)
+    ensures { Puts gather.old gather.new (N.written notes.old) (N.written notes.new)
+        (N.faults notes.old) (N.faults notes.new) (number_text number) }
+{
+    if let Some(number) = number {
+        put_number(gather, notes, number);
+    }
+}
+
+/// Puts the name of a fault.
+pub fn put_name<N: Output>(gather: &mut Gather, notes: &mut N, name: &Name)
+    ensures { Puts gather.old gather.new (N.written notes.old) (N.written notes.new)
+        (N.faults notes.old) (N.faults notes.new) (name_text name.now) }
+{
+    put(gather, notes, name.text);
+    put_any(gather, notes, name.number);
+    put(gather, notes, name.more);
+    put_any(gather, notes, name.last);
 }

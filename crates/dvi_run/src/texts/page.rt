@@ -3,16 +3,18 @@ ghost use Rattle.std.specs.Prelude.{◌≡◌, ◌++◌, codes};
 ghost use Rattle.std.specs.Fmt.{signed_decimal};
 ghost use Rattle.vf_expand.specs.Faults.{seen_fault};
 ghost use Rattle.vf_expand.specs.Faults as page;
-ghost use Rattle.dvi_run.specs.FontTexts.{font_text, key_text};
+ghost use Rattle.run_report.specs.Keys.{key_text};
+ghost use Rattle.run_report.specs.Puts.{Puts};
+ghost use Rattle.dvi_run.specs.FontTexts.{font_text};
 ghost use Rattle.dvi_run.specs.PageTexts.{fault_text, pen_text};
-ghost use Rattle.dvi_run.specs.Puts.{Puts};
 
 use crate::texts::font::font_name;
-use crate::texts::key::put_key;
-use crate::texts::puts::{put, put_name, put_number};
+use crate::texts::name::put_name;
 use drift_rules::PenFault;
 use font_decode::FontFault;
 use outside::{FontKey, Gather, Output};
+use run_report::key::put_key;
+use run_report::puts::{put, put_number};
 use vf_expand::PageFault;
 
 // The name of a fault of the pen.

@@ -1,6 +1,6 @@
 //! What is wrong with a VF file, in words.
 ghost use Rattle.std.specs.Prelude.{◌≡◌, ◌++◌, codes};
-ghost use Rattle.dvi_run.specs.Puts.{name_text};
+ghost use Rattle.dvi_run.specs.Names.{name_text};
 ghost use Rattle.dvi_run.specs.VfTexts.{vf_text};
 
 use crate::texts::name::Name;

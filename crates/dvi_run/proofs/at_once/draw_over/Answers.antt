@@ -101,8 +101,8 @@ returns-clause-workers g c =
     _
     (λ h. none_released s part (ap (λ v. v.part.library) opens) (ap (λ v. v.part.units) opens) q.1.1.1.0 q.1.1.1.1.0 (k + 1) (get_or xs k d) (get_or ws k d) (q.1.1.1.1.1.1.1 k d lt)
     (c.seat_all.ensures.seated k d lt) (get_or now k d)
-    (c.write_rounds-ending.ensures.whole (subst (λ (n : ℕ). IsDrawnThrough n (seen_ending c.write_rounds-ending.result)) (sym long) h) k d there).trail left.seat left.is)
-    (λ h. (c.write_rounds-ending.ensures.whole (subst (λ (n : ℕ). IsDrawnThrough n (seen_ending c.write_rounds-ending.result)) (sym long) h) k d there).looked)
+    (c.write_rounds-ending.ensures.whole (subst (λ (n : ℕ). IsDrawnThrough n (seen_ending c.write_rounds-ending.result.0)) (sym long) h) k d there).trail left.seat left.is)
+    (λ h. (c.write_rounds-ending.ensures.whole (subst (λ (n : ℕ). IsDrawnThrough n (seen_ending c.write_rounds-ending.result.0)) (sym long) h) k d there).looked)
 
 pub returns-clause-first : goal.returns-clause-first
 returns-clause-first g c =
@@ -153,7 +153,7 @@ returns-clause-shares g c =
     let long : length ws ≡ length xs = search rules in
     let same : length now ≡ length ws = search rules in
     let joined : length c.join_all.new.workers ≡ length now = search rules in
-    let e = seen_ending c.write_rounds-ending.result in
+    let e = seen_ending c.write_rounds-ending.result.0 in
     let shares : DrewShares (pages_begun reading) (length xs) e now =
     subst (λ (n : ℕ). DrewShares (pages_begun reading) n e now) long c.write_rounds-ending.ensures.shares in
     drew_rest (pages_begun reading) (length xs) e now c.clear_all.new.workers shares

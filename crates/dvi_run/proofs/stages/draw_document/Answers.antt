@@ -21,13 +21,13 @@ returns-in-Ok-clause-ends g c =
     let n = c.args.settings.now.workers in
     pages_end (g.O.Output.written c.args.out.now) (g.O.Output.written c.draw_pages.new.out) (Rose (g.O.Output.faults c.args.out.now) (g.O.Output.faults c.draw_pages.new.out))
     (SomeUsed n c.args.workers.now c.draw_pages.new.workers (SourceRose g.F.FontSource.faults)) (c.draw_pages.new.out ≡ c.args.out.now) (given_by g.told c.args.settings.now) c.args.bytes.now
-    c.in-Ok.index.reading d.ends.0 c.in-Ok.ensures.document d.ends.1 (seen_ending c.draw_pages.result) (ends_used _ _ _ _ _ _ _ _ _ _ _ _ _ _ d)
+    c.in-Ok.index.reading d.ends.0 c.in-Ok.ensures.document d.ends.1 (seen_ending c.draw_pages.result.0) (ends_used _ _ _ _ _ _ _ _ _ _ _ _ _ _ _ _ d)
 
 pub returns-in-Ok-clause-done : goal.returns-in-Ok-clause-done
-returns-in-Ok-clause-done g c = are_done _ _ _ _ _ _ _ _ _ _ _ _ _ _ c.draw_pages.ensures.drew c.draw_pages.ensures.rest
+returns-in-Ok-clause-done g c = are_done _ _ _ _ _ _ _ _ _ _ _ _ _ _ _ _ c.draw_pages.ensures.drew c.draw_pages.ensures.rest
 
 pub returns-in-Ok-clause-drew : goal.returns-in-Ok-clause-drew
-returns-in-Ok-clause-drew g c = drew_together _ _ _ _ _ _ _ _ _ _ _ _ _ _ c.draw_pages.ensures.drew c.args.bytes.now c.in-Ok.ensures.document alone_is_history solo_is_one
+returns-in-Ok-clause-drew g c = drew_together _ _ _ _ _ _ _ _ _ _ _ _ _ _ _ _ c.draw_pages.ensures.drew c.args.bytes.now c.in-Ok.ensures.document alone_is_history solo_is_one
 
 pub returns-in-Err-Fault-clause-done : goal.returns-in-Err-Fault-clause-done
 returns-in-Err-Fault-clause-done g c = let q = c.requires.1.1.1.1.1 in idle_done _ _ _ _ _ _ _ _ _ _ q.1.1.0 tt (ap calls_of q.1.1.1)

@@ -35,7 +35,7 @@ returns-in-Ok-clause-ends g c =
     let OutputFailed = Rose (g.O.Output.faults c.args.out.now) (g.O.Output.faults c.draw_document.new.out) in
     let SourceFailed = SomeUsed c.args.settings.now.workers c.args.workers.now c.draw_document.new.workers (SourceRose g.F.FontSource.faults) in
     let Kept = c.draw_document.new.out ≡ c.args.out.now in
-    let e = seen_ending c.draw_document.result in
+    let e = seen_ending c.draw_document.result.0 in
     let ends = subst (λ (bytes : List ℕ). EndsBytes old new OutputFailed SourceFailed Kept given bytes e) c.as_slice.ensures.value c.draw_document.ensures.ends in
     bytes_end old new OutputFailed SourceFailed Kept given (Rose (g.I.Input.faults c.args.input.now) (g.I.Input.faults c.read_all.new.input)) (g.I.Input.left c.args.input.now)
     (g.I.Input.left c.read_all.new.input) _ c.in-Ok.ensures.bytes e ends
@@ -45,8 +45,8 @@ returns-in-Ok-clause-drew g c =
     let given : Given = given_by g.told c.args.settings.now in
     let old = g.O.Output.written c.args.out.now in
     let new = g.O.Output.written c.draw_document.new.out in
-    let e = seen_ending c.draw_document.result in
-    let Of = DrewTogether given old new c.args.settings.now.cache c.args.settings.now.workers (status_of e) e (calls_of c.draw_document.new.history.items) c.args.workers.now c.draw_document.new.workers in
+    let e = seen_ending c.draw_document.result.0 in
+    let Of = DrewTogether given c.args.settings.now.summary old new c.args.settings.now.cache c.args.settings.now.workers (status_of e) e c.draw_document.result.1 (calls_of c.draw_document.new.history.items) c.args.workers.now c.draw_document.new.workers in
     of_read Of (g.I.Input.left c.args.input.now) (g.I.Input.left c.read_all.new.input) _ c.in-Ok.ensures.bytes (subst Of c.as_slice.ensures.value c.draw_document.ensures.drew)
 
 pub returns-in-Err-Failed-clause-done : goal.returns-in-Err-Failed-clause-done
@@ -56,7 +56,7 @@ pub returns-in-Err-Failed-clause-drew : goal.returns-in-Err-Failed-clause-drew
 returns-in-Err-Failed-clause-drew g c =
     let q = c.requires.1.1.1.1.1.1 in
     let old = g.O.Output.written c.args.out.now in
-    idle_drew (given_by g.told c.args.settings.now) old old c.args.settings.now.cache c.args.settings.now.workers (status_of Input) Input (calls_of c.args.history.now.items) c.args.workers.now
+    idle_drew (given_by g.told c.args.settings.now) c.args.settings.now.summary old old c.args.settings.now.cache c.args.settings.now.workers (status_of Input) Input (calls_of c.args.history.now.items) c.args.workers.now
     (g.I.Input.left c.args.input.now) tt (ap calls_of q.1.1.1)
 
 pub returns-in-Err-NoMemory-clause-done : goal.returns-in-Err-NoMemory-clause-done
@@ -66,5 +66,5 @@ pub returns-in-Err-NoMemory-clause-drew : goal.returns-in-Err-NoMemory-clause-dr
 returns-in-Err-NoMemory-clause-drew g c =
     let q = c.requires.1.1.1.1.1.1 in
     let old = g.O.Output.written c.args.out.now in
-    idle_drew (given_by g.told c.args.settings.now) old old c.args.settings.now.cache c.args.settings.now.workers (status_of Memory) Memory (calls_of c.args.history.now.items) c.args.workers.now
+    idle_drew (given_by g.told c.args.settings.now) c.args.settings.now.summary old old c.args.settings.now.cache c.args.settings.now.workers (status_of Memory) Memory (calls_of c.args.history.now.items) c.args.workers.now
     (g.I.Input.left c.args.input.now) tt (ap calls_of q.1.1.1)

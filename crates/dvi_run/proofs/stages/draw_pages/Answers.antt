@@ -35,11 +35,13 @@ returns-clause-drew g c =
     let old = g.O.Output.written c.args.out.now in
     let new = g.O.Output.written c.draw_at_once.new.out in
     let P = Rose (g.O.Output.faults c.args.out.now) (g.O.Output.faults c.draw_at_once.new.out) in
-    let e = seen_ending c.draw_at_once.result in
+    let e = seen_ending c.draw_at_once.result.0 in
+    let tally = c.draw_at_once.result.1 in
+    let counted = c.args.settings.now.summary in
     let history = calls_of c.draw_at_once.new.history.items in
     let done = c.draw_at_once.ensures in
     let given : Given = record { library = g.told; res = c.args.index.now.res; sheet = sheet } in
-    let drew : DrewPages library faults loads given reading cache (length (take n ws)) old new P e history (take n ws) front =
+    let drew : DrewPages library faults loads given counted reading cache (length (take n ws)) old new P e tally history (take n ws) front =
     record {
       ends = done.ends;
       failed = done.cause;
@@ -47,10 +49,10 @@ returns-clause-drew g c =
       one = one_history library faults loads given (length (take n ws)) cache old new P reading done.ends.0 e history (take n ws) front done.ends.2 done.legal done.made done.first done.few_claims done.workers (λ k lt. one_of (take n ws) k lt);
       ran = done.workers;
     } in
-    let all : DrewPages library faults loads given reading cache n old new P e history (take n ws) front =
-    subst (λ (m : ℕ). DrewPages library faults loads given reading cache m old new P e history (take n ws) front) long drew in
-    subst (λ (r : ℕ). DrewPages library faults loads (record { library = g.told; res = r; sheet = sheet }) reading cache n old new P e history ws (front ++ drop n ws)) q.1.1.1.1
-    (of_front library faults loads given reading cache old new P e history n ws front (drop n ws) many all)
+    let all : DrewPages library faults loads given counted reading cache n old new P e tally history (take n ws) front =
+    subst (λ (m : ℕ). DrewPages library faults loads given counted reading cache m old new P e tally history (take n ws) front) long drew in
+    subst (λ (r : ℕ). DrewPages library faults loads (record { library = g.told; res = r; sheet = sheet }) counted reading cache n old new P e tally history ws (front ++ drop n ws)) q.1.1.1.1
+    (of_front library faults loads given counted reading cache old new P e tally history n ws front (drop n ws) many all)
 
 pub returns-clause-rest : goal.returns-clause-rest
 returns-clause-rest g c =

@@ -25,8 +25,8 @@ run_with-status-requires g c κs within =
                 (
                   search rules fits 100000 depth 60,
                   (
-                    record { resolution = search rules; sheet = search rules; workers = (omega arith, omega arith); cache = search rules; sample = refl; trace = refl; summary = refl },
-                    (omega (arith, long, made.count), (λ k d lt. ready_untold _ (get_or ws k d) (subst (λ xs. IsUnused (get_or xs k d)) (sym same) (made.unused k d lt)), search rules)),
+                    record { resolution = search rules; sheet = search rules; workers = (omega arith, omega arith); cache = search rules; sample = tt },
+                    (refl, (omega (arith, long, made.count), (λ k d lt. ready_untold _ (get_or ws k d) (subst (λ xs. IsUnused (get_or xs k d)) (sym same) (made.unused k d lt)), search rules))),
                   ),
                 ),
               ),

@@ -3,7 +3,8 @@ use Rattle.std.specs.Fmt.{signed_decimal}
 use Rattle.std.proofs.lemmas.Int.{ints}
 use Rattle.outside.specs.declared.keys.FontKey.{FontKey}
 use Rattle.vf_expand.specs.Faults.{NoLocalFont}
-use Rattle.dvi_run.specs.FontTexts.{font_text, key_text}
+use Rattle.run_report.specs.Keys.{key_text}
+use Rattle.dvi_run.specs.FontTexts.{font_text}
 use Rattle.dvi_run.specs.PageTexts.{fault_text}
 use Rattle.dvi_run.proofs.Puts.{puts_as}
 use Rattle.dvi_run.proofs.texts.page.put_fault.Goals as goal

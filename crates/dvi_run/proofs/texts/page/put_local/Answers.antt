@@ -1,7 +1,7 @@
 use Rattle.std.proofs.Common.{◌≡◌, ◌++◌, ℤ, arith, ap, codes, w32, to_z, of_z}
 use Rattle.std.specs.Fmt.{signed_decimal}
 use Rattle.std.proofs.lemmas.Int.{ints}
-use Rattle.dvi_run.specs.FontTexts.{key_text}
+use Rattle.run_report.specs.Keys.{key_text}
 use Rattle.dvi_run.proofs.Puts.{puts_as, puts_twice}
 use Rattle.dvi_run.proofs.texts.page.put_local.Goals as goal
 

@@ -1,0 +1,196 @@
+-- The end of a run after its report: it is as it was, but where all pages were written and the notes failed.
+use Rattle.std.proofs.Common.{◌≡◌, ◌∙◌, inl, inr, ℕ, Bool, true, false, List, [], ◌∷◌, ◌++◌, Option, Some, None, Result, Ok, Err, refl, sym, ap, get_or}
+use Rattle.std.specs.Prelude.{is_ok}
+use Rattle.outside.specs.Counts.{Rose}
+use Rattle.outside.specs.Library.{Files}
+use Rattle.outside.specs.Streams.{Writes}
+use Rattle.cache_core.specs.declared.calls.Call.{Call}
+use Rattle.page_draw.specs.Values.{PageValue}
+use Rattle.page_index.specs.Document.{Reading}
+use Rattle.page_workers.specs.declared.worker.Worker.{Worker}
+use Rattle.vf_expand.specs.Faults.{PageFaultSeen, seen_fault}
+use Rattle.dvi_run.specs.Reading.{OfRead}
+use Rattle.dvi_run.specs.Pages.{Given}
+use Rattle.dvi_run.specs.Endings.{EndingSeen, Written, Notes, IsAmong, IsEnding, IsTold, TellsBy, Tells, page_status, seen_ending, status_of, with_notes}
+use Rattle.dvi_run.specs.Lines.{line_of}
+use Rattle.dvi_run.specs.Report.{report_text, told_text}
+use Rattle.dvi_run.specs.Tally.{CountsTo, Tallied}
+use Rattle.dvi_run.specs.Together.{Answered, AreDone, DrewTogether, IsOneHistory, Worked}
+use Rattle.dvi_run.specs.declared.ending.Ending.{Ending}
+use Rattle.dvi_run.specs.declared.ending.Ending.TheVariants as code
+use Rattle.command_line.specs.declared.settings.Settings.{Settings}
+use Rattle.dvi_run.specs.declared.tally.Tally.{Tally}
+use Rattle.dvi_run.proofs.Clauses.{AtPage, at_page, of_each}
+
+-- ---- how it ended
+
+module _ (old new : Option (List ℕ)) (OutputFailed SourceFailed OutputKept InputFailed : Type 0) (g : Given) (left rest : Option (List ℕ)) where
+  abbrev Ends : EndingSeen → Type 0
+  Ends e = IsEnding old new OutputFailed SourceFailed OutputKept InputFailed g left rest e
+
+  pub ends_on : (x : Ending) (taken : Bool) → Ends (seen_ending x) → Ends (with_notes (seen_ending x) taken)
+  ends_on code.Written true h = h
+  ends_on code.Written false h = h
+  ends_on code.Usage taken h = h
+  ends_on (code.Document fault) taken h = h
+  ends_on (code.Page page fault at) taken h = h
+  ends_on (code.Source page) taken h = h
+  ends_on code.Input taken h = h
+  ends_on (code.Output page) taken h = h
+  ends_on code.Memory taken h = h
+
+-- ---- what the notes took
+
+-- a page's status isn't 8
+no_page : (n : ℕ) → AtPage n → n ≡ 8 → ⊥
+no_page n (inl three) is = let e : 3 ≡ 8 = sym three ∙ is in cc
+no_page n (inr four) is = let e : 4 ≡ 8 = sym four ∙ is in cc
+
+module _ {T E : Type 0} (old new : Option (List ℕ)) (before now : ℕ) (text : List ℕ) where
+  told_by : (r : Result T E) → Writes old new before now text r → Tells old new before now text
+  told_by (Ok v) w = inl w.grew
+  told_by (Err v) w = inr (w.grew, w.cause.rose refl)
+
+  pub line_told : (r : Result T E) → Writes old new before now text r → IsTold old new before now text
+  line_told r w = record { tells = told_by r w; count = w.cause.never_falls }
+
+  pub tells_on : (x : Ending) (r : Result T E) → Writes old new before now text r → TellsBy (with_notes (seen_ending x) (is_ok r)) old new before now text
+  tells_on code.Written (Ok v) w = w.grew
+  tells_on code.Written (Err v) w = (w.grew, w.cause.rose refl)
+  tells_on code.Usage r w = told_by r w
+  tells_on (code.Document fault) r w = told_by r w
+  tells_on (code.Page page fault at) r w = told_by r w
+  tells_on (code.Source page) r w = told_by r w
+  tells_on code.Input r w = told_by r w
+  tells_on (code.Output page) r w = told_by r w
+  tells_on code.Memory r w = told_by r w
+
+  pub failed_on : (x : Ending) (r : Result T E) → Writes old new before now text r → status_of (with_notes (seen_ending x) (is_ok r)) ≡ 8 → Rose before now
+  failed_on code.Written (Ok v) w is = cc
+  failed_on code.Written (Err v) w is = w.cause.rose refl
+  failed_on code.Usage r w is = cc
+  failed_on (code.Document fault) r w is = cc
+  failed_on (code.Page page fault at) r w is = absurd (no_page (page_status (seen_fault fault)) (at_page (seen_fault fault)) is)
+  failed_on (code.Source page) r w is = cc
+  failed_on code.Input r w is = cc
+  failed_on (code.Output page) r w is = cc
+  failed_on code.Memory r w is = cc
+
+-- ---- the report
+
+line_on : (x : Ending) (taken : Bool) → line_of (seen_ending x) ≡ line_of (with_notes (seen_ending x) taken)
+line_on code.Written true = refl
+line_on code.Written false = refl
+line_on code.Usage taken = refl
+line_on (code.Document fault) taken = refl
+line_on (code.Page page fault at) taken = refl
+line_on (code.Source page) taken = refl
+line_on code.Input taken = refl
+line_on (code.Output page) taken = refl
+line_on code.Memory taken = refl
+
+-- it is the same whether the notes took it or not
+pub report_on : (settings : Settings) (tally : Option Tally) (loads : ℕ) (history : List Call) (x : Ending) (taken : Bool)
+    → report_text settings tally loads history (seen_ending x) ≡ report_text settings tally loads history (with_notes (seen_ending x) taken)
+report_on settings None loads history x taken = line_on x taken
+report_on settings (Some t) loads history x taken = ap (λ (line : List ℕ). told_text settings t loads history ++ line) (line_on x taken)
+
+-- ---- what was drawn
+
+not_idle : IsAmong 8 (1 ∷ 2 ∷ 6 ∷ []) → ⊥
+not_idle (inl is) = cc
+not_idle (inr (inl is)) = cc
+not_idle (inr (inr (inl is))) = cc
+not_idle (inr (inr (inr none))) = none
+
+counts_8 : (tally : Option Tally) → CountsTo tally Written → CountsTo tally Notes
+counts_8 None h = h
+counts_8 (Some t) h = h
+
+tallied_8 : (counted : Bool) (old new : Option (List ℕ)) (tally : Option Tally) (values : List PageValue) → Tallied counted old new tally Written values → Tallied counted old new tally Notes values
+tallied_8 counted old new None values h = let is = h.0 in absurd cc
+tallied_8 counted old new (Some t) values h = record { few = h.few; black = h.black; next = tt; written = h.written }
+
+one_8 : (capacity n : ℕ) (history : List Call) → IsOneHistory capacity n 0 history → IsOneHistory capacity n 8 history
+one_8 capacity n history one = record {
+  legal = one.legal;
+  made = one.made;
+  none_of_first = one.none_of_first;
+  few_claims = one.few_claims;
+  kept = λ is. one.kept (inl refl);
+  idle = λ among. absurd (not_idle among);
+}
+
+module _ {F : Type 0} (library : F → Option Files) (faults loads : F → ℕ) (told : Option Files) (capacity n : ℕ) (tally : Option Tally) (history : List Call) (before after : List (Worker F)) where
+  worked_8 : (k : ℕ) (was now : Worker F) → Worked library faults loads told n 0 history k was now → Worked library faults loads told n 8 history k was now
+  worked_8 k was now w = record {
+    seat = w.seat;
+    none = w.none;
+    tells = w.tells;
+    count = w.count;
+    keys = w.keys;
+    answered = w.answered;
+    last = w.last;
+    kept = λ is. w.kept (inl (inl refl));
+    loaded = w.loaded;
+  }
+
+  abbrev Done : EndingSeen → Type 0
+  Done e = AreDone library faults loads told capacity n (status_of e) e tally history before after
+
+  pub done_on : (x : Ending) (taken : Bool) → Done (seen_ending x) → Done (with_notes (seen_ending x) taken)
+  done_on code.Written true h = h
+  done_on code.Written false h = record {
+    counts = counts_8 tally h.counts;
+    failed = λ page is. absurd cc;
+    one = one_8 capacity n history h.one;
+    worked = λ k d lt. worked_8 k (get_or before k d) (get_or after k d) (h.worked k d lt);
+    shares = h.shares;
+    rest = h.rest;
+  }
+  done_on code.Usage taken h = h
+  done_on (code.Document fault) taken h = h
+  done_on (code.Page page fault at) taken h = h
+  done_on (code.Source page) taken h = h
+  done_on code.Input taken h = h
+  done_on (code.Output page) taken h = h
+  done_on code.Memory taken h = h
+
+module _ {F : Type 0} (g : Given) (counted : Bool) (old new : Option (List ℕ)) (capacity n : ℕ) (tally : Option Tally) (history : List Call) (before after : List (Worker F)) where
+  abbrev Drew : EndingSeen → List ℕ → Type 0
+  Drew e bytes = DrewTogether g counted old new capacity n (status_of e) e tally history before after bytes
+
+  answered_8 : (reading : Reading) (k : ℕ) (w : Worker F) → Answered g reading capacity n 0 history k w → Answered g reading capacity n 8 history k w
+  answered_8 reading k w a = record {
+    keys = a.keys;
+    looked = a.looked;
+    through = λ is. a.through (inl (inl refl));
+    answered = a.answered;
+    one = λ single unbroken. a.one single (λ is. cc, λ is. cc);
+  }
+
+  drew_8 : (bytes : List ℕ) → Drew Written bytes → Drew Notes bytes
+  drew_8 bytes (inl idle) = absurd idle.0
+  drew_8 bytes (inr run) =
+      inr (
+        run.0,
+        run.1,
+        run.2,
+        (
+          run.3.0,
+          tallied_8 counted old new tally run.1 run.3.1,
+          record { drew = run.3.2.drew; begun = run.3.2.begun },
+          λ k d lt. answered_8 run.0 k (get_or after k d) (run.3.3 k d lt),
+        ),
+      )
+
+  pub drew_on : (x : Ending) (taken : Bool) (left : Option (List ℕ)) → OfRead left (Drew (seen_ending x)) → OfRead left (Drew (with_notes (seen_ending x) taken))
+  drew_on code.Written true left h = h
+  drew_on code.Written false left h = of_each (Drew Written) (Drew Notes) left drew_8 h
+  drew_on code.Usage taken left h = h
+  drew_on (code.Document fault) taken left h = h
+  drew_on (code.Page page fault at) taken left h = h
+  drew_on (code.Source page) taken left h = h
+  drew_on code.Input taken left h = h
+  drew_on (code.Output page) taken left h = h
+  drew_on code.Memory taken left h = h

@@ -1,0 +1,138 @@
+//! What a run tells in its notes, as one text.
+ghost use Rattle.std.specs.Prelude.{◌≡◌, ◌≤◌, length, true};
+ghost use Rattle.std.specs.List.{sum_by};
+ghost use Rattle.outside.specs.Streams.{Writes};
+ghost use Rattle.cache_core.specs.Views.{calls_of};
+ghost use Rattle.run_report.specs.Puts.{Puts};
+ghost use Rattle.run_report.specs.Summary.{summary_text};
+ghost use Rattle.run_report.specs.Trace.{trace_text};
+ghost use Rattle.dvi_run.specs.Endings.{IsTold, seen_ending, status_of, with_notes};
+ghost use Rattle.dvi_run.specs.Lines.{line_of};
+ghost use Rattle.dvi_run.specs.Report.{counts_of, if_asked, report_text, told_text};
+
+use crate::ending::Ending;
+use crate::note::put_end;
+use crate::tally::Tally;
+use cache_core::Entry;
+use command_line::Settings;
+use outside::{Failed, FontSource, Gather, Output};
+use page_workers::Worker;
+use run_report::{Counts, put_summary, put_trace};
+
+/// How many loads were asked of the sources of these workers, all of them together.
+pub fn loads_asked<F: FontSource>(workers: &[Worker<F>]) -> u128
+    requires few { length workers.now ≤ 32 }
+    ensures { result ≡ sum_by (λ w. w.loads) workers.now }
+{
+    let mut loads: u128 = 0;
+    for worker in workers {
+        loads += u128::from(worker.loads);
+    }
+    loads
+}
+
+// Puts the trace, if it is asked for.
+fn put_lines<N: Output>(gather: &mut Gather, notes: &mut N, asked: bool, history: &[Entry])
+    ensures { Puts gather.old gather.new (N.written notes.old) (N.written notes.new)
+        (N.faults notes.old) (N.faults notes.new)
+        (if_asked asked (trace_text (calls_of history.now))) }
+{
+    if asked {
+        put_trace(gather, notes, history);
+    }
+}
+
+// Puts the summary, if it is asked for.
+fn put_counts<N: Output>(
+    gather: &mut Gather,
+    notes: &mut N,
+    asked: bool,
+    tally: &Tally,
+    loads: u128,
+    history: &[Entry],
+)
+    ensures { Puts gather.old gather.new (N.written notes.old) (N.written notes.new)
+        (N.faults notes.old) (N.faults notes.new)
+        (if_asked asked (summary_text (counts_of tally.now loads) (calls_of history.now))) }
+{
+    if asked {
+        let counts = Counts {
+            pages: tally.pages as u64,
+            loads,
+            black: tally.black,
+        };
+        put_summary(gather, notes, &counts, history);
+    }
+}
+
+// Puts the trace and the summary, as far as they are asked for.
+fn put_told<N: Output>(
+    gather: &mut Gather,
+    notes: &mut N,
+    settings: &Settings,
+    tally: &Tally,
+    loads: u128,
+    history: &[Entry],
+)
+    ensures { Puts gather.old gather.new (N.written notes.old) (N.written notes.new)
+        (N.faults notes.old) (N.faults notes.new)
+        (told_text settings.now tally.now loads (calls_of history.now)) }
+{
+    put_lines(gather, notes, settings.trace, history);
+    put_counts(gather, notes, settings.summary, tally, loads, history);
+}
+
+// Puts all that a run tells as it ends.
+fn put_report<N: Output>(
+    gather: &mut Gather,
+    notes: &mut N,
+    settings: &Settings,
+    tally: &Option<Tally>,
+    loads: u128,
+    history: &[Entry],
+    ending: &Ending,
+)
+    ensures { Puts gather.old gather.new (N.written notes.old) (N.written notes.new)
+        (N.faults notes.old) (N.faults notes.new)
+        (report_text settings.now tally.now loads (calls_of history.now) (seen_ending ending.now)) }
+{
+    match tally {
+        None => put_end(gather, notes, ending),
+        Some(tally) => {
+            put_told(gather, notes, settings, tally, loads, history);
+            put_end(gather, notes, ending);
+        }
+    }
+}
+
+/// Prints what a run tells as it ends: the trace and the summary, as far as they are asked for and a
+/// cache was made, and the line of its end.
+pub fn print<N: Output>(
+    notes: &mut N,
+    settings: &Settings,
+    tally: &Option<Tally>,
+    loads: u128,
+    history: &[Entry],
+    ending: &Ending,
+) -> Result<(), Failed>
+    ensures { Writes (N.written notes.old) (N.written notes.new) (N.faults notes.old)
+        (N.faults notes.new) (report_text settings.now tally.now loads (calls_of history.now)
+        (seen_ending ending.now)) result }
+{
+    let mut gather = Gather::new();
+    put_report(&mut gather, notes, settings, tally, loads, history, ending);
+    gather.finish(notes)
+}
+
+/// Prints the line of a run that ends before anything was read, and that line alone. Answers its
+/// status.
+pub fn tell<N: Output>(notes: &mut N, ending: &Ending) -> u8
+    ensures status { result ≡ status_of (with_notes (seen_ending ending.now) true) }
+    ensures told { IsTold (N.written notes.old) (N.written notes.new) (N.faults notes.old)
+        (N.faults notes.new) (line_of (seen_ending ending.now)) }
+{
+    let mut gather = Gather::new();
+    put_end(&mut gather, notes, ending);
+    let _ = gather.finish(notes);
+    ending.status(true)
+}
