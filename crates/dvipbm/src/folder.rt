@@ -3,13 +3,16 @@ ghost use Rattle.std.specs.Prelude.{◌≡◌, ◌<◌, ◌^◌};
 
 use outside::{FileName, FontSource, LoadStop};
 use std::alloc::Global;
-use std::io::{self, ErrorKind, Read};
+use std::io::{self, BufReader, ErrorKind, Read};
 use std::path::PathBuf;
 use std::rt::Files;
 use std::{fs, str};
 
 /// One byte more than a font file may have.
 const MOST: u64 = 8_388_609;
+
+/// How many bytes of a font file are read at once.
+const PIECE: usize = 65_536;
 
 /// A folder of font files. A file that isn't there is none; every other error of a file is a failure.
 #[derive(Drop)]
@@ -42,7 +45,8 @@ impl<'a, R: Files> FolderFonts<'a, R> {
         let name = str::from_utf8(name.bytes()).map_err(|_| ErrorKind::InvalidInput)?;
         let path = self.folder.join(self.alloc, name)?;
         let mut bytes = Vec::new(self.alloc);
-        fs::open(self.rt, path)?.take(MOST).read_to_end(&mut bytes)?;
+        let file = fs::open(self.rt, path)?.take(MOST);
+        BufReader::with_capacity(self.alloc, PIECE, file)?.read_to_end(&mut bytes)?;
         Ok(bytes)
     }
 }
