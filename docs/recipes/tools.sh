@@ -22,11 +22,24 @@ usage() {
 
 need "$DVIPBM" 'nothing: run make in the repository'
 
-# sheets PAGES.pbm ROOM DEVICE OUT OPTION ..: gives drawn pages to a device of Ghostscript, each on a sheet of its size at 300 dots to the
-# inch, all of the first one's; in ROOM, an empty folder, they lie as PostScript meanwhile.
+# resolution OPTION ..: prints the dots to the inch that these options of dvipbm ask for.
+resolution() {
+  dots=300
+  while [ $# -gt 0 ]; do
+    case $1 in
+    --res=*) dots=${1#--res=} ;;
+    --res) dots=${2:-} ;;
+    esac
+    shift
+  done
+  echo "$dots"
+}
+
+# sheets PAGES.pbm ROOM DEVICE OUT RES OPTION ..: gives drawn pages to a device of Ghostscript, each on a sheet of its size at RES dots to
+# the inch, all of the first one's; in ROOM, an empty folder, they lie as PostScript meanwhile.
 sheets() {
-  pages=$1 room=$2 device=$3 out=$4
-  shift 4
+  pages=$1 room=$2 device=$3 out=$4 res=$5
+  shift 5
   need pamsplit netpbm
   need pnmtops netpbm
   need gs ghostscript
@@ -34,10 +47,10 @@ sheets() {
   size=$(head -n 2 "$room/0.pbm" | tail -n 1)
   for page in "$room"/*.pbm; do
     number=${page##*/}
-    pnmtops -quiet -dpi=300 -equalpixels -noturn -nocenter "$page" >"$room/$(printf %07d "${number%.pbm}").ps"
+    pnmtops -quiet -dpi="$res" -equalpixels -noturn -nocenter "$page" >"$room/$(printf %07d "${number%.pbm}").ps"
     rm "$page"
   done
-  wide=$(awk "BEGIN { print ${size% *} * 72 / 300 }") high=$(awk "BEGIN { print ${size#* } * 72 / 300 }")
+  wide=$(awk "BEGIN { print ${size% *} * 72 / $res }") high=$(awk "BEGIN { print ${size#* } * 72 / $res }")
   gs -q -dBATCH -dNOPAUSE -sDEVICE="$device" -dDEVICEWIDTHPOINTS="$wide" -dDEVICEHEIGHTPOINTS="$high" -dFIXEDMEDIA "$@" \
     -sOutputFile="$out" "$room"/*.ps >&2
 }

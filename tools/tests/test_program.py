@@ -139,13 +139,58 @@ class Environment(Folder):
 
 
 @needs_program
-class Words(unittest.TestCase):
-    def test_a_word_is_refused(self):
-        self.assertEqual(called(words=['--help']), (1, b'', 'dvipbm: usage\n'))
-        self.assertEqual(called(words=['']), (1, b'', 'dvipbm: usage\n'))
+class Arguments(unittest.TestCase):
+    def drawn(self, *words, data=RULE):
+        return called(words=words, stdin=held(data), env=environment(DVIPBM_FONTS=SAMPLE))
 
-    def test_a_word_that_is_not_utf_8(self):
+    def test_arguments_that_are_no_command_line(self):
+        for words in (['--help'], [''], ['page.dvi'], ['--'], ['--res'], ['--res', '0'], ['--res=4801'], ['--res=+300'], ['--width', '00000001'],
+                      ['--trace=1'], ['--workers', '33'], ['--trace', '--trace'], ['--summ'], ['--sample', '3']):
+            self.assertEqual(self.drawn(*words), (1, b'', 'dvipbm: usage\n'), words)
+
+    def test_an_argument_that_is_not_utf_8(self):
         self.assertEqual(called(words=[b'\xff']), (10, b'', ''))
+
+    def test_a_sheet(self):
+        """The rule has sides of 16 points, 67 dots at 300 to the inch, and its lower left dot stands at the origin."""
+        row = b'\xff' * 8 + b'\xe0\x00'
+        wanted = (0, b'P4\n80 70\n' + 67 * row + bytes(30), '')
+        self.assertEqual(self.drawn('--width', '80', '--height=70', '--left', '0', '--top=66'), wanted)
+        self.assertEqual(self.drawn('--top=66', '--workers=32', '--left=0000', '--height', '70', '--cache=256', '--width=80'), wanted)
+
+    def test_a_resolution(self):
+        """At 600 the sheet has twice the sides and margins, and the rule 133 dots a side."""
+        status, out, notes = self.drawn('--res', '600')
+        head = b'P4\n5100 6600\n'
+        rows = [out[len(head) + 638 * y:][:638] for y in range(6600)]
+        black = [(y, x) for y in (467, 468, 600, 601) for x in (599, 600, 732, 733) if rows[y][x // 8] & 0x80 >> x % 8]
+        self.assertEqual((status, notes, len(out), out[:len(head)]), (0, '', len(head) + 638 * 6600, head))
+        self.assertEqual(black, [(468, 600), (468, 732), (600, 600), (600, 732)])
+
+    def test_workers_write_the_same(self):
+        data = document([b'\xabT', b'\x89\x00\x10\x00\x00\x00\x10\x00\x00', b'', b'\xabTT', b'\xabT'], definition(0))
+        one = self.drawn(data=data)
+        self.assertEqual((one[0], one[1].count(PAGE), one[2]), (0, 5, ''))
+        for workers in ('2', '3', '32'):
+            self.assertTrue(self.drawn('--workers', workers, data=data) == one)
+
+    def test_trace_and_summary(self):
+        status, out, notes = self.drawn('--summary', '--trace', data=document([b'\xabT', b'\xabT'], definition(0)))
+        black = sum(byte.bit_count() for page in out.split(PAGE) for byte in page)
+        self.assertEqual((status, notes.splitlines()), (0, [
+            f'1 look {KEY} claimed', f'1 fill {KEY} evict -', f'1 look {KEY} hit',
+            'pages 2', 'looks 2', 'hits 1', 'claims 1', 'busy 0', 'evictions 0', 'releases 0', 'loads 3', f'black {black}']))
+        self.assertGreater(black, 0)
+
+    def test_a_fault_comes_last(self):
+        with tempfile.TemporaryDirectory() as folder:
+            ended = called(words=['--trace', '--summary'], stdin=held(LETTER), env=environment(DVIPBM_FONTS=folder))
+        self.assertEqual((ended[:2], ended[2].splitlines()), ((4, b''), [
+            f'1 look {KEY} claimed', f'1 fill {KEY} evict -',
+            'pages 0', 'looks 1', 'hits 0', 'claims 1', 'busy 0', 'evictions 0', 'releases 0', 'loads 1', 'black 0', MISSING[2].rstrip()]))
+
+    def test_a_run_without_a_cache_has_its_line_alone(self):
+        self.assertEqual(self.drawn('--trace', '--summary', data=b''), (2, b'', 'dvipbm: document: truncated at 0\n'))
 
 
 @needs_program
@@ -234,10 +279,15 @@ class Output(unittest.TestCase):
 
 @needs_program
 class Notes(unittest.TestCase):
-    def test_notes_that_fail_change_no_status(self):
+    def test_notes_that_fail_change_no_fault(self):
         for data, status in ((b'', 2), (LETTER[:-1], 2), (document(b'a'), 3), (RULE, 0)):
             with open('/dev/full', 'wb') as full:
                 self.assertEqual(called(stdin=held(data), stderr=full)[0], status)
+
+    def test_a_summary_that_fails(self):
+        with open('/dev/full', 'wb') as full:
+            ended = called(words=['--summary'], stdin=held(RULE), stderr=full)
+        self.assertEqual(ended[:2], (8, run(RULE)[1]))
 
     def test_notes_that_are_closed(self):
         self.assertEqual(called(stdin=held(b''), stderr=None, preexec_fn=lambda: os.close(2))[:2], (2, b''))

@@ -109,21 +109,27 @@ class Recipes(unittest.TestCase):
         self.recipe('to-raster', 'pages.pbm', 'pages.ras')
         self.same(rasters(read(self.path('pages.ras'))))
 
-    @needs('pamsplit', 'pamcut', 'pnmpad', 'pamtopnm')
-    def test_to_a4(self):
-        self.recipe('to-a4', 'pages.pbm', 'a4.pbm')
+    def test_draw_on_a4(self):
+        """The same dots on a narrower and higher sheet."""
+        self.recipe('draw', 'example.dvi', 'a4.pbm', '--width', '2480', '--height=3508')
         found, across = bitmaps(read(self.path('a4.pbm'))), 2480 // 8
-        cut = [(2480, 3508, b''.join(rows[y * ROW:y * ROW + across] for y in range(HIGH)) + bytes(208 * across)) for _, _, rows in self.pages]
-        self.assertEqual([it[:2] for it in found], [(2480, 3508)] * len(self.pages))
-        self.assertTrue(found == cut)
+        cut = [(2480, 3508, b''.join(rows[y * ROW:y * ROW + across] for y in range(HIGH))) for _, _, rows in self.pages]
+        self.assertEqual([(*it[:2], it[2][:HIGH * across]) for it in found], cut)
 
-    @needs('pamsplit', 'pamcut', 'pnmpad', 'pamtopnm', 'pnmtops', 'gs')
+    @needs('pamsplit', 'pnmtops', 'gs')
     def test_a4_to_pdf(self):
-        self.recipe('to-a4', 'pages.pbm', 'sheets.pbm')
+        self.recipe('draw', 'example.dvi', 'sheets.pbm', '--width', '2480', '--height=3508')
         self.recipe('to-pdf', 'sheets.pbm', 'sheets.pdf')
         found, wanted = self.shown('sheets.pdf'), bitmaps(read(self.path('sheets.pbm')))
         self.assertEqual([it[:2] for it in found], [(2480, 3508)] * len(wanted))
         self.assertTrue(found == wanted)
+
+    @needs('tex', 'mktexpk', 'mf')
+    def test_draw_at_600(self):
+        self.recipe('draw', 'example.dvi', 'fine.pbm', '--res', '600')
+        found = bitmaps(read(self.path('fine.pbm')))
+        self.assertEqual([it[:2] for it in found], [(5100, 6600)] * len(self.pages))
+        self.assertTrue(all(any(it[2]) for it in found))
 
     def copies(self, count):
         os.makedirs(self.path('many'), exist_ok=True)
