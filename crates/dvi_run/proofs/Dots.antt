@@ -1,9 +1,8 @@
 -- How many dots of a page can be black.
-use Rattle.std.proofs.Common.{◌≡◌, ℕ, zero, suc, ◌+◌, ◌*◌, ◌≤◌, Bool, true, false, cond, List, [], ◌∷◌, length, arith, subst, sym, Ok, Err}
+use Rattle.std.proofs.Common.{◌≡◌, ℕ, zero, suc, ◌*◌, ◌≤◌, Bool, true, false, List, [], ◌∷◌, length, arith, subst, sym, Ok}
 use Rattle.std.specs.List.{count_by, sum_by}
 use Rattle.std.proofs.Math.Nat.{mul-le-mul}
 use Rattle.std.proofs.lemmas.List.Sums.{count_by-le-length, sum_by_push}
-use Rattle.outside.specs.declared.keys.FontKey.{FontKey}
 use Rattle.drift_rules.specs.Position.{State, at_origin}
 use Rattle.drift_rules.specs.declared.flat.Registers.{Registers}
 use Rattle.packed_rows.specs.Bitmap.{Bitmap, from_fn}
@@ -15,7 +14,6 @@ use Rattle.vf_expand.specs.Course.{Course, Gives, Asks, Ends, Stops}
 use Rattle.page_draw.specs.Members.{marks_from}
 use Rattle.page_draw.specs.Sheets.{IsDrawable}
 use Rattle.page_draw.specs.Values.{EndsIn, bitmap_of, ended_with}
-use Rattle.page_draw.specs.declared.sheet.Sheet.{Sheet}
 use Rattle.page_index.specs.Document.{Reading}
 use Rattle.dvi_run.specs.Pages.{Given, IsValueOf}
 use Rattle.dvi_run.specs.Rounds.{black_of}

@@ -2,6 +2,7 @@ pub mod Told
 pub mod Puts
 pub mod Fronts
 pub mod OneRun
+pub mod WholeRuns
 pub mod Written
 pub mod Dots
 pub mod Outcomes

@@ -8,7 +8,7 @@ use Rattle.cache_core.specs.declared.calls.Call.{Call}
 use Rattle.page_draw.specs.Values.{PageValue}
 use Rattle.page_index.specs.Document.{Reading}
 use Rattle.page_workers.specs.declared.worker.Worker.{Worker}
-use Rattle.vf_expand.specs.Faults.{PageFaultSeen, seen_fault}
+use Rattle.vf_expand.specs.Faults.{seen_fault}
 use Rattle.dvi_run.specs.Reading.{OfRead}
 use Rattle.dvi_run.specs.Pages.{Given}
 use Rattle.dvi_run.specs.Endings.{EndingSeen, Written, Notes, IsAmong, IsEnding, IsTold, TellsBy, Tells, page_status, seen_ending, status_of, with_notes}

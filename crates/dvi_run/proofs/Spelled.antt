@@ -1,5 +1,5 @@
 -- The settings of lines that ask for no sample.
-use Rattle.std.proofs.Common.{◌≡◌, ◌∙◌, ◌≤◌, ℕ, List, Option, Some, None, refl, sym, ap}
+use Rattle.std.proofs.Common.{◌≡◌, ◌∙◌, ◌≤◌, ℕ, List, Option, Some, None, sym, ap}
 use Rattle.std.specs.Prelude.{is_none, if◌then◌else◌}
 use Rattle.command_line.specs.Line.{settings_of}
 use Rattle.command_line.specs.Settings.{AreSettings}

@@ -1,5 +1,5 @@
 -- The settings that a run takes from its arguments, today: a line may not ask for the sample yet.
-use Rattle.std.specs.Prelude.{◌≡◌, ℕ, List, Option, Some, None, is_none, if◌then◌else◌}
+use Rattle.std.specs.Prelude.{ℕ, List, Option, Some, None, is_none, if◌then◌else◌}
 use Rattle.command_line.specs.Line.{settings_of}
 use Rattle.command_line.specs.declared.settings.Settings.{Settings}
 

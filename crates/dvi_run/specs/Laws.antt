@@ -4,17 +4,18 @@ use Rattle.std.specs.List.{flat_map}
 use Rattle.std.specs.Io.KnownBytes.{Appends}
 use Rattle.outside.specs.Library.{Files}
 use Rattle.packed_rows.specs.Bitmap.{Bitmap}
-use Rattle.page_index.specs.Document.{Reading}
+use Rattle.page_index.specs.Document.{IsDocument, Reading}
 use Rattle.page_index.specs.Pages.{eop_at}
 use Rattle.page_index.specs.Faults.{IsFirstFault}
 use Rattle.page_index.specs.declared.faults.DocFault.{DocFault}
+use Rattle.font_decode.specs.Laws.{AreByteFiles}
 use Rattle.page_draw.specs.Values.{PageValue, PlacedFault}
 use Rattle.pbm_output.specs.Pbm.{page_text}
 use Rattle.command_line.specs.Settings.{default_settings}
 use Rattle.dvi_run.specs.Arguments.{run_settings}
 use Rattle.dvi_run.specs.Shares.{EachPageHasOneWorker}
 use Rattle.dvi_run.specs.Endings.{OfRun, Stopped, Wrote}
-use Rattle.dvi_run.specs.Pages.{FailingPage, Given, IsRun, failing_page, run_fault, run_text}
+use Rattle.dvi_run.specs.Pages.{FailingPage, Given, IsRun, IsWholeRun, failing_page, run_fault, run_text}
 
 abbrev pub good : Bitmap → PageValue
 good page = Ok page
@@ -46,6 +47,20 @@ OneReading = (g : Given) (bytes : List ℕ) (r s : Reading) (v w : List PageValu
 abbrev pub OneRun : Type 0
 OneRun = (g : Given) (files : Files) (bytes : List ℕ) (r s : Reading) (v w : List PageValue) → g.library ≡ Some files
     → IsRun g bytes r v → IsRun g bytes s w → length v ≤ length w → (rest : List PageValue) × (w ≡ v ++ rest)
+
+-- these are the values of all pages of a document, and there are no others
+pub record HasOneRun (g : Given) (bytes : List ℕ) (reading : Reading) : Type 0 where
+  pub values : List PageValue
+  pub whole : IsWholeRun g bytes reading values
+  pub only : (s : Reading) (others : List PageValue) → IsWholeRun g bytes s others
+      → others ≡ values
+
+-- where the font files are told, and are files of bytes, a document has exactly one list of the values
+-- of all its pages
+abbrev pub EachDocumentHasOneRun : Type 0
+EachDocumentHasOneRun = (g : Given) (files : Files) (bytes : List ℕ) (reading : Reading)
+    → AreByteFiles files → g.library ≡ Some files → IsDocument g.res bytes reading
+    → HasOneRun g bytes reading
 
 -- the first of some values are values too
 abbrev pub RunsHaveFronts : Type 0

@@ -1,5 +1,5 @@
 //! Laws over the definitions, each a clause of a function without a body.
-ghost use Rattle.dvi_run.specs.Laws.{EachPageHasItsEop, FaultsEndTheRun, GoodRunsWriteAlike, NoArgumentsAskForTheDefaults, OneReading, OneRun, PagesAreShared, RunsEndAtTheFirstFault, RunsHaveFronts, RunsHaveNoFault, RunsOfGoodPages, StoppedRunsWriteAlike};
+ghost use Rattle.dvi_run.specs.Laws.{EachDocumentHasOneRun, EachPageHasItsEop, FaultsEndTheRun, GoodRunsWriteAlike, NoArgumentsAskForTheDefaults, OneReading, OneRun, PagesAreShared, RunsEndAtTheFirstFault, RunsHaveFronts, RunsHaveNoFault, RunsOfGoodPages, StoppedRunsWriteAlike};
 
 use command_line::laws::given_settings;
 use page_index::laws::documents;
@@ -25,6 +25,15 @@ pub fn runs()
 {
     documents();
     page_index::laws::pages();
+    page_draw::laws::values();
+}
+
+/// Over font files that are told each document has exactly one list of the values of its pages, so that each
+/// run of it is that of the first of them.
+pub fn whole_runs()
+    ensures { EachDocumentHasOneRun }
+{
+    documents();
     page_draw::laws::values();
 }
 

@@ -1,4 +1,4 @@
-use Rattle.std.proofs.Common.{inl, inr, ◌≡◌, ◌≤◌, ◌<◌, ◌+◌, ◌-◌, ◌*◌, ℕ, suc, length, get_or, map, refl, sym, subst, ◌∙◌, arith, rules, add-one}
+use Rattle.std.proofs.Common.{inl, inr, ◌≡◌, ◌≤◌, ◌<◌, ◌+◌, ◌-◌, ℕ, suc, length, get_or, map, refl, sym, subst, ◌∙◌, arith, rules, add-one}
 use Rattle.outside.specs.Counts.{Rose}
 use Rattle.outside.proofs.Growth.{rose_later}
 use Rattle.page_index.specs.Document.{pages_begun}

@@ -1,8 +1,7 @@
-use Rattle.std.proofs.Common.{None, Err, inl, inr, get_or, ◌≡◌, [], refl, sym, ap, subst, rules, ◌<◌, ◌≤◌, ◌∙◌, ℕ, length, arith}
+use Rattle.std.proofs.Common.{None, Err, inl, inr, ◌≡◌, [], refl, sym, ap, rules, ◌≤◌, ◌∙◌, length, arith}
 use Rattle.cache_core.specs.Views.{calls_of}
 use Rattle.dvi_run.specs.Endings.{Memory, Usage}
 use Rattle.dvi_run.specs.Pages.{given_by}
-use Rattle.dvi_run.specs.Promises.{WasRefused}
 use Rattle.dvi_run.proofs.Promised.{idle_caused, idle_cut_short, idle_wrote, not_usage}
 use Rattle.dvi_run.proofs.Together.{idle_done, idle_drew}
 use Rattle.dvi_run.proofs.Spelled.{allowed, not_both, same_settings}
