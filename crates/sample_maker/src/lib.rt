@@ -3,10 +3,12 @@
 #![tactic(auto)]
 
 mod dvi;
+mod pk;
 mod tfm;
 mod vf;
 
 pub use dvi::document;
+pub use pk::pk_bytes;
 pub use tfm::tfm_bytes;
 pub use vf::vf_bytes;
 

@@ -1,0 +1,95 @@
+-- The PK file of given glyphs, each a plain bitmap: Rokicki, PKtype, "Packed file format".
+use Rattle.std.specs.Prelude.{ℕ, ◌+◌, ◌-◌, ◌*◌, ◌/◌, ◌%◌, ◌^◌, ◌<◌, ◌≤◌, ℤ, pos, negsuc, Bool, true, false, not, ◌&&◌, ◌==◌, List, [], ◌∷◌, ◌++◌, length, nat_lt, replicate, if◌then◌else◌, Option, Some, None}
+use Rattle.std.specs.Int.{div_ceil}
+use Rattle.std.specs.List.{flat_map, list_any}
+use Rattle.big_endian.specs.Numbers.{IsSigned, number_bytes}
+use Rattle.packed_rows.specs.Bitmap.{Bitmap, from_fn, is_black}
+use Rattle.packed_rows.specs.Packing.{row_text}
+use Rattle.pk_runs.specs.declared.glyph.Glyph.{Glyph}
+use Rattle.pk_packets.specs.Written.{Fields, extended_packet, long_packet, short_packet}
+
+-- ---- what is given: glyphs, each with its code
+
+-- no two glyphs have one code
+abbrev pub have_own_codes : List (ℕ × Glyph) → Bool
+have_own_codes [] = true
+have_own_codes (p ∷ glyphs) = not (list_any (λ q. q.0 == p.0) glyphs) && have_own_codes glyphs
+
+-- the bytes that the rasters take in a reader, each row in whole bytes
+abbrev pub size_sum : List (ℕ × Glyph) → ℕ
+size_sum [] = 0
+size_sum (p ∷ glyphs) = p.1.raster.height * div_ceil p.1.raster.width 8 + size_sum glyphs
+
+-- a raster by its pixels
+abbrev pub seen_raster : Bitmap → Bitmap
+seen_raster r = record { width = r.width; height = r.height; rows = from_fn r.height (λ y. from_fn r.width (λ x. is_black r x y)) }
+
+abbrev pub seen_glyph : Glyph → Glyph
+seen_glyph g = record { raster = seen_raster g.raster; hoff = g.hoff; voff = g.voff }
+
+-- the glyph of a code, where one is given
+abbrev pub glyph_given : List (ℕ × Glyph) → ℕ → Option Glyph
+glyph_given [] c = None
+glyph_given (p ∷ glyphs) c = if p.0 == c then Some (seen_glyph p.1) else glyph_given glyphs c
+
+-- what the types of a code and a glyph hold
+pub record IsMeasured (p : ℕ × Glyph) : Type 0 where
+  pub code : p.0 < 256
+  pub width : p.1.raster.width ≤ 16384
+  pub height : p.1.raster.height ≤ 16384
+  pub hoff : IsSigned 4 p.1.hoff
+  pub voff : IsSigned 4 p.1.voff
+
+-- ---- a plain bitmap
+
+-- row after row without padding between them
+unfoldable pub plain_pixels : Bitmap → List Bool
+plain_pixels r = from_fn (r.width * r.height) (λ i. is_black r (i % r.width) (i / r.width))
+
+-- eight pixels a byte, the first in the high bit, and zero bits behind the last one
+unfoldable pub plain_bytes : Bitmap → List ℕ
+plain_bytes r = row_text (plain_pixels r)
+
+-- ---- a packet
+
+-- the width and the escapements are e zero bytes
+abbrev pub fields : ℕ → ℕ × Glyph → Fields
+fields e p = record { code = p.0; dyn_f = 14; first_black = false; escapements = replicate e 0; width = p.1.raster.width; height = p.1.raster.height; hoff = p.1.hoff; voff = p.1.voff; raster = plain_bytes p.1.raster }
+
+-- the sides and the offsets, n bytes each
+abbrev pub sides : ℕ → Glyph → List ℕ
+sides n g = number_bytes n (pos g.raster.width) ++ (number_bytes n (pos g.raster.height) ++ (number_bytes n g.hoff ++ number_bytes n g.voff))
+
+-- n bytes hold the number in two's complement
+abbrev pub is_signed : ℕ → ℤ → Bool
+is_signed n (pos m) = nat_lt (2 * m) (256 ^ n)
+is_signed n (negsuc m) = nat_lt (2 * m) (256 ^ n)
+
+-- a form holds the numbers of a glyph: n bytes for each side and offset, and a length, of `fixed` bytes and the raster, below `most`
+abbrev pub has_form : ℕ → ℕ → ℕ → Glyph → Bool
+has_form n fixed most g =
+    nat_lt g.raster.width (256 ^ n) && nat_lt g.raster.height (256 ^ n) && is_signed n g.hoff && is_signed n g.voff
+    && nat_lt (fixed + length (plain_bytes g.raster)) most
+
+-- the first of the three forms that does
+unfoldable pub packet_item : ℕ × Glyph → List ℕ
+packet_item p =
+    if has_form 1 8 1024 p.1 then short_packet (fields 4 p)
+    else if has_form 2 13 196608 p.1 then extended_packet (fields 5 p)
+    else long_packet (fields 12 p)
+
+-- ---- the file
+
+-- no comment, a design size of ten points, the checksum 0, and 300 dots an inch either way
+abbrev pub pk_preamble : List ℕ
+pk_preamble = 0xf7 ∷ 0x59 ∷ 0 ∷ 0 ∷ 0xa0 ∷ 0 ∷ 0 ∷ 0 ∷ 0 ∷ 0 ∷ 0 ∷ 0 ∷ 0x04 ∷ 0x26 ∷ 0xae ∷ 0 ∷ 0x04 ∷ 0x26 ∷ 0xae ∷ []
+
+unfoldable pub pk_items : List (ℕ × Glyph) → List ℕ
+pk_items glyphs = pk_preamble ++ flat_map packet_item glyphs
+
+-- so many no-ops behind the closing command, before which these bytes stand, make a multiple of four
+abbrev pub no_ops_behind : ℕ → ℕ
+no_ops_behind n = (4 - (n + 1) % 4) % 4
+
+unfoldable pub pk_file : List (ℕ × Glyph) → List ℕ
+pk_file glyphs = pk_items glyphs ++ 245 ∷ replicate (no_ops_behind (length (pk_items glyphs))) 246
