@@ -32,13 +32,16 @@ abbrev pub glyph_given : List (ℕ × Glyph) → ℕ → Option Glyph
 glyph_given [] c = None
 glyph_given (p ∷ glyphs) c = if p.0 == c then Some (seen_glyph p.1) else glyph_given glyphs c
 
--- what the types of a code and a glyph hold
+-- what the types of a glyph and of a code hold
+pub record IsBounded (g : Glyph) : Type 0 where
+  pub width : g.raster.width ≤ 16384
+  pub height : g.raster.height ≤ 16384
+  pub hoff : IsSigned 4 g.hoff
+  pub voff : IsSigned 4 g.voff
+
 pub record IsMeasured (p : ℕ × Glyph) : Type 0 where
   pub code : p.0 < 256
-  pub width : p.1.raster.width ≤ 16384
-  pub height : p.1.raster.height ≤ 16384
-  pub hoff : IsSigned 4 p.1.hoff
-  pub voff : IsSigned 4 p.1.voff
+  pub glyph : IsBounded p.1
 
 -- ---- a plain bitmap
 

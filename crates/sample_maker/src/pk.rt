@@ -5,7 +5,7 @@ ghost use Rattle.big_endian.specs.Numbers.{IsSigned, number_bytes};
 ghost use Rattle.packed_rows.specs.Packing.{bits_value};
 ghost use Rattle.pk_packets.specs.Fonts.{IsAnswer, IsPkFile};
 ghost use Rattle.pk_packets.specs.Written.{extended_packet, long_packet, short_packet};
-ghost use Rattle.sample_maker.specs.PkFile.{IsMeasured, fields, glyph_given, has_form, have_own_codes, is_signed, no_ops_behind, packet_item, pk_file, plain_bytes, plain_pixels, sides, size_sum};
+ghost use Rattle.sample_maker.specs.PkFile.{IsBounded, IsMeasured, fields, glyph_given, has_form, have_own_codes, is_signed, no_ops_behind, packet_item, pk_file, plain_bytes, plain_pixels, sides, size_sum};
 
 use pk_runs::{Glyph, Raster};
 use std::alloc::{AllocError as NoMemory, Global};
@@ -19,6 +19,8 @@ const PLAIN: u8 = 14 << 4;
 fn area(raster: &Raster) -> usize
     ensures area { result ≡ raster.now.width * raster.now.height }
     ensures few { result ≤ 2 ^ 28 }
+    ensures narrow { raster.now.width ≤ 16384 }
+    ensures low { raster.now.height ≤ 16384 }
 {
     raster.width() as usize * raster.height() as usize
 }
@@ -27,6 +29,8 @@ fn area(raster: &Raster) -> usize
 fn byte_count(raster: &Raster) -> usize
     ensures count { result ≡ length (plain_bytes raster.now) }
     ensures few { result ≤ 2 ^ 25 }
+    ensures narrow { raster.now.width ≤ 16384 }
+    ensures low { raster.now.height ≤ 16384 }
 {
     area(raster).div_ceil(8)
 }
@@ -110,7 +114,8 @@ fn one_byte_holds(number: i32) -> bool
 
 // Whether two bytes do.
 fn two_bytes_hold(number: i32) -> bool
-    ensures { result ≡ is_signed 2 number }
+    ensures held { result ≡ is_signed 2 number }
+    ensures range { IsSigned 4 number }
 {
     -32768 <= number && number < 32768
 }
@@ -127,10 +132,13 @@ fn is_short(glyph: &Glyph) -> bool
 
 // Whether the extended form does. Each side fits there.
 fn is_extended(glyph: &Glyph) -> bool
-    ensures { result ≡ has_form 2 13 196608 glyph.now }
+    ensures form { result ≡ has_form 2 13 196608 glyph.now }
+    ensures bounded { IsBounded glyph.now }
 {
-    let offsets = two_bytes_hold(glyph.hoff) && two_bytes_hold(glyph.voff);
-    offsets && 13 + byte_count(&glyph.raster) < 3 * 65536
+    let hoff = two_bytes_hold(glyph.hoff);
+    let voff = two_bytes_hold(glyph.voff);
+    let length = 13 + byte_count(&glyph.raster);
+    hoff && voff && length < 3 * 65536
 }
 
 // Appends a packet in the short form.
@@ -160,6 +168,7 @@ fn append_extended(code: u8, glyph: &Glyph, out: &mut Vec<u8>) -> Result<(), NoM
 
 // Appends a packet in the long form.
 fn append_long(code: u8, glyph: &Glyph, out: &mut Vec<u8>) -> Result<(), NoMemory>
+    requires { IsBounded glyph.now }
     ensures { OnOk result (out.new.items ≡ out.old.items ++ long_packet (fields 12 (code, glyph.now))) }
 {
     let length = 28 + byte_count(&glyph.raster);
@@ -172,7 +181,8 @@ fn append_long(code: u8, glyph: &Glyph, out: &mut Vec<u8>) -> Result<(), NoMemor
 
 // Appends a packet in the first form that holds its numbers.
 fn append_packet(code: u8, glyph: &Glyph, out: &mut Vec<u8>) -> Result<(), NoMemory>
-    ensures { OnOk result (out.new.items ≡ out.old.items ++ packet_item (code, glyph.now)) }
+    ensures appended { OnOk result (out.new.items ≡ out.old.items ++ packet_item (code, glyph.now)) }
+    ensures measured { IsMeasured (code, glyph.now) }
 {
     if is_short(glyph) {
         append_short(code, glyph, out)
@@ -184,14 +194,6 @@ fn append_packet(code: u8, glyph: &Glyph, out: &mut Vec<u8>) -> Result<(), NoMem
 }
 
 // ---- the file
-
-// The sides of a glyph, which its type bounds, as it does the offsets and a code.
-fn measure(code: u8, glyph: &Glyph) -> (u32, u32)
-    ensures { IsMeasured (code, glyph.now) }
-{
-    let _offsets = (glyph.hoff, glyph.voff);
-    (glyph.raster.width(), glyph.raster.height())
-}
 
 // Appends the packets.
 fn append_packets(glyphs: &[(u8, Glyph)], out: &mut Vec<u8>) -> Result<(), NoMemory>
