@@ -1,17 +1,15 @@
 -- A packet in the first form that holds its numbers, and what it says.
-use Rattle.std.proofs.Common.{◌≡◌, ◌∙◌, inl, inr, ℕ, zero, suc, ◌+◌, ◌*◌, ◌/◌, ◌%◌, ◌^◌, ◌<◌, ◌≤◌, ℤ, pos, negsuc, Bool, true, false, List, ◌++◌, length, replicate, refl, sym, ap, subst, arith}
+use Rattle.std.proofs.Common.{◌≡◌, inl, inr, ℕ, zero, suc, ◌+◌, ◌*◌, ◌/◌, ◌%◌, ◌^◌, ◌<◌, ◌≤◌, ℤ, pos, negsuc, true, List, ◌++◌, length, replicate, refl, sym, ap, subst, arith}
 use Rattle.std.specs.Prelude.{nat_lt, ◌&&◌}
-use Rattle.std.specs.Int.{div_ceil}
 use Rattle.std.proofs.lemmas.Bool.{and_parts, cases_Bool, le-leb, lt-leb, lt-ltb, ltb-true}
 use Rattle.std.proofs.lemmas.List.{length-append}
 use Rattle.std.proofs.lemmas.Nat.{mul-le}
 use Rattle.big_endian.specs.Numbers.{IsSigned, number_bytes}
 use Rattle.big_endian.proofs.Bytes.{length-number_bytes}
-use Rattle.packed_rows.specs.Bitmap.{Bitmap}
 use Rattle.pk_runs.specs.Raster.{IsRaster}
 use Rattle.pk_runs.specs.declared.glyph.Glyph.{Glyph}
 use Rattle.pk_packets.specs.Items.{IsItem, head_size, is_packet, opcode, told_size}
-use Rattle.pk_packets.specs.Packets.{code_of, dyn_f_of, fixed_size, height_of, is_first_black, raster_of, width_of}
+use Rattle.pk_packets.specs.Packets.{code_of, dyn_f_of, fixed_size, height_of, is_first_black, width_of}
 use Rattle.pk_packets.specs.Fonts.{HasRaster, IsGlyphOf}
 use Rattle.pk_packets.specs.Written.{Fields, Fit, IsReadAs, extended_packet, flag_with, long_packet, packet_bytes, short_packet}
 use Rattle.pk_packets.proofs.Forms.{extended_packets_are_read_again, long_packets_are_read_again, short_packets_are_read_again}

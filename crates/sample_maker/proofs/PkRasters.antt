@@ -1,16 +1,16 @@
 -- A plain bitmap, and its pixels read again.
-use Rattle.std.proofs.Common.{◌≡◌, ◌∙◌, inl, inr, ℕ, zero, suc, ◌+◌, ◌-◌, ◌*◌, ◌/◌, ◌%◌, ◌^◌, ◌<◌, ◌≤◌, Bool, true, false, eqb, cond, List, [], ◌∷◌, ◌++◌, length, get_or, drop, replicate, refl, sym, ap, arith, pow-suc}
+use Rattle.std.proofs.Common.{◌≡◌, ◌∙◌, inl, inr, ℕ, zero, suc, ◌+◌, ◌-◌, ◌*◌, ◌/◌, ◌%◌, ◌^◌, ◌<◌, ◌≤◌, Bool, true, false, eqb, List, [], ◌∷◌, ◌++◌, length, get_or, drop, replicate, refl, sym, ap, arith, pow-suc}
 use Rattle.std.specs.Prelude.{if◌then◌else◌}
 use Rattle.std.specs.Int.{bit_at, div_ceil, from_bool}
 use Rattle.std.proofs.Math.Nat.{pow-le-pow_right}
-use Rattle.std.proofs.lemmas.Bool.{cases_Bool, eqb-true, or_left, or_right, eq-eqb}
-use Rattle.std.proofs.lemmas.List.{get_or-drop, get_or_past, replicate_more}
+use Rattle.std.proofs.lemmas.Bool.{cases_Bool, eqb-true}
+use Rattle.std.proofs.lemmas.List.{get_or-drop, replicate_more}
 use Rattle.std.proofs.lemmas.Nat.{div-mul-add, mod-mul-add, mul-add-lt}
 use Rattle.std.proofs.lemmas.Nat.Bits.{bit_at_lowest, bit_at-suc}
 use Rattle.packed_rows.specs.Bitmap.{Bitmap, from_fn, is_black}
 use Rattle.packed_rows.specs.Packing.{bits_value, pixel, row_text}
 use Rattle.packed_rows.proofs.Lists.{from_fn_past, from_fn_same, get_or-from_fn, length-from_fn}
-use Rattle.pk_runs.specs.Raster.{HasRows, IsPlainRaster, IsRaster, is_empty, plain_rows}
+use Rattle.pk_runs.specs.Raster.{IsRaster, is_empty, plain_rows}
 use Rattle.sample_maker.specs.PkFile.{plain_bytes, plain_pixels, seen_raster}
 
 -- ---- the bits of a byte

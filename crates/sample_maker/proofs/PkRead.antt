@@ -1,14 +1,14 @@
 -- A made PK file, read again.
-use Rattle.std.proofs.Common.{◌≡◌, ◌∙◌, inl, inr, ℕ, zero, suc, ◌+◌, ◌-◌, ◌*◌, ◌%◌, ◌<◌, ◌≤◌, true, false, List, [], ◌∷◌, ◌++◌, length, drop, map, Option, Some, None, refl, sym, ap, subst, arith, append_assoc, replicate}
-use Rattle.std.specs.Prelude.{All, IsTrue, ◌&&◌, ◌==◌, if◌then◌else◌}
+use Rattle.std.proofs.Common.{◌≡◌, ◌∙◌, inl, inr, ℕ, suc, ◌+◌, ◌*◌, ◌≤◌, false, List, [], ◌∷◌, ◌++◌, length, Option, Some, None, refl, sym, ap, subst, arith, append_assoc, replicate}
+use Rattle.std.specs.Prelude.{All, IsTrue, ◌==◌, if◌then◌else◌}
 use Rattle.std.specs.Int.{div_ceil}
 use Rattle.std.specs.List.{AllByRecursion, flat_map, list_any}
 use Rattle.std.proofs.lemmas.Bool.{and_parts, cases_Bool, cond-true, cond-false, eqb-true, le-ltb, not-true, or_parts}
 use Rattle.std.proofs.lemmas.List.{length-append}
 use Rattle.pk_runs.specs.declared.glyph.Glyph.{Glyph}
-use Rattle.pk_packets.specs.Preamble.{preamble_fault, preamble_size}
-use Rattle.pk_packets.specs.Items.{is_packet, text_of}
-use Rattle.pk_packets.specs.Packets.{code_of, height_of, raster_size, raster_sum, width_of}
+use Rattle.pk_packets.specs.Preamble.{preamble_fault}
+use Rattle.pk_packets.specs.Items.{text_of}
+use Rattle.pk_packets.specs.Packets.{height_of, raster_size, raster_sum, width_of}
 use Rattle.pk_packets.specs.Fonts.{AreSound, IsAnswer, IsPkFile}
 use Rattle.pk_packets.proofs.Added.{answered, within_limits}
 use Rattle.pk_packets.proofs.OneMeaning.{files_are_read_one_way}

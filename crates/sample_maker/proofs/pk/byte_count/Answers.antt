@@ -1,4 +1,4 @@
-use Rattle.std.proofs.Common.{◌∙◌, sym, arith}
+use Rattle.std.proofs.Common.{arith}
 use Rattle.sample_maker.proofs.PkRasters.{length_of_bytes}
 use Rattle.sample_maker.proofs.pk.byte_count.Goals as goal
 
