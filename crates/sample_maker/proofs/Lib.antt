@@ -17,3 +17,4 @@ pub mod PkRasters
 pub mod PkForms
 pub mod PkAppended
 pub mod PkRead
+pub mod PkLaws

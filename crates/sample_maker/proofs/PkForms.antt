@@ -56,7 +56,7 @@ short_head flag packet low = rw (lt-ltb flag 240 packet, le-leb (flag % 8) 3 low
 extended_head : (flag : ℕ) → flag < 240 → 4 ≤ flag % 8 → flag % 8 ≤ 6 → head_size flag + fixed_size flag ≡ 17
 extended_head flag packet above low = let apart : 3 < flag % 8 = omega arith in rw (lt-ltb flag 240 packet, lt-leb (flag % 8) 3 apart, le-leb (flag % 8) 6 low) refl
 
--- where the bytes of a packet are so many and the raster, its length reaches behind its fields
+-- a packet with the bytes of its fields has a length that counts them
 long_enough : (bytes : List ℕ) (n : ℕ) → IsItem bytes → head_size (opcode bytes) + fixed_size (opcode bytes) ≡ n → n ≤ length bytes → fixed_size (opcode bytes) ≤ told_size bytes
 long_enough bytes n item size enough = omega (arith, item.whole)
 
@@ -119,11 +119,16 @@ length_of_zeros : (n : ℕ) → length (replicate {A = ℕ} n 0) ≡ n
 length_of_zeros zero = refl
 length_of_zeros (suc n) = ap suc (length_of_zeros n)
 
+pub short_fits : (p : ℕ × Glyph) → p.0 < 256 → IsHeld 1 8 1024 p.1 → Fit (fields 4 p) 1 4 1 1024
+short_fits p code h = record { dyn_f = omega arith; code = omega arith; escapements = refl; width = h.width; height = h.height; hoff = h.hoff; voff = h.voff; raster = omega (arith, h.raster) }
+
+pub extended_fits : (p : ℕ × Glyph) → p.0 < 256 → IsHeld 2 13 196608 p.1 → Fit (fields 5 p) 1 5 2 196608
+extended_fits p code h = record { dyn_f = omega arith; code = omega arith; escapements = refl; width = h.width; height = h.height; hoff = h.hoff; voff = h.voff; raster = omega (arith, h.raster) }
+
 short_says : (p : ℕ × Glyph) → p.0 < 256 → IsHeld 1 8 1024 p.1 → IsPacketFor p (short_packet (fields 4 p))
 short_says p code h =
     let f = fields 4 p in
-    let fit : Fit f 1 4 1 1024 = record { dyn_f = omega arith; code = omega arith; escapements = refl; width = h.width; height = h.height; hoff = h.hoff; voff = h.voff; raster = omega (arith, h.raster) } in
-    let is = short_packets_are_read_again f fit in
+    let is = short_packets_are_read_again f (short_fits p code h) in
     let pl = 8 + length (plain_bytes p.1.raster) in
     let low : flag_with f (pl / 256) < 240 = omega (arith, h.raster) in
     let form : flag_with f (pl / 256) % 8 ≤ 3 = omega (arith, h.raster) in
@@ -134,8 +139,7 @@ short_says p code h =
 extended_says : (p : ℕ × Glyph) → p.0 < 256 → IsHeld 2 13 196608 p.1 → IsPacketFor p (extended_packet (fields 5 p))
 extended_says p code h =
     let f = fields 5 p in
-    let fit : Fit f 1 5 2 196608 = record { dyn_f = omega arith; code = omega arith; escapements = refl; width = h.width; height = h.height; hoff = h.hoff; voff = h.voff; raster = omega (arith, h.raster) } in
-    let is = extended_packets_are_read_again f fit in
+    let is = extended_packets_are_read_again f (extended_fits p code h) in
     let pl = 13 + length (plain_bytes p.1.raster) in
     let low : flag_with f (4 + pl / 65536) < 240 = omega (arith, h.raster) in
     let above : 4 ≤ flag_with f (4 + pl / 65536) % 8 = omega (arith, h.raster) in

@@ -1,6 +1,6 @@
 -- A plain bitmap, and its pixels read again.
 use Rattle.std.proofs.Common.{◌≡◌, ◌∙◌, inl, inr, ℕ, zero, suc, ◌+◌, ◌-◌, ◌*◌, ◌/◌, ◌%◌, ◌^◌, ◌<◌, ◌≤◌, Bool, true, false, eqb, List, [], ◌∷◌, ◌++◌, length, get_or, drop, replicate, refl, sym, ap, arith, pow-suc}
-use Rattle.std.specs.Prelude.{if◌then◌else◌}
+use Rattle.std.specs.Prelude.{All, if◌then◌else◌}
 use Rattle.std.specs.Int.{bit_at, div_ceil, from_bool}
 use Rattle.std.proofs.Math.Nat.{pow-le-pow_right}
 use Rattle.std.proofs.lemmas.Bool.{cases_Bool, eqb-true}
@@ -8,7 +8,7 @@ use Rattle.std.proofs.lemmas.List.{get_or-drop, replicate_more}
 use Rattle.std.proofs.lemmas.Nat.{div-mul-add, mod-mul-add, mul-add-lt}
 use Rattle.std.proofs.lemmas.Nat.Bits.{bit_at_lowest, bit_at-suc}
 use Rattle.packed_rows.specs.Bitmap.{Bitmap, from_fn, is_black}
-use Rattle.packed_rows.specs.Packing.{bits_value, pixel, row_text}
+use Rattle.packed_rows.specs.Packing.{IsPadded, bits_value, pixel, row_text}
 use Rattle.packed_rows.proofs.Lists.{from_fn_past, from_fn_same, get_or-from_fn, length-from_fn}
 use Rattle.pk_runs.specs.Raster.{IsRaster, is_empty, plain_rows}
 use Rattle.sample_maker.specs.PkFile.{plain_bytes, plain_pixels, seen_raster}
@@ -73,12 +73,16 @@ module _ (ps : List Bool) where
   abbrev byte : ℕ → ℕ
   byte i = bits_value 8 (drop (8 * i) ps)
 
+  small_bytes : All (λ b. b < 256) (row_text ps)
+  small_bytes i d lt =
+      let e : get_or (row_text ps) i d ≡ byte i = get_or-from_fn (div_ceil (length ps) 8) byte i d (omega (arith, lt, length-from_fn (div_ceil (length ps) 8) byte)) in
+      omega (arith, e, bits_below 8 (drop (8 * i) ps))
+
   pub length_of_text : length (row_text ps) ≡ div_ceil (length ps) 8
   length_of_text = length-from_fn (div_ceil (length ps) 8) byte
 
-  pub pixel_back : (x : ℕ) → x < length ps → pixel (row_text ps) x ≡ get_or ps x false
-  pixel_back x h =
-      let here : x / 8 < div_ceil (length ps) 8 = omega (arith, h) in
+  pub pixel_back : (x : ℕ) → x / 8 < div_ceil (length ps) 8 → pixel (row_text ps) x ≡ get_or ps x false
+  pixel_back x here =
       let k = x % 8 in
       let j = 7 - x % 8 in
       let eight : 8 ≡ j + suc k = omega arith in
@@ -117,15 +121,23 @@ module _ (r : Bitmap) where
   unfolding plain_pixels
   no_pixel i h = from_fn_past (r.width * r.height) dot i false h
 
-  pixel_again : (x y : ℕ) → x < r.width → y < r.height → is_black r x y ≡ pixel (plain_bytes r) (y * r.width + x)
+  pub padded_bytes : IsPadded (r.width * r.height) (plain_bytes r)
+  unfolding plain_bytes
+  padded_bytes = record {
+    len = length_of_bytes;
+    small = small_bytes (plain_pixels r);
+    zero_behind = λ i past h. pixel_back (plain_pixels r) i (omega (arith, h, length_of_text (plain_pixels r))) ∙ no_pixel i past;
+  }
+
+  pub pixel_again : (x y : ℕ) → x < r.width → y < r.height → is_black r x y ≡ pixel (plain_bytes r) (y * r.width + x)
   unfolding plain_bytes
   pixel_again x y in_row inside =
       let here : y * r.width + x < r.width * r.height = omega (arith, mul-add-lt y r.width x r.height inside in_row) in
       sym (
-        pixel_back (plain_pixels r) (y * r.width + x) (omega (arith, here, length_of_pixels))
-        ∙ sym (pixel_of (y * r.width + x) here)
-        ∙ ap (λ a. is_black r a ((y * r.width + x) / r.width)) (mod-mul-add y r.width x in_row)
-        ∙ ap (is_black r x) (div-mul-add y r.width x in_row)
+      pixel_back (plain_pixels r) (y * r.width + x) (omega (arith, here, length_of_pixels))
+      ∙ sym (pixel_of (y * r.width + x) here)
+      ∙ ap (λ a. is_black r a ((y * r.width + x) / r.width)) (mod-mul-add y r.width x in_row)
+      ∙ ap (is_black r x) (div-mul-add y r.width x in_row)
       )
 
   rows_again : (seen_raster r).rows ≡ plain_rows r.width r.height (plain_bytes r)

@@ -12,14 +12,14 @@ use Rattle.pk_packets.specs.Packets.{height_of, raster_size, raster_sum, width_o
 use Rattle.pk_packets.specs.Fonts.{AreSound, IsAnswer, IsPkFile}
 use Rattle.pk_packets.proofs.Added.{answered, within_limits}
 use Rattle.pk_packets.proofs.OneMeaning.{files_are_read_one_way}
-use Rattle.sample_maker.specs.PkFile.{IsMeasured, glyph_given, have_own_codes, no_ops_behind, packet_item, pk_file, pk_items, pk_preamble, seen_glyph, seen_raster, size_sum}
+use Rattle.sample_maker.specs.PkFile.{IsMeasured, glyph_given, have_own_codes, no_ops_after, packet_item, pk_file, pk_items, pk_preamble, seen_glyph, seen_raster, size_sum}
 use Rattle.sample_maker.proofs.PkForms.{IsPacketFor, packet_says}
 
--- ---- packets behind those before them, the last one first
+-- ---- packets after those before them, the last one first
 
-abbrev pub behind : List (List ℕ) → List (ℕ × Glyph) → List (List ℕ)
-behind before [] = before
-behind before (p ∷ glyphs) = behind (packet_item p ∷ before) glyphs
+abbrev pub after : List (List ℕ) → List (ℕ × Glyph) → List (List ℕ)
+after before [] = before
+after before (p ∷ glyphs) = after (packet_item p ∷ before) glyphs
 
 abbrev AreFor : List (ℕ × Glyph) → Type 0
 AreFor glyphs = AllByRecursion (λ p. IsPacketFor p (packet_item p)) glyphs
@@ -28,10 +28,10 @@ are_for : (glyphs : List (ℕ × Glyph)) → All IsMeasured glyphs → AreFor gl
 are_for [] m = tt
 are_for (p ∷ glyphs) m = (packet_says p (m 0 p (omega arith)), are_for glyphs (λ k q lt. m (suc k) q (omega (arith, lt))))
 
-text_behind : (glyphs : List (ℕ × Glyph)) (before : List (List ℕ)) (rest : List ℕ) → text_of (behind before glyphs) ++ rest ≡ text_of before ++ (flat_map packet_item glyphs ++ rest)
-text_behind [] before rest = refl
-text_behind (p ∷ glyphs) before rest =
-    text_behind glyphs (packet_item p ∷ before) rest
+text_after : (glyphs : List (ℕ × Glyph)) (before : List (List ℕ)) (rest : List ℕ) → text_of (after before glyphs) ++ rest ≡ text_of before ++ (flat_map packet_item glyphs ++ rest)
+text_after [] before rest = refl
+text_after (p ∷ glyphs) before rest =
+    text_after glyphs (packet_item p ∷ before) rest
     ∙ append_assoc (text_of before) (packet_item p) (flat_map packet_item glyphs ++ rest)
     ∙ ap (λ t. text_of before ++ t) (sym (append_assoc (packet_item p) (flat_map packet_item glyphs) rest))
 
@@ -40,12 +40,12 @@ text_behind (p ∷ glyphs) before rest =
 size_of : (p : ℕ × Glyph) (bytes : List ℕ) → IsPacketFor p bytes → raster_size bytes ≡ p.1.raster.height * div_ceil p.1.raster.width 8
 size_of p bytes is = ap (λ h. h * div_ceil (width_of bytes) 8) is.height ∙ ap (λ w. p.1.raster.height * div_ceil w 8) is.width
 
-sum_behind : (p : ℕ × Glyph) (bytes : List ℕ) (before : List (List ℕ)) → IsPacketFor p bytes → raster_sum (bytes ∷ before) ≡ raster_sum before + p.1.raster.height * div_ceil p.1.raster.width 8
-sum_behind p bytes before is = ap (λ b. raster_sum before + (if b then raster_size bytes else 0)) is.kind ∙ ap (λ n. raster_sum before + n) (size_of p bytes is)
+sum_after : (p : ℕ × Glyph) (bytes : List ℕ) (before : List (List ℕ)) → IsPacketFor p bytes → raster_sum (bytes ∷ before) ≡ raster_sum before + p.1.raster.height * div_ceil p.1.raster.width 8
+sum_after p bytes before is = ap (λ b. raster_sum before + (if b then raster_size bytes else 0)) is.kind ∙ ap (λ n. raster_sum before + n) (size_of p bytes is)
 
-sound_behind : (glyphs : List (ℕ × Glyph)) (before : List (List ℕ)) → All IsMeasured glyphs → AreFor glyphs → AreSound before → raster_sum before + size_sum glyphs ≤ 8388608 → AreSound (behind before glyphs)
-sound_behind [] before m are sound few = sound
-sound_behind (p ∷ glyphs) before m are sound few =
+sound_after : (glyphs : List (ℕ × Glyph)) (before : List (List ℕ)) → All IsMeasured glyphs → AreFor glyphs → AreSound before → raster_sum before + size_sum glyphs ≤ 8388608 → AreSound (after before glyphs)
+sound_after [] before m are sound few = sound
+sound_after (p ∷ glyphs) before m are sound few =
     let item = packet_item p in
     let is = are.0 in
     let here : IsMeasured p = m 0 p (omega arith) in
@@ -53,9 +53,9 @@ sound_behind (p ∷ glyphs) before m are sound few =
     let low : height_of item ≤ 16384 = omega (arith, is.height, here.glyph.height) in
     let size = size_of p item is in
     let within = within_limits item before is.long narrow low (omega (arith, few, size)) in
-    sound_behind glyphs (item ∷ before) (λ k q lt. m (suc k) q (omega (arith, lt))) are.1
+    sound_after glyphs (item ∷ before) (λ k q lt. m (suc k) q (omega (arith, lt))) are.1
     (sound, is.item, λ _. (within, seen_raster p.1.raster, is.raster))
-    (omega (arith, few, sum_behind p item before is))
+    (omega (arith, few, sum_after p item before is))
 
 -- ---- the glyphs
 
@@ -71,7 +71,7 @@ one_more : (p : ℕ × Glyph) (before : List (List ℕ)) (c : ℕ) (old new : Op
 one_more p before c old new is answer e =
     answered (packet_item p) before c (seen_glyph p.1) old new is.kind is.glyph answer (e ∙ ap (λ (k : ℕ). if k == c then Some (seen_glyph p.1) else old) (sym is.code))
 
-not_replaced : (glyphs : List (ℕ × Glyph)) (before : List (List ℕ)) (c : ℕ) (old : Option Glyph) → AreFor glyphs → glyph_given glyphs c ≡ None → IsAnswer before c old → IsAnswer (behind before glyphs) c old
+not_replaced : (glyphs : List (ℕ × Glyph)) (before : List (List ℕ)) (c : ℕ) (old : Option Glyph) → AreFor glyphs → glyph_given glyphs c ≡ None → IsAnswer before c old → IsAnswer (after before glyphs) c old
 not_replaced [] before c old are none answer = answer
 not_replaced (p ∷ glyphs) before c old are none answer = elim (cases_Bool (p.0 == c)) [
   | inl same ↦ let some : Some (seen_glyph p.1) ≡ None = sym (cond-true (p.0 == c) (Some (seen_glyph p.1)) (glyph_given glyphs c) same) ∙ none in cc
@@ -80,19 +80,19 @@ not_replaced (p ∷ glyphs) before c old are none answer = elim (cases_Bool (p.0
       not_replaced glyphs (packet_item p ∷ before) c old are.1 rest (one_more p before c old old are.0 answer (sym (cond-false (p.0 == c) (Some (seen_glyph p.1)) old other)))
 ]
 
-glyphs_there : (glyphs : List (ℕ × Glyph)) (before : List (List ℕ)) (c : ℕ) → AreFor glyphs → IsTrue (have_own_codes glyphs) → IsAnswer before c None → IsAnswer (behind before glyphs) c (glyph_given glyphs c)
+glyphs_there : (glyphs : List (ℕ × Glyph)) (before : List (List ℕ)) (c : ℕ) → AreFor glyphs → IsTrue (have_own_codes glyphs) → IsAnswer before c None → IsAnswer (after before glyphs) c (glyph_given glyphs c)
 glyphs_there [] before c are own answer = answer
 glyphs_there (p ∷ glyphs) before c are own answer = elim (cases_Bool (p.0 == c)) [
   | inl same ↦
       let code : p.0 ≡ c = eqb-true p.0 c same in
       let alone : glyph_given glyphs c ≡ None = ap (glyph_given glyphs) (sym code) ∙ none_given glyphs p.0 (not-true _ (and_parts _ _ own).0) in
       let found : glyph_given (p ∷ glyphs) c ≡ Some (seen_glyph p.1) = cond-true (p.0 == c) (Some (seen_glyph p.1)) (glyph_given glyphs c) same in
-      subst (λ (o : Option Glyph). IsAnswer (behind before (p ∷ glyphs)) c o) (sym found)
+      subst (λ (o : Option Glyph). IsAnswer (after before (p ∷ glyphs)) c o) (sym found)
       (not_replaced glyphs (packet_item p ∷ before) c (Some (seen_glyph p.1)) are.1 alone
       (one_more p before c None (Some (seen_glyph p.1)) are.0 answer (sym (cond-true (p.0 == c) (Some (seen_glyph p.1)) None same))))
   | inr other ↦
       let passed : glyph_given (p ∷ glyphs) c ≡ glyph_given glyphs c = cond-false (p.0 == c) (Some (seen_glyph p.1)) (glyph_given glyphs c) other in
-      subst (λ (o : Option Glyph). IsAnswer (behind before (p ∷ glyphs)) c o) (sym passed)
+      subst (λ (o : Option Glyph). IsAnswer (after before (p ∷ glyphs)) c o) (sym passed)
       (glyphs_there glyphs (packet_item p ∷ before) c are.1 (and_parts _ _ own).1
       (one_more p before c None None are.0 answer (sym (cond-false (p.0 == c) (Some (seen_glyph p.1)) None other))))
 ]
@@ -115,10 +115,10 @@ right_preamble rest =
 
 module _ (glyphs : List (ℕ × Glyph)) (m : All IsMeasured glyphs) (own : IsTrue (have_own_codes glyphs)) (few : size_sum glyphs ≤ 8388608) where
   abbrev packets : List (List ℕ)
-  packets = behind [] glyphs
+  packets = after [] glyphs
 
   abbrev tail : List ℕ
-  tail = replicate (no_ops_behind (length (pk_items glyphs))) 246
+  tail = replicate (no_ops_after (length (pk_items glyphs))) 246
 
   parts : pk_file glyphs ≡ pk_preamble ++ (flat_map packet_item glyphs ++ 245 ∷ tail)
   unfolding pk_file pk_items
@@ -127,9 +127,9 @@ module _ (glyphs : List (ℕ × Glyph)) (m : All IsMeasured glyphs) (own : IsTru
   pub is_file : IsPkFile (pk_file glyphs) packets
   is_file = subst (λ (bytes : List ℕ). IsPkFile bytes packets) (sym parts) (record {
     begins = right_preamble (flat_map packet_item glyphs ++ 245 ∷ tail);
-    sound = sound_behind glyphs [] m (are_for glyphs m) tt (omega (arith, few));
+    sound = sound_after glyphs [] m (are_for glyphs m) tt (omega (arith, few));
     unused = tail;
-    whole = sym (text_behind glyphs [] (245 ∷ tail));
+    whole = sym (text_after glyphs [] (245 ∷ tail));
   })
 
   pub glyphs_again : (items : List (List ℕ)) → IsPkFile (pk_file glyphs) items → (c : ℕ) → IsAnswer items c (glyph_given glyphs c)
@@ -140,8 +140,8 @@ module _ (glyphs : List (ℕ × Glyph)) (m : All IsMeasured glyphs) (own : IsTru
 -- ---- the bytes as they are appended
 
 pub pk_file_made : (glyphs : List (ℕ × Glyph)) (v a b c : List ℕ) → v ≡ [] → a ≡ v ++ pk_preamble → b ≡ a ++ flat_map packet_item glyphs
-    → c ≡ b ++ 245 ∷ replicate (no_ops_behind (length b)) 246 → c ≡ pk_file glyphs
+    → c ≡ b ++ 245 ∷ replicate (no_ops_after (length b)) 246 → c ≡ pk_file glyphs
 unfolding pk_file pk_items
 pk_file_made glyphs v a b c ev ea eb ec =
     let items : b ≡ pk_preamble ++ flat_map packet_item glyphs = eb ∙ ap (λ t. t ++ flat_map packet_item glyphs) (ea ∙ ap (λ t. t ++ pk_preamble) ev) in
-    ec ∙ ap (λ t. t ++ 245 ∷ replicate (no_ops_behind (length t)) 246) items
+    ec ∙ ap (λ t. t ++ 245 ∷ replicate (no_ops_after (length t)) 246) items

@@ -1,12 +1,12 @@
 -- The PK file of given glyphs, each a plain bitmap: Rokicki, PKtype, "Packed file format".
-use Rattle.std.specs.Prelude.{ℕ, ◌+◌, ◌-◌, ◌*◌, ◌/◌, ◌%◌, ◌^◌, ◌<◌, ◌≤◌, ℤ, pos, negsuc, Bool, true, false, not, ◌&&◌, ◌==◌, List, [], ◌∷◌, ◌++◌, length, nat_lt, replicate, if◌then◌else◌, Option, Some, None}
+use Rattle.std.specs.Prelude.{◌≡◌, ℕ, ◌+◌, ◌-◌, ◌*◌, ◌/◌, ◌%◌, ◌^◌, ◌<◌, ◌≤◌, ℤ, pos, negsuc, Bool, true, false, not, ◌&&◌, ◌==◌, List, [], ◌∷◌, ◌++◌, length, nat_lt, replicate, if◌then◌else◌, Option, Some, None}
 use Rattle.std.specs.Int.{div_ceil}
 use Rattle.std.specs.List.{flat_map, list_any}
 use Rattle.big_endian.specs.Numbers.{IsSigned, number_bytes}
-use Rattle.packed_rows.specs.Bitmap.{Bitmap, from_fn, is_black}
-use Rattle.packed_rows.specs.Packing.{row_text}
+use Rattle.packed_rows.specs.Bitmap.{Bitmap, IsShaped, from_fn, is_black}
+use Rattle.packed_rows.specs.Packing.{IsPadded, pixel, row_text}
 use Rattle.pk_runs.specs.declared.glyph.Glyph.{Glyph}
-use Rattle.pk_packets.specs.Written.{Fields, extended_packet, long_packet, short_packet}
+use Rattle.pk_packets.specs.Written.{Fields, Fit, extended_packet, long_packet, short_packet}
 
 -- ---- what is given: glyphs, each with its code
 
@@ -49,7 +49,7 @@ pub record IsMeasured (p : ℕ × Glyph) : Type 0 where
 unfoldable pub plain_pixels : Bitmap → List Bool
 plain_pixels r = from_fn (r.width * r.height) (λ i. is_black r (i % r.width) (i / r.width))
 
--- eight pixels a byte, the first in the high bit, and zero bits behind the last one
+-- eight pixels a byte, the first in the high bit, and zero bits after the last one
 unfoldable pub plain_bytes : Bitmap → List ℕ
 plain_bytes r = row_text (plain_pixels r)
 
@@ -90,9 +90,31 @@ pk_preamble = 0xf7 ∷ 0x59 ∷ 0 ∷ 0 ∷ 0xa0 ∷ 0 ∷ 0 ∷ 0 ∷ 0 ∷ 0 �
 unfoldable pub pk_items : List (ℕ × Glyph) → List ℕ
 pk_items glyphs = pk_preamble ++ flat_map packet_item glyphs
 
--- so many no-ops behind the closing command, before which these bytes stand, make a multiple of four
-abbrev pub no_ops_behind : ℕ → ℕ
-no_ops_behind n = (4 - (n + 1) % 4) % 4
+-- so many no-ops after the closing command, before which so many bytes stand, make a multiple of four
+abbrev pub no_ops_after : ℕ → ℕ
+no_ops_after n = (4 - (n + 1) % 4) % 4
 
 unfoldable pub pk_file : List (ℕ × Glyph) → List ℕ
-pk_file glyphs = pk_items glyphs ++ 245 ∷ replicate (no_ops_behind (length (pk_items glyphs))) 246
+pk_file glyphs = pk_items glyphs ++ 245 ∷ replicate (no_ops_after (length (pk_items glyphs))) 246
+
+-- ---- laws
+
+-- a raster whose rows have its size is what is seen of it
+abbrev pub ShapedRastersAreSeenWhole : Type 0
+ShapedRastersAreSeenWhole = (r : Bitmap) → IsShaped r → seen_raster r ≡ r
+
+-- a plain bitmap has as few bytes as its pixels take, and no bit after the last; the pixels of a row stand after those of the rows above it
+abbrev pub PlainBitmapsArePacked : Type 0
+PlainBitmapsArePacked = (r : Bitmap) → IsPadded (r.width * r.height) (plain_bytes r)
+    × ((x y : ℕ) → x < r.width → y < r.height → pixel (plain_bytes r) (y * r.width + x) ≡ is_black r x y)
+
+-- a packet has the short form where that holds its numbers, else the extended form where that does, else the long one
+abbrev pub PacketsHaveTheFirstForm : Type 0
+PacketsHaveTheFirstForm = (p : ℕ × Glyph) → p.0 < 256
+    → (Fit (fields 4 p) 1 4 1 1024 → short_packet (fields 4 p) ≡ packet_item p)
+    × ((Fit (fields 4 p) 1 4 1 1024 → ⊥) → Fit (fields 5 p) 1 5 2 196608 → extended_packet (fields 5 p) ≡ packet_item p)
+    × ((Fit (fields 4 p) 1 4 1 1024 → ⊥) → (Fit (fields 5 p) 1 5 2 196608 → ⊥) → long_packet (fields 12 p) ≡ packet_item p)
+
+-- a file has a multiple of four bytes
+abbrev pub FilesAreMultiplesOfFour : Type 0
+FilesAreMultiplesOfFour = (glyphs : List (ℕ × Glyph)) → length (pk_file glyphs) % 4 ≡ 0

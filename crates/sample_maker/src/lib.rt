@@ -8,7 +8,7 @@ mod tfm;
 mod vf;
 
 pub use dvi::document;
-pub use pk::pk_bytes;
+pub use pk::{made_pk_files, pk_bytes};
 pub use tfm::tfm_bytes;
 pub use vf::vf_bytes;
 

@@ -5,7 +5,7 @@ ghost use Rattle.big_endian.specs.Numbers.{IsSigned, number_bytes};
 ghost use Rattle.packed_rows.specs.Packing.{bits_value};
 ghost use Rattle.pk_packets.specs.Fonts.{IsAnswer, IsPkFile};
 ghost use Rattle.pk_packets.specs.Written.{extended_packet, long_packet, short_packet};
-ghost use Rattle.sample_maker.specs.PkFile.{IsBounded, IsMeasured, fields, glyph_given, has_form, have_own_codes, is_signed, no_ops_behind, packet_item, pk_file, plain_bytes, plain_pixels, sides, size_sum};
+ghost use Rattle.sample_maker.specs.PkFile.{FilesAreMultiplesOfFour, IsBounded, IsMeasured, PacketsHaveTheFirstForm, PlainBitmapsArePacked, ShapedRastersAreSeenWhole, fields, glyph_given, has_form, have_own_codes, is_signed, no_ops_after, packet_item, pk_file, plain_bytes, plain_pixels, sides, size_sum};
 
 use pk_runs::{Glyph, Raster};
 use std::alloc::{AllocError as NoMemory, Global};
@@ -26,6 +26,7 @@ fn area(raster: &Raster) -> usize
 }
 
 // How many bytes its plain bitmap takes.
+#[tactic(auto, using(crate::proofs::PkRasters::length_of_bytes))]
 fn byte_count(raster: &Raster) -> usize
     ensures count { result ≡ length (plain_bytes raster.now) }
     ensures few { result ≤ 2 ^ 25 }
@@ -35,7 +36,7 @@ fn byte_count(raster: &Raster) -> usize
     area(raster).div_ceil(8)
 }
 
-// Whether a pixel is black, by its place, counted row after row. White behind the last pixel.
+// Whether a pixel is black, by its place, counted row after row. White after the last pixel.
 fn is_dark(raster: &Raster, place: usize) -> bool
     ensures { result ≡ slice_index_or (plain_pixels raster.now) place false }
 {
@@ -209,7 +210,7 @@ fn append_packets(glyphs: &[(u8, Glyph)], out: &mut Vec<u8>) -> Result<(), NoMem
 
 // Appends the closing command, and no-ops up to a multiple of four.
 fn append_closing(out: &mut Vec<u8>) -> Result<(), NoMemory>
-    ensures { OnOk result (out.new.items ≡ out.old.items ++ 245 ∷ replicate (no_ops_behind (length out.old.items)) 246) }
+    ensures { OnOk result (out.new.items ≡ out.old.items ++ 245 ∷ replicate (no_ops_after (length out.old.items)) 246) }
 {
     out.push(245)?;
     let count = (4 - out.len() % 4) % 4;
@@ -224,7 +225,7 @@ fn append_closing(out: &mut Vec<u8>) -> Result<(), NoMemory>
 /// points, and there are 300 dots an inch. The codes are distinct, and the rasters, each row in whole
 /// bytes, take at most 8,388,608 bytes, the most that a reader takes. What is read is what was given.
 ///
-/// `NoMemory` where memory is wanting. Rokicki, PKtype, "Packed file format".
+/// `NoMemory` when out of memory. Rokicki, PKtype, "Packed file format".
 pub fn pk_bytes(alloc: Global, glyphs: &[(u8, Glyph)]) -> Result<Vec<u8>, NoMemory>
     requires codes { IsTrue (have_own_codes glyphs.now) }
     requires few { size_sum glyphs.now ≤ 8388608 }
@@ -241,3 +242,13 @@ pub fn pk_bytes(alloc: Global, glyphs: &[(u8, Glyph)]) -> Result<Vec<u8>, NoMemo
     append_closing(&mut out)?;
     Ok(out)
 }
+
+/// A raster is what is seen of its pixels. A plain bitmap has as few bytes as its pixels take, and its
+/// last bits are zero. A packet has the first form that holds its numbers. A made file has a multiple
+/// of four bytes.
+pub fn made_pk_files()
+    ensures seen { ShapedRastersAreSeenWhole }
+    ensures packed { PlainBitmapsArePacked }
+    ensures forms { PacketsHaveTheFirstForm }
+    ensures words { FilesAreMultiplesOfFour }
+{}

@@ -1,6 +1,5 @@
 //! Packed fonts, worked out by hand.
 ghost use Rattle.std.specs.Prelude.{◌≡◌, ◌≤◌, IfOk};
-ghost use Rattle.std.specs.Prelude.{◌*◌};
 
 use crate::pk_bytes;
 use pk_packets::PkFont;
@@ -113,16 +112,18 @@ fn a_far_glyph_in_the_long_form(rt: HostRuntime) -> Result<(), Fail> {
 fn a_long_raster_in_the_short_form(rt: HostRuntime) -> Result<(), Fail> {
     let glyph = plain(rt.alloc(), &[0xff; 256], 64, 32, 127, -128)?;
     let bytes = pk_bytes(rt.alloc(), &[(7, glyph)])?;
-    assert_eq!(rt; &bytes[19..31], [
-        0xe1, 8, 7, 0, 0, 0, 0, 64, 32, 127, 0x80, 0xff,
-    ].as_slice());
+    assert_eq!(rt; bytes.len(), 288);
+    assert_eq!(rt;
+        &bytes[19..31],
+        [0xe1, 8, 7, 0, 0, 0, 0, 64, 32, 127, 0x80, 0xff,].as_slice()
+    );
     assert_eq!(rt; &bytes[285..], [0xff, 0xf5, 0xf6].as_slice());
     let font = PkFont::read(rt.alloc(), &bytes)?;
     assert_eq!(rt; told(&font, 7), Some((64, 32, 127, -128, 2048)));
     Ok(())
 }
 
-// Two rows of no pixel, and a glyph behind them.
+// Two rows of no pixel, and a glyph after them.
 #[test]
 fn an_empty_glyph_and_a_dot(rt: HostRuntime) -> Result<(), Fail> {
     let empty = plain(rt.alloc(), &[], 0, 2, 5, 0)?;

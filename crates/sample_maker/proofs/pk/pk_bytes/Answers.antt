@@ -1,6 +1,6 @@
 use Rattle.std.proofs.Common.{ℕ, List, [], sym, subst}
 use Rattle.pk_packets.specs.Fonts.{IsPkFile}
-use Rattle.sample_maker.proofs.PkRead.{behind, glyphs_again, is_file, pk_file_made}
+use Rattle.sample_maker.proofs.PkRead.{after, glyphs_again, is_file, pk_file_made}
 use Rattle.sample_maker.proofs.pk.pk_bytes.Goals as goal
 
 pub returns-clause-bytes : goal.returns-clause-bytes
@@ -9,10 +9,9 @@ returns-clause-bytes c =
 
 pub returns-clause-sound : goal.returns-clause-sound
 returns-clause-sound c =
-    let glyphs = c.args.glyphs.now in
-    (
-      behind [] glyphs,
-      subst (λ (bytes : List ℕ). IsPkFile bytes (behind [] glyphs)) (sym (returns-clause-bytes c)) (is_file glyphs c.in_ok-append_packets.ensures.measured c.requires.codes c.requires.few),
+    let glyphs = c.args.glyphs.now in (
+      after [] glyphs,
+      subst (λ (bytes : List ℕ). IsPkFile bytes (after [] glyphs)) (sym (returns-clause-bytes c)) (is_file glyphs c.in_ok-append_packets.ensures.measured c.requires.codes c.requires.few),
     )
 
 pub returns-clause-read_again : goal.returns-clause-read_again

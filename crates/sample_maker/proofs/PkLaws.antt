@@ -1,0 +1,82 @@
+-- The laws of made PK files.
+use Rattle.std.proofs.Common.{◌≡◌, ◌∙◌, ℕ, ◌+◌, ◌*◌, ◌^◌, ◌<◌, ℤ, pos, negsuc, Bool, true, false, List, [], ◌∷◌, length, get_or, replicate, sym, ap, arith}
+use Rattle.std.specs.Prelude.{nat_lt, ◌&&◌}
+use Rattle.std.proofs.lemmas.Bool.{and_from, false_from_ne_true, lt-ltb}
+use Rattle.std.proofs.lemmas.List.{ext_get_or, length-append, length-replicate}
+use Rattle.big_endian.specs.Numbers.{IsSigned}
+use Rattle.packed_rows.specs.Bitmap.{Bitmap, from_fn, is_black}
+use Rattle.packed_rows.proofs.Lists.{get_or-from_fn, length-from_fn}
+use Rattle.pk_runs.specs.declared.glyph.Glyph.{Glyph}
+use Rattle.pk_packets.specs.Written.{Fit}
+use Rattle.sample_maker.specs.PkFile.{FilesAreMultiplesOfFour, PacketsHaveTheFirstForm, PlainBitmapsArePacked, ShapedRastersAreSeenWhole, fields, has_form, is_signed, no_ops_after, pk_file, pk_items, plain_bytes, seen_raster}
+use Rattle.sample_maker.proofs.PkRasters.{padded_bytes, pixel_again}
+use Rattle.sample_maker.proofs.PkForms.{extended_fits, held, short_fits}
+use Rattle.sample_maker.proofs.PkAppended.{extended_item, long_item, short_item}
+
+-- ---- rasters
+
+pub shaped_rasters_are_seen_whole : ShapedRastersAreSeenWhole
+shaped_rasters_are_seen_whole r shaped = ap with_rows (ext_get_or [] (seen_raster r).rows r.rows (tall ∙ sym shaped.rows) row)
+  where
+    with_rows : List (List Bool) → Bitmap
+    with_rows rows = record { width = r.width; height = r.height; rows = rows }
+
+    seen_row : ℕ → List Bool
+    seen_row y = from_fn r.width (λ x. is_black r x y)
+
+    tall : length (seen_raster r).rows ≡ r.height
+    tall = length-from_fn r.height seen_row
+
+    same : (y : ℕ) → y < r.height → seen_row y ≡ get_or r.rows y []
+    same y inside = ext_get_or false (seen_row y) (get_or r.rows y []) (wide ∙ sym (shaped.columns y inside)) (λ x h. get_or-from_fn r.width (λ k. is_black r k y) x false (omega (arith, h, wide)))
+      where
+        wide : length (seen_row y) ≡ r.width
+        wide = length-from_fn r.width (λ x. is_black r x y)
+
+    row : (y : ℕ) → y < length (seen_raster r).rows → get_or (seen_raster r).rows y [] ≡ get_or r.rows y []
+    row y h = let inside : y < r.height = omega (arith, h, tall) in get_or-from_fn r.height seen_row y [] inside ∙ same y inside
+
+pub plain_bitmaps_are_packed : PlainBitmapsArePacked
+plain_bitmaps_are_packed r = (padded_bytes r, λ x y in_row inside. sym (pixel_again r x y in_row inside))
+
+-- ---- the forms
+
+signed_told : (n : ℕ) (z : ℤ) → IsSigned n z → is_signed n z ≡ true
+signed_told n (pos m) h = lt-ltb (2 * m) (256 ^ n) h
+signed_told n (negsuc m) h = lt-ltb (2 * m) (256 ^ n) h
+
+told : (n fixed most : ℕ) (g : Glyph) → g.raster.width < 256 ^ n → g.raster.height < 256 ^ n → IsSigned n g.hoff → IsSigned n g.voff → fixed + length (plain_bytes g.raster) < most → has_form n fixed most g ≡ true
+told n fixed most g width height hoff voff raster =
+    let w = nat_lt g.raster.width (256 ^ n) in
+    let h = nat_lt g.raster.height (256 ^ n) in
+    let x = is_signed n g.hoff in
+    let y = is_signed n g.voff in
+    let r = nat_lt (fixed + length (plain_bytes g.raster)) most in
+    and_from (w && h && x && y) r
+    (and_from (w && h && x) y (and_from (w && h) x (and_from w h (lt-ltb _ _ width) (lt-ltb _ _ height)) (signed_told n g.hoff hoff)) (signed_told n g.voff voff))
+    (lt-ltb _ _ raster)
+
+short_told : (p : ℕ × Glyph) → Fit (fields 4 p) 1 4 1 1024 → has_form 1 8 1024 p.1 ≡ true
+short_told p h = told 1 8 1024 p.1 h.width h.height h.hoff h.voff (omega (arith, h.raster))
+
+extended_told : (p : ℕ × Glyph) → Fit (fields 5 p) 1 5 2 196608 → has_form 2 13 196608 p.1 ≡ true
+extended_told p h = told 2 13 196608 p.1 h.width h.height h.hoff h.voff (omega (arith, h.raster))
+
+pub packets_have_the_first_form : PacketsHaveTheFirstForm
+packets_have_the_first_form p code = (
+  λ short. short_item p (short_told p short),
+  λ not_short extended. extended_item p (never_short not_short) (extended_told p extended),
+  λ not_short not_extended. long_item p (never_short not_short) (false_from_ne_true (has_form 2 13 196608 p.1) (λ h. not_extended (extended_fits p code (held 2 13 196608 p.1 h)))),
+)
+  where
+    never_short : (Fit (fields 4 p) 1 4 1 1024 → ⊥) → has_form 1 8 1024 p.1 ≡ false
+    never_short misfit = false_from_ne_true (has_form 1 8 1024 p.1) (λ h. misfit (short_fits p code (held 1 8 1024 p.1 h)))
+
+-- ---- the file
+
+pub files_are_multiples_of_four : FilesAreMultiplesOfFour
+unfolding pk_file
+files_are_multiples_of_four glyphs =
+    let n = length (pk_items glyphs) in
+    let fill = replicate {A = ℕ} (no_ops_after n) 246 in
+    omega (arith, length-append (pk_items glyphs) (245 ∷ fill), length-replicate {A = ℕ} (no_ops_after n) 246)
