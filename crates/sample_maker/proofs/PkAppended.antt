@@ -104,11 +104,11 @@ module _ (code : ℕ) (g : Glyph) (fits : code < 256) where
   pub long_joined : (out a b d e l : List ℕ) (n : ℕ) → n ≡ length (plain_bytes g.raster) → a ≡ out ++ 231 ∷ [] → l ≡ number_bytes 4 (pos (28 + n)) → b ≡ a ++ l
       → d ≡ b ++ 0 ∷ 0 ∷ 0 ∷ code ∷ 0 ∷ 0 ∷ 0 ∷ 0 ∷ 0 ∷ 0 ∷ 0 ∷ 0 ∷ 0 ∷ 0 ∷ 0 ∷ 0 ∷ [] → e ≡ d ++ sides 4 g → e ++ plain_bytes g.raster ≡ out ++ long_packet (fields 12 (code, g))
   long_joined out a b d e l n en ea el eb ed ee =
-      let front : List ℕ = 0 ∷ 0 ∷ 0 ∷ code ∷ [] in
-      ap (λ t. t ++ bitmap) (ee ∙ ap (λ t. t ++ sides 4 g) (ed ∙ ap (λ t. t ++ (front ++ zeros)) (eb ∙ ap (λ t. t ++ l) ea)))
-      ∙ in_five out (231 ∷ []) l (front ++ zeros) (sides 4 g) bitmap
-      ∙ ap (λ t. out ++ (231 ∷ (t ++ (front ++ (zeros ++ (sides 4 g ++ bitmap)))))) el
-      ∙ ap (λ m. out ++ (231 ∷ (number_bytes 4 (pos (28 + m)) ++ (front ++ (zeros ++ (sides 4 g ++ bitmap)))))) en
+      let prefix : List ℕ = 0 ∷ 0 ∷ 0 ∷ code ∷ [] in
+      ap (λ t. t ++ bitmap) (ee ∙ ap (λ t. t ++ sides 4 g) (ed ∙ ap (λ t. t ++ (prefix ++ zeros)) (eb ∙ ap (λ t. t ++ l) ea)))
+      ∙ in_five out (231 ∷ []) l (prefix ++ zeros) (sides 4 g) bitmap
+      ∙ ap (λ t. out ++ (231 ∷ (t ++ (prefix ++ (zeros ++ (sides 4 g ++ bitmap)))))) el
+      ∙ ap (λ m. out ++ (231 ∷ (number_bytes 4 (pos (28 + m)) ++ (prefix ++ (zeros ++ (sides 4 g ++ bitmap)))))) en
       ∙ ap (λ t. out ++ (231 ∷ (number_bytes 4 (pos (28 + length bitmap)) ++ (t ++ (zeros ++ (sides 4 g ++ bitmap)))))) four_bytes
 
 -- ---- the form that is chosen

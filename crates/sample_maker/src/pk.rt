@@ -145,7 +145,8 @@ fn is_extended(glyph: &Glyph) -> bool
 // Appends a packet in the short form.
 fn append_short(code: u8, glyph: &Glyph, out: &mut Vec<u8>) -> Result<(), NoMemory>
     requires { IsTrue (has_form 1 8 1024 glyph.now) }
-    ensures { OnOk result (out.new.items ≡ out.old.items ++ short_packet (fields 4 (code, glyph.now))) }
+    ensures { OnOk result (
+        out.new.items ≡ out.old.items ++ short_packet (fields 4 (code, glyph.now))) }
 {
     let length = 8 + byte_count(&glyph.raster);
     let flag = PLAIN + (length / 256) as u8;
@@ -157,7 +158,8 @@ fn append_short(code: u8, glyph: &Glyph, out: &mut Vec<u8>) -> Result<(), NoMemo
 // Appends a packet in the extended form.
 fn append_extended(code: u8, glyph: &Glyph, out: &mut Vec<u8>) -> Result<(), NoMemory>
     requires { IsTrue (has_form 2 13 196608 glyph.now) }
-    ensures { OnOk result (out.new.items ≡ out.old.items ++ extended_packet (fields 5 (code, glyph.now))) }
+    ensures { OnOk result (
+        out.new.items ≡ out.old.items ++ extended_packet (fields 5 (code, glyph.now))) }
 {
     let length = 13 + byte_count(&glyph.raster);
     out.push(PLAIN + 4 + (length / 65536) as u8)?;
@@ -170,7 +172,8 @@ fn append_extended(code: u8, glyph: &Glyph, out: &mut Vec<u8>) -> Result<(), NoM
 // Appends a packet in the long form.
 fn append_long(code: u8, glyph: &Glyph, out: &mut Vec<u8>) -> Result<(), NoMemory>
     requires { IsBounded glyph.now }
-    ensures { OnOk result (out.new.items ≡ out.old.items ++ long_packet (fields 12 (code, glyph.now))) }
+    ensures { OnOk result (
+        out.new.items ≡ out.old.items ++ long_packet (fields 12 (code, glyph.now))) }
 {
     let length = 28 + byte_count(&glyph.raster);
     out.push(PLAIN + 7)?;
@@ -182,7 +185,8 @@ fn append_long(code: u8, glyph: &Glyph, out: &mut Vec<u8>) -> Result<(), NoMemor
 
 // Appends a packet in the first form that holds its numbers.
 fn append_packet(code: u8, glyph: &Glyph, out: &mut Vec<u8>) -> Result<(), NoMemory>
-    ensures appended { OnOk result (out.new.items ≡ out.old.items ++ packet_item (code, glyph.now)) }
+    ensures appended { OnOk result (
+        out.new.items ≡ out.old.items ++ packet_item (code, glyph.now)) }
     ensures measured { IsMeasured (code, glyph.now) }
 {
     if is_short(glyph) {
@@ -198,7 +202,8 @@ fn append_packet(code: u8, glyph: &Glyph, out: &mut Vec<u8>) -> Result<(), NoMem
 
 // Appends the packets.
 fn append_packets(glyphs: &[(u8, Glyph)], out: &mut Vec<u8>) -> Result<(), NoMemory>
-    ensures appended { OnOk result (out.new.items ≡ out.old.items ++ flat_map packet_item glyphs.now) }
+    ensures appended { OnOk result (
+        out.new.items ≡ out.old.items ++ flat_map packet_item glyphs.now) }
     ensures measured { OnOk result (All IsMeasured glyphs.now) }
 {
     for i in 0..glyphs.len() {
@@ -210,7 +215,9 @@ fn append_packets(glyphs: &[(u8, Glyph)], out: &mut Vec<u8>) -> Result<(), NoMem
 
 // Appends the closing command, and no-ops up to a multiple of four.
 fn append_closing(out: &mut Vec<u8>) -> Result<(), NoMemory>
-    ensures { OnOk result (out.new.items ≡ out.old.items ++ 245 ∷ replicate (no_ops_after (length out.old.items)) 246) }
+    ensures { OnOk result (
+        out.new.items ≡ out.old.items
+        ++ 245 ∷ replicate (no_ops_after (length out.old.items)) 246) }
 {
     out.push(245)?;
     let count = (4 - out.len() % 4) % 4;
@@ -220,10 +227,11 @@ fn append_closing(out: &mut Vec<u8>) -> Result<(), NoMemory>
     Ok(())
 }
 
-/// A PK file of these glyphs, each with its code, as plain bitmaps in the first form of a packet that
-/// holds their numbers. The checksum, the TFM widths and the escapements are 0, the design size is 10
-/// points, and there are 300 dots an inch. The codes are distinct, and the rasters, each row in whole
-/// bytes, take at most 8,388,608 bytes, the most that a reader takes. What is read is what was given.
+/// A PK file of these glyphs, each with its code, as plain bitmaps in the first form of a packet
+/// that holds their numbers. The checksum, the TFM widths and the escapements are 0, the design size
+/// is 10 points, and there are 300 dots an inch. The codes are distinct, and the rasters, each row in
+/// whole bytes, take at most 8,388,608 bytes, the most that a reader takes. A reader finds each
+/// raster pixel for pixel, with its offsets, under its code, and no glyph under another.
 ///
 /// `NoMemory` when out of memory. Rokicki, PKtype, "Packed file format".
 pub fn pk_bytes(alloc: Global, glyphs: &[(u8, Glyph)]) -> Result<Vec<u8>, NoMemory>
@@ -243,9 +251,9 @@ pub fn pk_bytes(alloc: Global, glyphs: &[(u8, Glyph)]) -> Result<Vec<u8>, NoMemo
     Ok(out)
 }
 
-/// A raster is what is seen of its pixels. A plain bitmap has as few bytes as its pixels take, and its
-/// last bits are zero. A packet has the first form that holds its numbers. A made file has a multiple
-/// of four bytes.
+/// A raster is what is seen of its pixels. A plain bitmap has as few bytes as its pixels take, and
+/// its last bits are zero. A packet has the first form that holds its numbers. A made file has a
+/// multiple of four bytes.
 pub fn made_pk_files()
     ensures seen { ShapedRastersAreSeenWhole }
     ensures packed { PlainBitmapsArePacked }
