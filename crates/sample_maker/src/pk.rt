@@ -228,10 +228,10 @@ fn append_closing(out: &mut Vec<u8>) -> Result<(), NoMemory>
 }
 
 /// A PK file of these glyphs, each with its code, as plain bitmaps in the first form of a packet
-/// that holds their numbers. The checksum, the TFM widths and the escapements are 0, the design size
-/// is 10 points, and there are 300 dots an inch. The codes are distinct, and the rasters, each row in
-/// whole bytes, take at most 8,388,608 bytes, the most that a reader takes. A reader finds each
-/// raster pixel for pixel, with its offsets, under its code, and no glyph under another.
+/// that holds their numbers. The checksum, the TFM widths and the escapements are 0, the design
+/// size is 10 points, and there are 300 dots an inch. The codes are distinct, and the rasters, each
+/// row in whole bytes, take at most 8,388,608 bytes, the most that a reader takes. A reader finds
+/// each raster pixel for pixel, with its offsets, under its code, and no glyph under another.
 ///
 /// `NoMemory` when out of memory. Rokicki, PKtype, "Packed file format".
 pub fn pk_bytes(alloc: Global, glyphs: &[(u8, Glyph)]) -> Result<Vec<u8>, NoMemory>
