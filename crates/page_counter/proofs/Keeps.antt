@@ -1,29 +1,27 @@
 -- Each step of the counter keeps its rule, and tells what it says.
-use Rattle.std.proofs.Common.{◌≡◌, ◌≢◌, ℕ, zero, suc, ◌+◌, ◌*◌, ◌%◌, ◌^◌, ◌<◌, ◌≤◌, Bool, true, false, cond, List, [], ◌∷◌, ◌++◌, length, set, get_or, refl, ap, sym, ◌∙◌, subst, ⊎_elim, arith, length-append, length-set, append-nil, eqb}
-use Rattle.std.specs.List.{sum_by, All, Contains}
-use Rattle.std.specs.List.Sorted.{IsStrictlyIncreasing}
-use Rattle.std.proofs.lemmas.Bool.{cases_lt, cases_eq, true≢false}
+use Rattle.std.proofs.Common.{◌≡◌, ◌≢◌, ℕ, zero, suc, ◌+◌, ◌*◌, ◌%◌, ◌^◌, ◌<◌, ◌≤◌, true, List, [], ◌∷◌, ◌++◌, length, set, get_or, refl, ap, sym, ◌∙◌, subst, ⊎_elim, arith, length-append, length-set, eqb}
+use Rattle.std.specs.List.{All, Contains}
+use Rattle.std.proofs.lemmas.Bool.{cases_lt, true≢false}
 use Rattle.std.proofs.lemmas.List.{get_or_append_left}
-use Rattle.std.proofs.lemmas.List.Sums.{sum_by-cons, sum_by-append, sum_by_push}
+use Rattle.std.proofs.lemmas.List.Sums.{sum_by_push}
 use Rattle.std.proofs.lemmas.List.Elements.{All-push, All-contains_itself}
 use mathlib.Core.Option.{some, some-injective, some-ne-none}
 use native.Mathlib.Decide.{ℕ_discrete}
 use mathlib.Core.Logic.{dite}
 use lib.ListN.{get_elem?}
-use Rattle.atomic_table.specs.Table.{State, Me, step, keeps, stepped, Allows, Splits, Joins, opening, Final, Seen}
-use Rattle.atomic_table.proofs.Lists.{at_set, set_here, at_snoc}
+use Rattle.atomic_table.specs.Table.{State, keeps, Final, Seen}
+use Rattle.atomic_table.proofs.Lists.{at_set}
 use Rattle.page_counter.specs.declared.view.SeatClaims.{SeatClaims}
-use Rattle.page_counter.specs.declared.view.View.{View}
 use Rattle.page_counter.specs.declared.view.Standing.{Standing}
 use Rattle.page_counter.specs.Numbers.{times, EachOnce}
-use Rattle.page_counter.specs.Views.{claims_of, numbers_of, known_claims, seats_of, all_seats, seat_claims, first_standing, claimed_view, claimed_standing, split_standing, new_standing, joined_standing, spent_standing}
+use Rattle.page_counter.specs.Views.{claims_of, numbers_of, known_claims, seats_of, all_seats, seat_claims, first_standing, claimed_standing, split_standing, new_standing, joined_standing, spent_standing}
 use Rattle.page_counter.specs.CounterRule.{ClaimsFit, LiveFits, CounterRule}
 use Rattle.page_counter.specs.Seats.{AllJoined}
 use Rattle.page_counter.specs.Steps.{ClaimTells}
 use Rattle.page_counter.specs.Laws.{MakeKeeps, ClaimKeeps, SplitKeeps, JoinKeeps}
 use Rattle.page_counter.proofs.Sums.{sum_set, sum_has, at_inside}
-use Rattle.page_counter.proofs.Once.{bit, times-cons, times-append, times_of_contains, once_is_count, once_has_no_other, once_more, once_same, rises_push}
-use Rattle.page_counter.proofs.Standings.{claimed_in, numbered_in, claims_times, claims_total, numbers_total, live_seats, dead_seats, known_times, claims_most, knows_all, live_claims, live_numbers, known_most}
+use Rattle.page_counter.proofs.Once.{bit, times-cons, times-append, times_of_contains, once_is_count, once_more, once_same, rises_push}
+use Rattle.page_counter.proofs.Standings.{claimed_in, numbered_in, claims_total, numbers_total, known_times, claims_most, knows_all, live_claims, live_numbers, known_most}
 
 abbrev St : Type 0
 St = State (Unit {0}) Standing

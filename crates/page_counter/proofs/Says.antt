@@ -1,16 +1,16 @@
 -- What the rule says of each seat, and what the claims of seats are.
-use Rattle.std.proofs.Common.{◌≡◌, ◌≢◌, ℕ, zero, suc, ◌+◌, ◌<◌, ◌≤◌, List, [], ◌∷◌, ◌++◌, length, get_or, refl, ap, sym, ◌∙◌, subst, ⊎_elim, arith}
-use Rattle.std.specs.List.{sum_by, All, Contains}
+use Rattle.std.proofs.Common.{◌≡◌, ◌≢◌, ℕ, zero, suc, ◌<◌, ◌≤◌, List, [], ◌∷◌, length, get_or, refl, ap, sym, ◌∙◌, subst, ⊎_elim, arith}
+use Rattle.std.specs.List.{Contains}
 use Rattle.std.proofs.lemmas.Bool.{cases_eq}
 use Rattle.std.proofs.lemmas.List.Sums.{get_or-le-sum_by}
 use Rattle.std.proofs.lemmas.List.Elements.{All-contains, Contains-append_cases}
 use Rattle.atomic_table.specs.Table.{State}
 use Rattle.page_counter.specs.declared.view.SeatClaims.{SeatClaims}
 use Rattle.page_counter.specs.declared.view.Standing.{Standing}
-use Rattle.page_counter.specs.Numbers.{times, EachOnce}
+use Rattle.page_counter.specs.Numbers.{times}
 use Rattle.page_counter.specs.Views.{claims_of, all_seats}
 use Rattle.page_counter.specs.CounterRule.{ClaimsFit, CounterRule}
-use Rattle.page_counter.specs.Laws.{HasClaimed, WordCounts, SeatsCounted, ClaimedByOne, NoOtherClaimed, NoneInCommon, ClaimsRise, ClaimsFew, ClaimsAreOfSeats, SeatsHaveClaims}
+use Rattle.page_counter.specs.Laws.{WordCounts, SeatsCounted, ClaimedByOne, NoOtherClaimed, NoneInCommon, ClaimsRise, ClaimsFew, ClaimsAreOfSeats, SeatsHaveClaims}
 use Rattle.page_counter.proofs.Sums.{sum_has_two}
 use Rattle.page_counter.proofs.Once.{once_is_count, once_has_all, once_has_no_other, once_most, times_of_contains, contains_of_times}
 use Rattle.page_counter.proofs.Standings.{claims_times, seats_fit}

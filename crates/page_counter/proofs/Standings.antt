@@ -1,7 +1,7 @@
 -- The seats that the rule knows of, with their numbers and claims, as views change.
-use Rattle.std.proofs.Common.{◌≡◌, ◌≢◌, ℕ, zero, suc, ◌+◌, ◌*◌, ◌<◌, ◌≤◌, Bool, true, false, cond, List, [], ◌∷◌, ◌++◌, map, length, set, refl, ap, sym, ◌∙◌, subst, ⊎_elim, arith, length-append, append-nil, eqb}
-use Rattle.std.specs.List.{sum_by, flat_map, All}
-use Rattle.std.proofs.lemmas.List.Sums.{sum_by-cons, sum_by-append, sum_by_push, sum_by-le}
+use Rattle.std.proofs.Common.{◌≡◌, ℕ, ◌+◌, ◌*◌, ◌≤◌, true, false, cond, List, [], ◌∷◌, ◌++◌, length, refl, ap, sym, ◌∙◌, subst, ⊎_elim, arith, length-append, append-nil, eqb}
+use Rattle.std.specs.List.{sum_by, All}
+use Rattle.std.proofs.lemmas.List.Sums.{sum_by-cons, sum_by-le}
 use Rattle.std.proofs.lemmas.Bool.{cases_Bool}
 use Rattle.std.proofs.lemmas.List.{length-map}
 use Rattle.std.proofs.lemmas.List.Elements.{All-cons}
@@ -9,12 +9,10 @@ use Rattle.std.proofs.lemmas.List.Concat.{length-flat_map}
 use mathlib.Core.Option.{some, some-injective, some-ne-none}
 use lib.ListN.{get_elem?}
 use Rattle.page_counter.specs.declared.view.SeatClaims.{SeatClaims}
-use Rattle.page_counter.specs.declared.view.View.{View}
 use Rattle.page_counter.specs.declared.view.Standing.{Standing}
 use Rattle.page_counter.specs.Numbers.{times, EachOnce}
 use Rattle.page_counter.specs.Views.{claims_of, numbers_of, known_claims, seats_of, all_seats, seat_claims}
 use Rattle.page_counter.specs.CounterRule.{ClaimsFit, LiveFits}
-use Rattle.page_counter.specs.Seats.{AllJoined}
 use Rattle.page_counter.proofs.Sums.{sum_has, sum_flat, sum_map, all_flat}
 use Rattle.page_counter.proofs.Once.{bit, once_is_count}
 

@@ -1,5 +1,5 @@
 -- How contracts see a seat, and what they ask of it.
-use Rattle.std.specs.Prelude.{◌≡◌, ℕ, ◌+◌, length}
+use Rattle.std.specs.Prelude.{◌≡◌, ◌+◌, length}
 use Rattle.atomic_table.specs.Seated.{TableId}
 use Rattle.page_counter.specs.declared.view.View.{View}
 

@@ -1,5 +1,5 @@
 -- Views, and what each step makes of the view of the seat that steps.
-use Rattle.std.specs.Prelude.{ℕ, ◌+◌, Bool, true, false, cond, List, [], ◌∷◌, ◌++◌, map, flat_map}
+use Rattle.std.specs.Prelude.{ℕ, ◌+◌, true, false, cond, List, [], ◌∷◌, ◌++◌, map, flat_map}
 use Rattle.page_counter.specs.declared.view.SeatClaims.{SeatClaims}
 use Rattle.page_counter.specs.declared.view.View.{View}
 use Rattle.page_counter.specs.declared.view.Standing.{Standing}

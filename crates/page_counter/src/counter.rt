@@ -15,8 +15,8 @@ use std::marker::Model;
 // The one word: how many numbers were claimed.
 const CLAIMED: usize = 0;
 
-/// A counter from which its seats claim numbers. Contracts see which counter it is. Each call needs seats of this same
-/// counter.
+/// A counter from which its seats claim numbers. Contracts see which counter it is. Each call needs
+/// seats of this same counter.
 #[derive(Drop)]
 pub struct PageCounter {
     table: Table<(), Standing, (), Claims, Global>,
@@ -32,7 +32,8 @@ impl Model for PageCounter {
 
     ghost view = { λ c. c.table.shared.table_id };
 
-    ghost invariant = { λ c. (c.table.shared.table_id.words ≡ 1) × (c.table.shared.table_id.slots ≡ 0) };
+    ghost invariant = { λ c. (c.table.shared.table_id.words ≡ 1)
+        × (c.table.shared.table_id.slots ≡ 0) };
 }
 
 impl PageCounter {
@@ -45,7 +46,8 @@ impl PageCounter {
         Ok((PageCounter { table }, CounterSeat { place }))
     }
 
-    /// Makes one more seat. It has the next number and no claims. Seat 0 counts it, and is otherwise as it was.
+    /// Makes one more seat, of at most 33. It has the next number and no claims. Seat 0 counts it,
+    /// and is otherwise as it was. It takes no memory.
     pub fn split(&self, first: &mut CounterSeat) -> CounterSeat
         requires counter { first.old.counter ≡ self.now }
         requires first { first.old.view.number ≡ 0 }
@@ -60,8 +62,9 @@ impl PageCounter {
         CounterSeat { place }
     }
 
-    /// Claims the next number, which is how many claims all seats made before. It is the seat's last claim, and above
-    /// all claims that the seat knows. A seat 0 that joined all others knows all claims.
+    /// Claims the next number, which is how many claims all seats made before. It is the seat's last
+    /// claim, of at most 64, and above all claims that the seat knows. Where seat 0 has joined all
+    /// others it knows all claims. It neither waits nor takes memory.
     pub fn claim(&self, seat: &mut CounterSeat) -> u64
         requires counter { seat.old.counter ≡ self.now }
         requires room { length seat.old.view.claims < 64 }
@@ -77,7 +80,7 @@ impl PageCounter {
         shared.fetch_add::<Claim>(&mut seat.place, CLAIMED, 1)
     }
 
-    /// Takes another seat in. Seat 0 keeps its number and its claims.
+    /// Takes another seat in. Seat 0 keeps its number and its claims. It takes no memory.
     pub fn join(&self, first: &mut CounterSeat, other: CounterSeat)
         requires counter { first.old.counter ≡ self.now }
         requires other_counter { other.counter ≡ self.now }
@@ -90,8 +93,8 @@ impl PageCounter {
         shared.join_seat::<TakeIn>(&mut first.place, place);
     }
 
-    /// How many claims were made, once all other seats were joined. The claims of seat 0 and those that it keeps are
-    /// the numbers below that, each once.
+    /// How many claims were made, once all other seats were joined. The claims of seat 0 and those
+    /// that it keeps are the numbers below that, each once. It takes no memory.
     pub fn close(self, first: CounterSeat) -> u64
         requires counter { first.counter ≡ self }
         requires first { first.view.number ≡ 0 }

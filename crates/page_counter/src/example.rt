@@ -1,4 +1,5 @@
-//! A caller of the counter, as an example and for tests: claimers that count in threads of their own.
+//! A caller of the counter, as an example and for tests: claimers that count in threads of their
+//! own.
 ghost use Rattle.std.specs.Prelude.{◌≡◌, ◌+◌, ◌<◌, ◌≤◌, [], ◌∷◌, ◌++◌, All, length, filter, nat_lt, IfOk, OnOk};
 ghost use Rattle.std.specs.Vec.{vec_capacity};
 ghost use Rattle.page_counter.specs.Claimers.{CanNote, HasClaimed, IsReached};
@@ -111,8 +112,8 @@ fn join_all(
     Ok(all)
 }
 
-/// The numbers below the bound, each once, as so many claimers claimed them, each in a thread of its own where one can
-/// be made.
+/// The numbers below the bound, each once, as the claimers claimed them, each in a thread of its own
+/// where one can be made. `Err` means out of memory.
 pub fn count_off<R: Threads + Sync>(
     rt: &R,
     alloc: Global,

@@ -10,7 +10,7 @@ use std::test::Fail;
 use std::thread;
 use std::thread::Threads;
 
-// Waits until so many threads have come, and says whether they came.
+// Waits until all threads have come, and says whether they came.
 fn meet(gate: &AtomicU32, all: u32) -> bool {
     gate.fetch_add(1, Ordering::SeqCst);
     for _ in 0..1_000_000u32 {
@@ -89,7 +89,7 @@ fn join_all(
     Some(all)
 }
 
-// So many threads meet, and then claim 64 numbers each. All that were claimed, and what `close` answers.
+// The threads meet, and then claim 64 numbers each. All that were claimed, and what `close` answers.
 fn crowd<R: Threads + Sync>(rt: &R, alloc: Global, all: u32) -> Option<(Vec<u64>, u64)>
     requires some { 0 < all }
     requires few { all ≤ 32 }

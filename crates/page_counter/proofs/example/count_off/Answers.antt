@@ -1,7 +1,6 @@
-use Rattle.std.proofs.Common.{rules, ◌≡◌, ◌<◌, [], ◌+◌, ◌++◌, length, arith, ap, sym, ◌∙◌, subst}
+use Rattle.std.proofs.Common.{rules, ◌≡◌, [], ◌+◌, ◌++◌, length, arith, subst}
 use Rattle.std.proofs.lemmas.Grind.{common_steps}
-use Rattle.page_counter.specs.Views.{claims_of, known_claims}
-use Rattle.page_counter.specs.Claimers.{IsReached}
+use Rattle.page_counter.specs.Views.{claims_of}
 use Rattle.page_counter.specs.Numbers.{EachOnce}
 use Rattle.page_counter.proofs.Claimers.{all_noted}
 use Rattle.page_counter.proofs.example.count_off.Goals as goal

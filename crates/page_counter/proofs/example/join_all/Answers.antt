@@ -1,4 +1,4 @@
-use Rattle.std.proofs.Common.{rules, ◌≡◌, ◌+◌, [], ◌∷◌, ◌++◌, Some, All, IfSome, length, filter, nat_lt, arith, ap, sym, ◌∙◌, subst, length-append}
+use Rattle.std.proofs.Common.{rules, ◌≡◌, [], ◌∷◌, ◌++◌, IfSome, length, filter, nat_lt, arith, ap, sym, ◌∙◌, subst, length-append}
 use Rattle.std.proofs.lemmas.List.Elements.{All-pop}
 use Rattle.page_counter.specs.Claimers.{HasClaimed, IsReached}
 use Rattle.page_counter.specs.Views.{claims_of, seat_claims}

@@ -1,4 +1,4 @@
-use Rattle.std.proofs.Common.{ℕ, ◌<◌, length, arith, sym, ap, ◌∙◌, subst}
+use Rattle.std.proofs.Common.{◌<◌, length, arith, sym, ap, ◌∙◌, subst}
 use Rattle.page_counter.specs.declared.view.View.{View}
 use Rattle.page_counter.proofs.Keeps.{claims}
 use Rattle.page_counter.proofs.counter.PageCounter.claim.Goals as goal

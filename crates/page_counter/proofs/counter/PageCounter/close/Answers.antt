@@ -1,4 +1,4 @@
-use Rattle.std.proofs.Common.{ℕ, ap, sym, ◌∙◌, subst}
+use Rattle.std.proofs.Common.{ap, sym, ◌∙◌, subst}
 use Rattle.page_counter.specs.declared.view.View.{View}
 use Rattle.page_counter.specs.Numbers.{EachOnce}
 use Rattle.page_counter.specs.Views.{known_claims}
