@@ -17,13 +17,13 @@ use Rattle.sample_maker.proofs.Spelled.{AreSpelled, reversed_onto}
 
 -- ---- one command more
 
-text_none : (before : Reading) → behind_text before [] ≡ before
+pub text_none : (before : Reading) → behind_text before [] ≡ before
 text_none before = ap (λ cs. reverse cs ++ before) (placed_none (end_of before))
 
 abbrev pub with : Reading → DviCommand → List ℕ → Reading
 with before c front = placed (end_of before) c front ∷ before
 
-text_more : (before : Reading) (c : DviCommand) (front rest : List ℕ) → Spells c front → behind_text before (front ++ rest) ≡ behind_text (with before c front) rest
+pub text_more : (before : Reading) (c : DviCommand) (front rest : List ℕ) → Spells c front → behind_text before (front ++ rest) ≡ behind_text (with before c front) rest
 text_more before c front rest h =
     ap (λ cs. reverse cs ++ before) (placed_first (end_of before) c front rest h)
     ∙ reversed_onto (placed (end_of before) c front) (placed_from (end_of before + length front) rest) before
@@ -69,7 +69,7 @@ pub record IsPlain (c : DviCommand) : Type 0 where
 op_of : (front text : List ℕ) → IsTrue (may_stand context.Page (slice_index front 0)) → front ≡ text → IsTrue (may_stand context.Page (slice_index text 0))
 op_of front text h e = subst (λ t. IsTrue (may_stand context.Page (slice_index t 0))) e h
 
-plain : (c : DviCommand) (front : List ℕ) → Spells c front → IsTrue (may_stand context.Page (slice_index front 0)) → is_eop c ≡ false → IsPlain c
+pub plain : (c : DviCommand) (front : List ℕ) → Spells c front → IsTrue (may_stand context.Page (slice_index front 0)) → is_eop c ≡ false → IsPlain c
 plain (Bop counts back) front s h e = let no = op_of front _ h s.2 in cc
 plain Eop front s h e = cc
 plain (Pre q) front s h e = let no = op_of front _ h s.2 in cc
@@ -183,7 +183,7 @@ module _ (q : Preamble) (n : ℕ) (back : ℤ) where
 
 -- ---- fonts
 
-commands_are : (commands : List DviCommand) (body : List ℕ) → AreCommands context.Page commands body → commands_of body ≡ commands
+pub commands_are : (commands : List DviCommand) (body : List ℕ) → AreCommands context.Page commands body → commands_of body ≡ commands
 commands_are [] body are = ap commands_of are ∙ commands_none
 commands_are (c ∷ commands) body are =
     ap commands_of are.2.whole ∙ commands_first c are.0 are.1 are.2.spelled ∙ ap (λ cs. c ∷ cs) (commands_are commands are.1 are.3)

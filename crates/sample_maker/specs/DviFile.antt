@@ -11,6 +11,7 @@ use Rattle.dvi_commands.specs.ShortestSpelling.{shortest_spelling}
 use Rattle.dvi_commands.specs.Reading.{AreCommands, commands_of, placed, placed_from}
 use Rattle.dvi_commands.specs.declared.command.Context.TheVariants as context
 use Rattle.page_index.specs.Document.{Reading, end_of, font_table, is_eop, key_or, last_bop, pages_begun, text_of}
+use Rattle.page_index.specs.Judged.{define_fault}
 use Rattle.page_index.specs.Pages.{document_units, page_commands}
 
 -- ---- what is given
@@ -137,3 +138,15 @@ pub record GivesBack (u : Units) (fonts : List (ℤ × FontKey)) (pages : List (
   pub page : (i : ℕ) → i < length pages → (at : ℕ) × (page_commands i r ≡ placed_from at (get_or pages i []))
   pub font : (k : ℤ) (key : FontKey) → key_given fonts k ≡ Some key → font_table r k ≡ Some key
   pub other : (k : ℤ) → key_given fonts k ≡ None → AllByRecursion (NeverDefines k) pages → font_table r k ≡ None
+
+-- ---- a document
+
+-- a command of which, where it is a definition, nothing is wrong, where font numbers have these keys; of a fault's position nothing hangs
+abbrev pub IsRightDefinition : (ℤ → Option FontKey) → DviCommand → Type 0
+IsRightDefinition known (Define d) = (at : ℕ) → define_fault (known d.number) at d ≡ None
+IsRightDefinition known _ = Unit {0}
+
+-- commands whose definitions have right sizes and agree with those before them and with these keys
+abbrev pub DefineRightly : (ℤ → Option FontKey) → List DviCommand → Type 0
+DefineRightly known [] = Unit {0}
+DefineRightly known (c ∷ commands) = IsRightDefinition known c × DefineRightly (λ k. key_or (known k) k c) commands

@@ -65,7 +65,7 @@ bar_tfm = tfm_file ((65, pos 0x18000) ∷ [])
 abbrev pub local_of : ℤ → List ℕ → LocalDef
 local_of number name = record { number = number; area = 0; name = name; factor = 0x00100000; points = 0x00f6ae7d }
 
--- the character 65 is that of its first font, and behind it that of its second
+-- the character 65 is that of its first font, and after it that of its second
 unfoldable pub duo_vf : List ℕ
 duo_vf = vf_file (local_of (pos 0) dot ∷ local_of (pos 1) bar ∷ []) ((65, pos 0x28000, 0x41 ∷ 0xac ∷ 0x41 ∷ []) ∷ [])
 

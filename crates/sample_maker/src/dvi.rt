@@ -2,11 +2,13 @@
 ghost use Rattle.std.specs.Prelude.{◌≡◌, ℕ, ℤ, ◌+◌, ◌%◌, ◌^◌, ◌≤◌, ◌<◌, ◌++◌, ◌∷◌, [], All, IfOk, IsTrue, OnOk, length, map, negsuc, pos, replicate};
 ghost use Rattle.std.specs.List.{AllByRecursion, flat_map};
 ghost use Rattle.big_endian.specs.Numbers.{IsSigned};
+ghost use Rattle.dvi_commands.specs.Reading.{commands_of};
 ghost use Rattle.dvi_commands.specs.ShortestSpelling.{shortest_spelling};
 ghost use Rattle.dvi_commands.specs.Spelling.{PostPost};
 ghost use Rattle.page_index.specs.Document.{IsDocument, Reading, end_of, last_bop, text_of};
-ghost use Rattle.page_index.specs.Limits.{MOST_PAGES};
-ghost use Rattle.sample_maker.specs.DviFile.{AreSigned, GivesBack, IsFontSpelled, IsPageText, IsWritable, are_apart, beginning, definition, document_reading, document_text, filler_behind, fonts_text, last_page, page_text, pages_reading, pages_text, postamble, preamble, with_fonts, with_pages};
+ghost use Rattle.page_index.specs.Judged.{is_scale_right};
+ghost use Rattle.page_index.specs.Limits.{LONGEST, MOST_PAGES};
+ghost use Rattle.sample_maker.specs.DviFile.{AreSigned, DefineRightly, GivesBack, IsFontSpelled, IsPageText, IsWritable, are_apart, beginning, definition, document_reading, document_text, filler_behind, fonts_text, key_given, last_page, page_text, pages_reading, pages_text, postamble, preamble, with_fonts, with_pages};
 
 use dvi_commands::{Command, FontDef, write_command};
 use outside::FontKey;
@@ -168,6 +170,13 @@ pub fn document(
     ensures bytes { IfOk result (λ bytes. bytes.items ≡ document_text units.now fonts.now (map (λ page. page.items) pages.now)) }
     ensures read_again { IfOk result (λ bytes. (res : ℕ) (reading : Reading) → IsDocument res bytes.items reading
         → GivesBack units.now fonts.now (map (λ page. page.items) pages.now) res reading) }
+    ensures is_document { IfOk result (λ bytes. (res : ℕ)
+        → IsTrue (is_scale_right res (pos units.now.num) (pos units.now.den) (pos units.now.mag))
+        → DefineRightly (key_given fonts.now)
+            (flat_map commands_of (map (λ page. page.items) pages.now))
+        → length bytes.items ≤ LONGEST
+        → IsDocument res bytes.items
+            (document_reading units.now fonts.now (map (λ page. page.items) pages.now))) }
 {
     let mut out = Vec::new(alloc);
     append_preamble(alloc, units, &mut out)?;

@@ -1,5 +1,6 @@
 //! The font files of the sample.
-ghost use Rattle.std.specs.Prelude.{◌≡◌, IfOk};
+ghost use Rattle.std.specs.Prelude.{◌≡◌, IfOk, OnOk};
+ghost use Rattle.std.specs.FinMap.{insert};
 ghost use Rattle.sample_maker.specs.Sample.{duo_vf, local_of, sample_files};
 
 use crate::{tfm_bytes, vf_bytes};
@@ -34,7 +35,8 @@ fn local(alloc: Global, number: i32, name: &[u8]) -> Result<LocalDef, NoMemory>
     })
 }
 
-// The virtual font, whose character 65 is that of its first font, and behind it that of its second.
+// The virtual font, whose character 65 is that of its first font, and after it that of its second.
+#[tactic(auto, unfolding(crate::specs::Sample::duo_vf))]
 fn virtual_font(alloc: Global) -> Result<Vec<u8>, NoMemory>
     ensures { IfOk result (λ bytes. bytes.items ≡ duo_vf) }
 {
@@ -50,7 +52,9 @@ fn add(
     library: &mut Library,
     name: &[u8],
     bytes: Vec<u8>,
-) -> Result<(), NoMemory> {
+) -> Result<(), NoMemory>
+    ensures { OnOk result (library.new ≡ insert library.old name.now bytes.items) }
+{
     library.add(FileName::new(alloc, name)?, bytes)
 }
 
