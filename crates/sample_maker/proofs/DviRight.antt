@@ -121,7 +121,7 @@ still_free f [] r apart h = tt
 still_free f (g ∷ fonts) r apart h =
     let parts = or_parts (int_eq g.0 f.0) (list_any (λ (x : ℤ × FontKey). int_eq x.0 f.0) fonts) apart in
     let same : font_table (behind r (definition f)) g.0 ≡ font_table r g.0 = cond-false (int_eq f.0 g.0) (Some f.1) (font_table r g.0) (int_apart f.0 g.0 parts.0) in
-    (elim h.0 [ | inl none ↦ inl (same ∙ none) | inr some ↦ inr (same ∙ some) ], still_free f fonts r parts.1 h.1)
+    (elim h.0 [ inl none ↦ inl (same ∙ none) | inr some ↦ inr (same ∙ some) ], still_free f fonts r parts.1 h.1)
 
 pub fonts_right : (res : ℕ) (q : Preamble) (post : Bool) (n : ℕ) (back : ℤ) (fonts : List (ℤ × FontKey)) (r : Reading) → All IsFontSpelled fonts → AllByRecursion IsWritable fonts → IsTrue (are_apart fonts)
     → Stands q post false n back r → AllByRecursion (IsFree (font_table r)) fonts → AreRight res r → AreRight res (with_fonts r fonts)

@@ -29,9 +29,9 @@ use Rattle.sample_maker.proofs.DviRight.{AreRight, IsFree, IsRight, Rightly, all
 abbrev judged : ℕ → ℤ → ℤ → ℤ → Option DocFault
 judged res num den mag =
     if int_lt (pos 0) num then
-      (if int_lt (pos 0) den then
-        (if int_lt (pos 0) mag then (if is_scale_right res num den mag then None else Some (fault.Scale 2)) else Some (fault.Preamble 10))
-      else Some (fault.Preamble 6))
+    (if int_lt (pos 0) den then
+    (if int_lt (pos 0) mag then (if is_scale_right res num den mag then None else Some (fault.Scale 2)) else Some (fault.Preamble 10))
+    else Some (fault.Preamble 6))
     else Some (fault.Preamble 2)
 
 positive : (n : ℕ) → 1 ≤ n → int_lt (pos 0) (pos n) ≡ true
@@ -144,11 +144,13 @@ module _ (u : Units) (fonts : List (ℤ × FontKey)) (pages : List (List ℕ)) (
   done_right : AreRight res done
   done_right =
       let pages_are = are u fonts pages s.num.1 s.den.1 s.mag.1 spelled apart few all short in
-      let stands = done_stands u fonts pages s.num.1 s.den.1 s.mag.1 spelled apart few all short in
-      (front_right.right, record {
-        allowed = allowed_there context.Between front 248 (place_is (told u) false false (0 + length pages) pages_are.back front pages_are.stands) refl;
-        right = post_right u (length pages) (end_of front) front stands.begun stands.preamble;
-      })
+      let stands = done_stands u fonts pages s.num.1 s.den.1 s.mag.1 spelled apart few all short in (
+        front_right.right,
+        record {
+          allowed = allowed_there context.Between front 248 (place_is (told u) false false (0 + length pages) pages_are.back front pages_are.stands) refl;
+          right = post_right u (length pages) (end_of front) front stands.begun stands.preamble;
+        },
+      )
 
   kept : (k : ℤ) (key : FontKey) → key_given fonts k ≡ Some key → font_table done k ≡ Some key
   kept k key e = front_right.keeps k key (fonts_there fonts first k key apart e)
@@ -160,11 +162,14 @@ module _ (u : Units) (fonts : List (ℤ × FontKey)) (pages : List (List ℕ)) (
 
   all_right : AreRight res (document_reading u fonts pages)
   unfolding document_reading
-  all_right = (end_right, record {
-    allowed = allowed_there context.Post (with_fonts done fonts) 249 (place_is (told u) true false (length pages) _ (with_fonts done fonts) (end_stands u fonts pages s.num.1 s.den.1 s.mag.1 spelled apart few all short)) refl;
-    right = ap (λ (o : Option ℕ). postpost_fault o (end_of (with_fonts done fonts)) (shortest_spelling (PostPost (pos (end_of front)) 2))) (post_stays fonts done)
-        ∙ postpost_right (end_of front) (end_of (with_fonts done fonts)) (at u fonts pages s.num.1 s.den.1 s.mag.1 spelled apart few all short);
-  })
+  all_right = (
+    end_right,
+    record {
+      allowed = allowed_there context.Post (with_fonts done fonts) 249 (place_is (told u) true false (length pages) _ (with_fonts done fonts) (end_stands u fonts pages s.num.1 s.den.1 s.mag.1 spelled apart few all short)) refl;
+      right = ap (λ (o : Option ℕ). postpost_fault o (end_of (with_fonts done fonts)) (shortest_spelling (PostPost (pos (end_of front)) 2))) (post_stays fonts done)
+          ∙ postpost_right (end_of front) (end_of (with_fonts done fonts)) (at u fonts pages s.num.1 s.den.1 s.mag.1 spelled apart few all short);
+    },
+  )
 
   pub is_document : IsDocument res (document_text u fonts pages) (document_reading u fonts pages)
   unfolding document_text

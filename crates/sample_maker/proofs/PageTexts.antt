@@ -1,4 +1,4 @@
--- The commands of a page's bytes, behind the beginning of the page.
+-- The commands of a page's bytes, after the beginning of the page.
 use Rattle.std.proofs.Common.{◌≡◌, ◌∙◌, inl, inr, ℕ, suc, ◌+◌, ◌<◌, ℤ, Bool, true, false, List, [], ◌∷◌, ◌++◌, length, Option, Some, None, refl, sym, ap, subst, arith, append_assoc, append-nil, length-append}
 use Rattle.std.specs.Prelude.{reverse, IsTrue, ◌&&◌, ◌==◌, not, if◌then◌else◌, slice_index}
 use Rattle.std.specs.List.{AllByRecursion}
@@ -28,7 +28,7 @@ text_more before c front rest h =
     ap (λ cs. reverse cs ++ before) (placed_first (end_of before) c front rest h)
     ∙ reversed_onto (placed (end_of before) c front) (placed_from (end_of before + length front) rest) before
 
--- what each command keeps holds behind them all
+-- what each command keeps holds after them all
 walk : (P : Reading → Type 0) → ((before : Reading) (c : DviCommand) (front : List ℕ) → P before → Spells c front → IsTrue (may_stand context.Page (slice_index front 0)) → is_eop c ≡ false → P (with before c front))
     → (commands : List DviCommand) (body : List ℕ) (before : Reading) → AreCommands context.Page commands body → AllByRecursion (λ c. is_eop c ≡ false) commands → P before → P (behind_text before body)
 walk P step [] body before are ends p = subst P (sym (ap (behind_text before) are ∙ text_none before)) p

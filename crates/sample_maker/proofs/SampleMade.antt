@@ -162,9 +162,11 @@ spelled (suc (suc (suc n))) f lt = absurd (omega (arith, lt))
 
 pub is_sample : (n res : ℕ) → 1 ≤ n → n ≤ 1000 → 1 ≤ res → res ≤ 4800 → (reading : Reading) × IsDocument res (sample_document n) reading
 unfolding sample_document
-is_sample n res some few fine coarse = (document_reading sample_units sample_fonts (sample_pages n),
-    is_document sample_units sample_fonts (sample_pages n) signed writable spelled refl (omega (arith, pages_count n, few)) (pages_are n) (omega (arith, document_short n, few)) res
-    (le-leb (1270 * res * 1000) (512 * (254000000 * 3)) (omega (arith, coarse))) (pages_define n))
+is_sample n res some few fine coarse = (
+  document_reading sample_units sample_fonts (sample_pages n),
+  is_document sample_units sample_fonts (sample_pages n) signed writable spelled refl (omega (arith, pages_count n, few)) (pages_are n) (omega (arith, document_short n, few)) res
+      (le-leb (1270 * res * 1000) (512 * (254000000 * 3)) (omega (arith, coarse))) (pages_define n),
+)
 
 pub sample_gives : (n res : ℕ) (reading : Reading) → 1 ≤ n → n ≤ 1000 → IsDocument res (sample_document n) reading → GivesBack sample_units sample_fonts (sample_pages n) res reading
 unfolding sample_document
