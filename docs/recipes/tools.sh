@@ -20,7 +20,10 @@ usage() {
   exit 64
 }
 
-need "$DVIPBM" 'nothing: run make in the repository'
+command -v "$DVIPBM" >/dev/null 2>&1 || {
+  echo "$(basename "$0"): there is no $DVIPBM: run make in the repository, or name the program by DVIPBM" >&2
+  exit 69
+}
 
 # resolution OPTION ..: prints the dots to the inch that these options of dvipbm ask for.
 resolution() {

@@ -203,6 +203,12 @@ class Folders(unittest.TestCase):
         with open(f'{self.tree}/asked') as file:
             self.assertRegex(file.read(), r'^--bdpi 300 --mag 1\+60/300 --dpi 360 --destdir \S+ drawn12\n$')
 
+    def test_outlines_are_made_by_ps2pk_where_gsftopk_fails(self):
+        self.supply()
+        shutil.move(f'{self.tools}/mktexpk', f'{self.tools}/made')
+        self.tool('mktexpk', 'if [ "$ps_to_pk" = ps2pk ]; then made "$@"; else echo no render.ps >&2; exit 1; fi')
+        self.assertEqual(self.collect(), (0, f'{self.folder}: 3 files new, 0 there before, 0 missing\n'))
+
     def test_what_is_missing_is_said_with_a_command(self):
         status, said = self.collect()
         self.assertEqual(status, 1)

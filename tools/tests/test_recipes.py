@@ -74,6 +74,18 @@ class Recipes(unittest.TestCase):
         self.recipe('draw', 'small.tex', 'small.pbm')
         self.assertEqual([it[:2] for it in bitmaps(read(self.path('small.pbm')))], [(WIDE, HIGH)])
 
+    @needs('latex', 'mktexpk', 'kpsewhich')
+    def test_draw_virtual_fonts(self):
+        if subprocess.run(['kpsewhich', 'ptmr7t.vf', 'utmr8a.pfb'], stdout=subprocess.DEVNULL).returncode:
+            self.skipTest('not installed: texlive-fonts-recommended')
+        with open(self.path('times.tex'), 'w') as file:
+            file.write('\\documentclass{article}\\usepackage{times}\\pagestyle{empty}\\begin{document}Fine text.\\end{document}\n')
+        self.recipe('draw', 'times.tex', 'times.pbm')
+        found = bitmaps(read(self.path('times.pbm')))
+        self.assertEqual([it[:2] for it in found], [(WIDE, HIGH)])
+        self.assertTrue(any(found[0][2]))
+        self.assertTrue(os.path.exists(self.path('fonts/ptmr7t.vf')))
+
     @needs('pamsplit', 'pnmtopng', 'pngtopam')
     def test_to_png(self):
         self.recipe('to-png', 'example.dvi', 'screen')
@@ -165,6 +177,10 @@ class Recipes(unittest.TestCase):
         pages = read(self.path('pages.pbm'))
         self.assertEqual([name for name in names if read(self.path(name.replace('.dvi', '.pbm'))) != pages], [])
         self.assertEqual(sorted(os.listdir(self.path('machines'))), ['one', 'two'])
+
+    def test_a_program_that_is_absent_is_named(self):
+        said = self.recipe('to-pdf', 'pages.pbm', 'x.pdf', status=69, DVIPBM='/nowhere/dvipbm')
+        self.assertEqual(said, 'to-pdf: there is no /nowhere/dvipbm: run make in the repository, or name the program by DVIPBM\n')
 
     def test_a_tool_that_is_absent_is_named(self):
         os.makedirs(self.path('bare'), exist_ok=True)

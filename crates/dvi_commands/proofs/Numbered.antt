@@ -20,6 +20,12 @@ opcode_set op fields text w high same whole behind =
     let opcode : op ≡ 0 + op = omega arith in
     subst (λ z. Spells (Set z) (op ∷ (fields ++ text))) (sym same) (0, high, ap (λ x. op ∷ x) (alone op fields text (omega arith) size whole behind) ∙ ap (λ o. o ∷ []) opcode)
 
+-- a character with an opcode of its own
+pub small_set : (op : ℕ) (w : ℤ) → op ≤ 127 → w ≡ pos op → Spells (Set w) (op ∷ [])
+small_set op w high same =
+    let opcode : op ≡ 0 + op = omega arith in
+    subst (λ z. Spells (Set z) (op ∷ [])) (sym same) (0, high, ap (λ o. o ∷ []) opcode)
+
 pub opcode_font : (op : ℕ) (fields text : List ℕ) (w : ℤ) → 171 ≤ op → op ≤ 234 → w ≡ pos (op - 171) → length fields ≡ fixed_size op → length text ≡ text_size op fields → Spells (Font w) (op ∷ (fields ++ text))
 opcode_font op fields text w low high same whole behind =
     let opcode : op ≡ 171 + (op - 171) = omega arith in

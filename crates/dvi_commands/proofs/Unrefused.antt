@@ -1,8 +1,7 @@
 -- Bytes that are not refused begin with a spelling of a command.
-use Rattle.std.proofs.Common.{◌≡◌, ℕ, zero, suc, ◌+◌, ◌-◌, ◌*◌, ◌^◌, ◌<◌, ◌≤◌, ℤ, pos, Bool, true, false, List, [], ◌∷◌, ◌++◌, length, take, drop, map, Option, Some, None, refl, sym, ap, subst, ◌∙◌, arith, inl, inr, append_assoc, length-drop, length-take}
-use Rattle.std.specs.Prelude.{◌==◌, not, nat_lt, if◌then◌else◌, slice_index}
-use Rattle.std.specs.List.{AllByRecursion}
-use Rattle.std.proofs.lemmas.Bool.{cases_lt, agree_below_at, eqb-true, ltb-false}
+use Rattle.std.proofs.Common.{◌≡◌, ℕ, ◌+◌, ◌-◌, ◌^◌, ◌<◌, ◌≤◌, ℤ, pos, Bool, true, false, List, [], ◌∷◌, ◌++◌, length, take, drop, map, Some, None, refl, sym, ap, subst, ◌∙◌, arith, inl, inr, append_assoc, length-drop, length-take}
+use Rattle.std.specs.Prelude.{not, nat_lt, if◌then◌else◌, slice_index}
+use Rattle.std.proofs.lemmas.Bool.{cases_lt, ltb-false}
 use Rattle.std.proofs.lemmas.List.{append-nil, length-take-le, take-append-drop}
 use Rattle.big_endian.specs.Numbers.{AreBytes, IsSigned, number_bytes, signed_of, unsigned_of}
 use Rattle.big_endian.proofs.Bytes.{signed_is_written_again, unsigned_is_written_again}
@@ -14,7 +13,7 @@ use Rattle.dvi_commands.specs.declared.command.CommandFault.{CommandFault}
 use Rattle.dvi_commands.specs.declared.command.CommandFault.TheVariants.{Short}
 use Rattle.dvi_commands.specs.declared.command.Context.{Context}
 use Rattle.dvi_commands.proofs.FieldNumbers.{byte_at, bytes_before, bytes_behind, code_of, numbers_are, numbers_from, quad_at}
-use Rattle.dvi_commands.proofs.Motions.{AreQuadsFrom, bop_stored, motion, nothing, post_post_stored, post_stored, pre_stored, rule, stored}
+use Rattle.dvi_commands.proofs.Motions.{bop_stored, motion, nothing, post_post_stored, post_stored, pre_stored, rule, stored}
 use Rattle.dvi_commands.proofs.Numbered.{alone, font, opcode_font, opcode_set, put, set}
 use Rattle.dvi_commands.proofs.OneCommand.{told}
 use Rattle.dvi_commands.proofs.Opcodes.{IsRow, no_text, row_size}

@@ -1,6 +1,6 @@
 //! A command from its opcode, its fields and its text, where all of these are there.
 
-ghost use Rattle.std.specs.Prelude.{◌≡◌, ◌≤◌, ◌+◌, ◌-◌, ◌∷◌, ◌++◌, false, length, slice_index, slice_range};
+ghost use Rattle.std.specs.Prelude.{◌≡◌, ◌≤◌, ◌+◌, ◌-◌, ◌∷◌, ◌++◌, [], false, length, slice_index, slice_range};
 ghost use Rattle.big_endian.specs.Numbers.{IsSigned, number_bytes};
 ghost use Rattle.dvi_commands.specs.Refusal.{LAST_OPCODE, fixed_size, tells_negative_length, text_size};
 ghost use Rattle.dvi_commands.specs.Spelling.{IsNumber, Spells, quad, seen};
@@ -99,6 +99,14 @@ fn postamble<'a>(fields: &[u8]) -> Command<'a>
         deepest: unsigned(&fields[24..26]) as u16,
         pages: unsigned(&fields[26..28]) as u16,
     }
+}
+
+/// The character with an opcode of its own, which has no fields.
+pub(crate) fn small_character<'a>(opcode: u8) -> Command<'a>
+    requires { opcode ≤ 127 }
+    ensures { Spells (seen result) (opcode ∷ []) }
+{
+    Command::Set(i32::from(opcode))
 }
 
 /// The command with an opcode.

@@ -6,10 +6,13 @@ ghost use Rattle.dvi_commands.specs.Refusal.{LAST_OPCODE, fixed_size, may_stand,
 ghost use Rattle.dvi_commands.specs.Spelling.{DviCommand, Spells, seen};
 
 use crate::command::{Command, CommandFault, Context};
-use crate::fields::command_with;
+use crate::fields::{command_with, small_character};
 use big_endian::{signed, unsigned};
 
 const LAST_OPCODE: u8 = 249;
+
+/// The last opcode that is a character by itself.
+const LAST_SMALL_CHARACTER: u8 = 127;
 
 /// How many bytes the fields of a command have, by its opcode, without a text.
 static FIELD_SIZES: [u8; 250] = [
@@ -105,6 +108,10 @@ pub fn read_command<'a>(
     }
     if !is_allowed(context, opcode) {
         return Err(CommandFault::Misplaced(opcode));
+    }
+    // Most commands of a page are characters of one byte.
+    if opcode <= LAST_SMALL_CHARACTER {
+        return Ok((small_character(opcode), at + 1));
     }
     let behind = &bytes[at + 1..];
     let size = field_size(opcode);

@@ -12,6 +12,7 @@ mod library;
 mod mem_fonts;
 mod memory;
 mod names;
+mod picky_fonts;
 mod streams;
 mod sure;
 
@@ -22,6 +23,7 @@ pub use library::Library;
 pub use mem_fonts::{MemFonts, SureFonts};
 pub use memory::{MemInput, MemOutput};
 pub use names::{FileName, FontName};
+pub use picky_fonts::PickyFonts;
 pub use streams::{Failed, Input, Output, write_all};
 pub use sure::{SureInput, SureOutput};
 

@@ -1,7 +1,8 @@
 //! Each public call once, with ample memory.
 use crate::{
     Failed, FileName, FontKey, FontName, FontSource, Gather, Input, Library, LoadStop, MemFonts,
-    MemInput, MemOutput, Output, PIECE, SureFonts, SureInput, SureOutput, laws, write_all,
+    MemInput, MemOutput, Output, PIECE, PickyFonts, SureFonts, SureInput, SureOutput, laws,
+    write_all,
 };
 use std::sync::Arc;
 use std::test::Fail;
@@ -143,6 +144,26 @@ fn sources_load_the_later_file(rt: HostRuntime) -> Result<(), Fail> {
         b"cmr10.vf",
     ]) {
         assert_eq!(rt; name.bytes(), expected);
+    }
+    Ok(())
+}
+
+#[test]
+fn a_picky_source_fails_by_names(rt: HostRuntime) -> Result<(), Fail> {
+    let mut files = Library::new(rt.alloc());
+    for text in [b"bar.tfm".as_slice(), b"ba.tfm"] {
+        files.add(FileName::new(rt.alloc(), text)?, text.to_vec(rt.alloc())?)?;
+    }
+    let library = Arc::new(rt.alloc(), files)?;
+    let mut fonts = PickyFonts::new(library, FontName::new(rt.alloc(), b"bar")?);
+    for (text, expected) in [
+        (b"bar.tfm".as_slice(), Err(LoadStop::Failed)),
+        (b"ba.tfm", Ok(true)),
+        (b"bar", Err(LoadStop::Failed)),
+        (b"dot.tfm", Ok(false)),
+    ] {
+        let name = FileName::new(rt.alloc(), text)?;
+        assert_eq!(rt; fonts.load(&name).map(|found| found.is_some()), expected);
     }
     Ok(())
 }

@@ -18,3 +18,8 @@ pub mod PkForms
 pub mod PkAppended
 pub mod PkRead
 pub mod PkLaws
+pub mod SampleParts
+pub mod DviRight
+pub mod DviSound
+pub mod SampleMade
+pub mod SampleFonts

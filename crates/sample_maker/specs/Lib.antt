@@ -2,3 +2,4 @@ pub mod TfmFile
 pub mod DviFile
 pub mod VfFile
 pub mod PkFile
+pub mod Sample

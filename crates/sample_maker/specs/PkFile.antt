@@ -22,7 +22,11 @@ size_sum (p ∷ glyphs) = p.1.raster.height * div_ceil p.1.raster.width 8 + size
 
 -- a raster by its pixels
 abbrev pub seen_raster : Bitmap → Bitmap
-seen_raster r = record { width = r.width; height = r.height; rows = from_fn r.height (λ y. from_fn r.width (λ x. is_black r x y)) }
+seen_raster r = record {
+  width = r.width;
+  height = r.height;
+  rows = from_fn r.height (λ y. from_fn r.width (λ x. is_black r x y));
+}
 
 abbrev pub seen_glyph : Glyph → Glyph
 seen_glyph g = record { raster = seen_raster g.raster; hoff = g.hoff; voff = g.voff }
@@ -57,21 +61,35 @@ plain_bytes r = row_text (plain_pixels r)
 
 -- the width and the escapements are e zero bytes
 abbrev pub fields : ℕ → ℕ × Glyph → Fields
-fields e p = record { code = p.0; dyn_f = 14; first_black = false; escapements = replicate e 0; width = p.1.raster.width; height = p.1.raster.height; hoff = p.1.hoff; voff = p.1.voff; raster = plain_bytes p.1.raster }
+fields e p = record {
+  code = p.0;
+  dyn_f = 14;
+  first_black = false;
+  escapements = replicate e 0;
+  width = p.1.raster.width;
+  height = p.1.raster.height;
+  hoff = p.1.hoff;
+  voff = p.1.voff;
+  raster = plain_bytes p.1.raster;
+}
 
 -- the sides and the offsets, n bytes each
 abbrev pub sides : ℕ → Glyph → List ℕ
-sides n g = number_bytes n (pos g.raster.width) ++ (number_bytes n (pos g.raster.height) ++ (number_bytes n g.hoff ++ number_bytes n g.voff))
+sides n g =
+    number_bytes n (pos g.raster.width)
+    ++ (number_bytes n (pos g.raster.height) ++ (number_bytes n g.hoff ++ number_bytes n g.voff))
 
 -- n bytes hold the number in two's complement
 abbrev pub is_signed : ℕ → ℤ → Bool
 is_signed n (pos m) = nat_lt (2 * m) (256 ^ n)
 is_signed n (negsuc m) = nat_lt (2 * m) (256 ^ n)
 
--- a form holds the numbers of a glyph: n bytes for each side and offset, and a length, of `fixed` bytes and the raster, below `most`
+-- a form holds the numbers of a glyph: n bytes for each side and offset, and a length, of `fixed`
+-- bytes and the raster, below `most`
 abbrev pub has_form : ℕ → ℕ → ℕ → Glyph → Bool
 has_form n fixed most g =
-    nat_lt g.raster.width (256 ^ n) && nat_lt g.raster.height (256 ^ n) && is_signed n g.hoff && is_signed n g.voff
+    nat_lt g.raster.width (256 ^ n) && nat_lt g.raster.height (256 ^ n)
+    && is_signed n g.hoff && is_signed n g.voff
     && nat_lt (fixed + length (plain_bytes g.raster)) most
 
 -- the first of the three forms that does
@@ -85,17 +103,20 @@ packet_item p =
 
 -- no comment, a design size of ten points, the checksum 0, and 300 dots an inch either way
 abbrev pub pk_preamble : List ℕ
-pk_preamble = 0xf7 ∷ 0x59 ∷ 0 ∷ 0 ∷ 0xa0 ∷ 0 ∷ 0 ∷ 0 ∷ 0 ∷ 0 ∷ 0 ∷ 0 ∷ 0x04 ∷ 0x26 ∷ 0xae ∷ 0 ∷ 0x04 ∷ 0x26 ∷ 0xae ∷ []
+pk_preamble =
+    0xf7 ∷ 0x59 ∷ 0 ∷ 0 ∷ 0xa0 ∷ 0 ∷ 0 ∷ 0 ∷ 0 ∷ 0 ∷ 0 ∷ 0
+    ∷ 0x04 ∷ 0x26 ∷ 0xae ∷ 0 ∷ 0x04 ∷ 0x26 ∷ 0xae ∷ []
 
 unfoldable pub pk_items : List (ℕ × Glyph) → List ℕ
 pk_items glyphs = pk_preamble ++ flat_map packet_item glyphs
 
--- so many no-ops after the closing command, before which so many bytes stand, make a multiple of four
+-- so many no-ops after the closing command, before which n bytes stand, make a multiple of four
 abbrev pub no_ops_after : ℕ → ℕ
 no_ops_after n = (4 - (n + 1) % 4) % 4
 
 unfoldable pub pk_file : List (ℕ × Glyph) → List ℕ
-pk_file glyphs = pk_items glyphs ++ 245 ∷ replicate (no_ops_after (length (pk_items glyphs))) 246
+pk_file glyphs =
+    pk_items glyphs ++ 245 ∷ replicate (no_ops_after (length (pk_items glyphs))) 246
 
 -- ---- laws
 
@@ -103,17 +124,22 @@ pk_file glyphs = pk_items glyphs ++ 245 ∷ replicate (no_ops_after (length (pk_
 abbrev pub ShapedRastersAreSeenWhole : Type 0
 ShapedRastersAreSeenWhole = (r : Bitmap) → IsShaped r → seen_raster r ≡ r
 
--- a plain bitmap has as few bytes as its pixels take, and no bit after the last; the pixels of a row stand after those of the rows above it
+-- a plain bitmap has as few bytes as its pixels take, and no bit after the last; the pixels of a
+-- row stand after those of the rows above it
 abbrev pub PlainBitmapsArePacked : Type 0
 PlainBitmapsArePacked = (r : Bitmap) → IsPadded (r.width * r.height) (plain_bytes r)
-    × ((x y : ℕ) → x < r.width → y < r.height → pixel (plain_bytes r) (y * r.width + x) ≡ is_black r x y)
+    × ((x y : ℕ) → x < r.width → y < r.height
+    → pixel (plain_bytes r) (y * r.width + x) ≡ is_black r x y)
 
--- a packet has the short form where that holds its numbers, else the extended form where that does, else the long one
+-- a packet has the short form where that holds its numbers, else the extended form where that does,
+-- else the long one
 abbrev pub PacketsHaveTheFirstForm : Type 0
 PacketsHaveTheFirstForm = (p : ℕ × Glyph) → p.0 < 256
     → (Fit (fields 4 p) 1 4 1 1024 → short_packet (fields 4 p) ≡ packet_item p)
-    × ((Fit (fields 4 p) 1 4 1 1024 → ⊥) → Fit (fields 5 p) 1 5 2 196608 → extended_packet (fields 5 p) ≡ packet_item p)
-    × ((Fit (fields 4 p) 1 4 1 1024 → ⊥) → (Fit (fields 5 p) 1 5 2 196608 → ⊥) → long_packet (fields 12 p) ≡ packet_item p)
+    × ((Fit (fields 4 p) 1 4 1 1024 → ⊥) → Fit (fields 5 p) 1 5 2 196608
+    → extended_packet (fields 5 p) ≡ packet_item p)
+    × ((Fit (fields 4 p) 1 4 1 1024 → ⊥) → (Fit (fields 5 p) 1 5 2 196608 → ⊥)
+    → long_packet (fields 12 p) ≡ packet_item p)
 
 -- a file has a multiple of four bytes
 abbrev pub FilesAreMultiplesOfFour : Type 0

@@ -3,12 +3,18 @@
 #![tactic(auto)]
 
 mod dvi;
+pub mod laws;
+mod made;
 mod pk;
+mod sample_files;
+mod samples;
 mod tfm;
 mod vf;
 
 pub use dvi::document;
-pub use pk::{made_pk_files, pk_bytes};
+pub use made::Sample;
+pub use pk::pk_bytes;
+pub use samples::sample;
 pub use tfm::tfm_bytes;
 pub use vf::vf_bytes;
 

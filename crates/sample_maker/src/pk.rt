@@ -5,7 +5,7 @@ ghost use Rattle.big_endian.specs.Numbers.{IsSigned, number_bytes};
 ghost use Rattle.packed_rows.specs.Packing.{bits_value};
 ghost use Rattle.pk_packets.specs.Fonts.{IsAnswer, IsPkFile};
 ghost use Rattle.pk_packets.specs.Written.{extended_packet, long_packet, short_packet};
-ghost use Rattle.sample_maker.specs.PkFile.{FilesAreMultiplesOfFour, IsBounded, IsMeasured, PacketsHaveTheFirstForm, PlainBitmapsArePacked, ShapedRastersAreSeenWhole, fields, glyph_given, has_form, have_own_codes, is_signed, no_ops_after, packet_item, pk_file, plain_bytes, plain_pixels, sides, size_sum};
+ghost use Rattle.sample_maker.specs.PkFile.{IsBounded, IsMeasured, fields, glyph_given, has_form, have_own_codes, is_signed, no_ops_after, packet_item, pk_file, plain_bytes, plain_pixels, sides, size_sum};
 
 use pk_runs::{Glyph, Raster};
 use std::alloc::{AllocError as NoMemory, Global};
@@ -250,13 +250,3 @@ pub fn pk_bytes(alloc: Global, glyphs: &[(u8, Glyph)]) -> Result<Vec<u8>, NoMemo
     append_closing(&mut out)?;
     Ok(out)
 }
-
-/// A raster is what is seen of its pixels. A plain bitmap has as few bytes as its pixels take, and
-/// its last bits are zero. A packet has the first form that holds its numbers. A made file has a
-/// multiple of four bytes.
-pub fn made_pk_files()
-    ensures seen { ShapedRastersAreSeenWhole }
-    ensures packed { PlainBitmapsArePacked }
-    ensures forms { PacketsHaveTheFirstForm }
-    ensures words { FilesAreMultiplesOfFour }
-{}

@@ -2,4 +2,5 @@
 mod documents;
 mod fonts;
 mod packed_fonts;
+mod samples;
 mod virtual_fonts;
