@@ -1,3 +1,4 @@
 pub mod TfmFile
 pub mod DviFile
 pub mod VfFile
+pub mod Sample

@@ -3,10 +3,16 @@
 #![tactic(auto)]
 
 mod dvi;
+pub mod laws;
+mod made;
+mod sample_files;
+mod samples;
 mod tfm;
 mod vf;
 
 pub use dvi::document;
+pub use made::Sample;
+pub use samples::sample;
 pub use tfm::tfm_bytes;
 pub use vf::vf_bytes;
 
