@@ -21,7 +21,7 @@ module _ {X : Type 0} (g : X → List ℕ) (four : (x : X) → length (g x) ≡ 
   length_of_blocks [] = refl
   length_of_blocks (x ∷ xs) = omega (arith, length-append (g x) (flat_map g xs), four x, length_of_blocks xs)
 
-  -- the i-th block stands behind 4 * i bytes
+  -- the i-th block stands after 4 * i bytes
   pub block_at : (xs : List X) (i : ℕ) (d : X) (rest : List ℕ) → i < length xs → take 4 (drop (4 * i) (flat_map g xs ++ rest)) ≡ g (get_or xs i d)
   block_at [] i d rest lt = absurd (omega arith)
   block_at (x ∷ xs) zero d rest lt =

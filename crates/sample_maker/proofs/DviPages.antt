@@ -16,7 +16,7 @@ use Rattle.sample_maker.proofs.DviTexts.{page_even, pages_grow}
 
 -- ---- numbers
 
-int_eq_same : (a b : ℤ) → int_eq a b ≡ true → a ≡ b
+pub int_eq_same : (a b : ℤ) → int_eq a b ≡ true → a ≡ b
 int_eq_same (pos m) (pos n) h = ap pos (eqb-true m n h)
 int_eq_same (negsuc m) (negsuc n) h = ap negsuc (eqb-true m n h)
 int_eq_same (pos m) (negsuc n) h = cc
@@ -35,7 +35,7 @@ none_yet i (p ∷ before) h = one_less (is_bop p.command) (is_page (context_afte
 
 -- ---- fonts
 
-first_font : (f : ℤ × FontKey) (fonts : List (ℤ × FontKey)) → All IsFontSpelled (f ∷ fonts) → IsFontSpelled f × All IsFontSpelled fonts
+pub first_font : (f : ℤ × FontKey) (fonts : List (ℤ × FontKey)) → All IsFontSpelled (f ∷ fonts) → IsFontSpelled f × All IsFontSpelled fonts
 first_font f fonts h = (h 0 f (omega arith), λ k d lt. h (suc k) d (omega (arith, lt)))
 
 pub fonts_stand : (q : Preamble) (post : Bool) (n : ℕ) (back : ℤ) (fonts : List (ℤ × FontKey)) (r : Reading) → All IsFontSpelled fonts → Stands q post false n back r → Stands q post false n back (with_fonts r fonts)
@@ -66,7 +66,7 @@ not_redefined (f ∷ fonts) r k h = elim (cases_Bool (int_eq f.0 k)) [
       not_redefined fonts (behind r (definition f)) k rest ∙ cond-false (int_eq f.0 k) (Some f.1) (font_table r k) other
 ]
 
-none_given : (fonts : List (ℤ × FontKey)) (k : ℤ) → list_any (λ (g : ℤ × FontKey). int_eq g.0 k) fonts ≡ false → key_given fonts k ≡ None
+pub none_given : (fonts : List (ℤ × FontKey)) (k : ℤ) → list_any (λ (g : ℤ × FontKey). int_eq g.0 k) fonts ≡ false → key_given fonts k ≡ None
 none_given [] k h = refl
 none_given (f ∷ fonts) k h =
     let parts = or_parts (int_eq f.0 k) (list_any (λ (g : ℤ × FontKey). int_eq g.0 k) fonts) h in
@@ -101,10 +101,10 @@ bop_spelled number back lt h =
     (0, (refl, refl, (omega arith, (nought, (nought, (nought, (nought, (nought, (nought, (nought, (nought, (nought, tt)))))))))), h), refl)
 
 module _ (q : Preamble) (n : ℕ) (back : ℤ) (r : Reading) (h : Stands q false false n back r) (number : ℕ) (few : number < 2 ^ 31) (fits : IsSigned 4 back) (body : List ℕ) (is : IsPageText body) where
-  abbrev opened : Reading
+  abbrev pub opened : Reading
   opened = behind r (beginning number (last_bop r))
 
-  opened_stands : Stands q false true (suc n) (pos (end_of r)) opened
+  pub opened_stands : Stands q false true (suc n) (pos (end_of r)) opened
   opened_stands = record {
     spelled = (h.spelled, record { unfinished = h.going; place = refl; spelled = bop_spelled number (last_bop r) few (subst (IsSigned 4) (sym h.last) fits) });
     going = refl;
@@ -115,7 +115,7 @@ module _ (q : Preamble) (n : ℕ) (back : ℤ) (r : Reading) (h : Stands q false
     preamble = h.preamble;
   }
 
-  filled_stands : Stands q false true (suc n) (pos (end_of r)) (behind_text opened body)
+  pub filled_stands : Stands q false true (suc n) (pos (end_of r)) (behind_text opened body)
   filled_stands = text_stands q false true (suc n) (pos (end_of r)) body opened is opened_stands
 
   pub page_stands : Stands q false false (suc n) (pos (end_of r)) (with_page r number body)

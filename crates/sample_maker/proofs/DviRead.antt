@@ -18,14 +18,14 @@ use Rattle.sample_maker.proofs.PageTexts.{IsEven, Stands, even_behind, off_page}
 use Rattle.sample_maker.proofs.DviTexts.{fonts_even, last_of_pages, pages_even, text_of_fonts, text_of_pages}
 use Rattle.sample_maker.proofs.DviPages.{ArePages, are_pages, none_on_pages, not_redefined, fonts_off_page, fonts_stand, fonts_there, position_fits}
 
-abbrev told : Units → Preamble
+abbrev pub told : Units → Preamble
 told u = record { id = 2; num = pos u.num; den = pos u.den; mag = pos u.mag; text = [] }
 
 -- the preamble and the fonts
 abbrev pub head : Units → List (ℤ × FontKey) → Reading
 head u fonts = with_fonts (behind [] (preamble u)) fonts
 
-head_even : (u : Units) (fonts : List (ℤ × FontKey)) → IsEven (head u fonts)
+pub head_even : (u : Units) (fonts : List (ℤ × FontKey)) → IsEven (head u fonts)
 head_even u fonts = fonts_even fonts (behind [] (preamble u)) (even_behind [] (preamble u) refl)
 
 head_last : (fonts : List (ℤ × FontKey)) (r : Reading) → last_bop (with_fonts r fonts) ≡ last_bop r
@@ -36,7 +36,7 @@ pub head_text : (u : Units) (fonts : List (ℤ × FontKey)) → text_of (head u 
 head_text u fonts = text_of_fonts fonts (behind [] (preamble u))
 
 module _ (u : Units) (fonts : List (ℤ × FontKey)) (pages : List (List ℕ)) (all : AllByRecursion IsPageText pages) where
-  front_even : IsEven (pages_reading u fonts pages)
+  pub front_even : IsEven (pages_reading u fonts pages)
   unfolding pages_reading
   front_even = pages_even pages (head u fonts) 1 all (head_even u fonts)
 
@@ -83,32 +83,32 @@ module _ (u : Units) (fonts : List (ℤ × FontKey)) (pages : List (List ℕ)) (
   pre_spelled : Spells (preamble u) (shortest_spelling (preamble u))
   pre_spelled = (0, (refl, omega arith, omega (arith, num), omega (arith, den), omega (arith, mag), omega arith), refl)
 
-  pre_stands : Stands (told u) false false 0 (negsuc 0) (behind [] (preamble u))
+  pub pre_stands : Stands (told u) false false 0 (negsuc 0) (behind [] (preamble u))
   pre_stands = record { spelled = (tt, record { unfinished = refl; place = refl; spelled = pre_spelled }); going = refl; post_is = refl; open_is = refl; begun = refl; last = refl; preamble = refl }
 
-  head_stands : Stands (told u) false false 0 (negsuc 0) (head u fonts)
+  pub head_stands : Stands (told u) false false 0 (negsuc 0) (head u fonts)
   head_stands = fonts_stand (told u) false 0 (negsuc 0) fonts (behind [] (preamble u)) spelled pre_stands
 
-  at : end_of (pages_reading u fonts pages) < 2 ^ 31
+  pub at : end_of (pages_reading u fonts pages) < 2 ^ 31
   at = omega (arith, front_even u fonts pages all, front_short u fonts pages all, document_long u fonts pages, fits)
 
-  minus : IsSigned 4 (negsuc 0)
+  pub minus : IsSigned 4 (negsuc 0)
   minus = omega arith
 
-  are : ArePages (told u) 0 pages (head u fonts) (pages_reading u fonts pages)
+  pub are : ArePages (told u) 0 pages (head u fonts) (pages_reading u fonts pages)
   unfolding pages_reading
   are = are_pages (told u) pages 0 (negsuc 0) (head u fonts) 1 all head_stands (head_even u fonts) minus (omega (arith, few)) at
 
-  abbrev closing : DviCommand
+  abbrev pub closing : DviCommand
   closing = postamble u (last_bop (pages_reading u fonts pages)) (length pages)
 
-  abbrev done : Reading
+  abbrev pub done : Reading
   done = behind (pages_reading u fonts pages) closing
 
   post_spelled : Spells (postamble u (last_bop (pages_reading u fonts pages)) (length pages)) (shortest_spelling (postamble u (last_bop (pages_reading u fonts pages)) (length pages)))
   post_spelled = (0, (refl, (subst (IsSigned 4) (sym are.stands.last) are.fits, (omega (arith, num), (omega (arith, den), (omega (arith, mag), (omega arith, (omega arith, tt)))))), omega arith, omega arith), refl)
 
-  done_stands : Stands (told u) true false (length pages) are.back done
+  pub done_stands : Stands (told u) true false (length pages) are.back done
   done_stands = record {
     spelled = (are.stands.spelled, record { unfinished = are.stands.going; place = refl; spelled = post_spelled });
     going = refl;
@@ -119,14 +119,14 @@ module _ (u : Units) (fonts : List (ℤ × FontKey)) (pages : List (List ℕ)) (
     preamble = are.stands.preamble;
   }
 
-  end_stands : Stands (told u) true false (length pages) are.back (with_fonts done fonts)
+  pub end_stands : Stands (told u) true false (length pages) are.back (with_fonts done fonts)
   end_stands = fonts_stand (told u) true (length pages) are.back fonts done spelled done_stands
 
-  all_spelled : AreSpelled (document_reading u fonts pages)
+  pub all_spelled : AreSpelled (document_reading u fonts pages)
   unfolding document_reading
   all_spelled = (end_stands.spelled, record { unfinished = end_stands.going; place = refl; spelled = (0, (refl, position_fits _ at, omega arith), refl) })
 
-  ended : is_ended (document_reading u fonts pages) ≡ true
+  pub ended : is_ended (document_reading u fonts pages) ≡ true
   unfolding document_reading
   ended = refl
 

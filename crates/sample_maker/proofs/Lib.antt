@@ -13,3 +13,7 @@ pub mod DviSize
 pub mod VfItems
 pub mod Loops
 pub mod VfRead
+pub mod SampleParts
+pub mod DviRight
+pub mod DviSound
+pub mod SampleMade

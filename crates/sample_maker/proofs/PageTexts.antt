@@ -1,4 +1,4 @@
--- The commands of a page's bytes, behind the beginning of the page.
+-- The commands of a page's bytes, after the beginning of the page.
 use Rattle.std.proofs.Common.{◌≡◌, ◌∙◌, inl, inr, ℕ, suc, ◌+◌, ◌<◌, ℤ, Bool, true, false, List, [], ◌∷◌, ◌++◌, length, Option, Some, None, refl, sym, ap, subst, arith, append_assoc, append-nil, length-append}
 use Rattle.std.specs.Prelude.{reverse, IsTrue, ◌&&◌, ◌==◌, not, if◌then◌else◌, slice_index}
 use Rattle.std.specs.List.{AllByRecursion}
@@ -17,18 +17,18 @@ use Rattle.sample_maker.proofs.Spelled.{AreSpelled, reversed_onto}
 
 -- ---- one command more
 
-text_none : (before : Reading) → behind_text before [] ≡ before
+pub text_none : (before : Reading) → behind_text before [] ≡ before
 text_none before = ap (λ cs. reverse cs ++ before) (placed_none (end_of before))
 
 abbrev pub with : Reading → DviCommand → List ℕ → Reading
 with before c front = placed (end_of before) c front ∷ before
 
-text_more : (before : Reading) (c : DviCommand) (front rest : List ℕ) → Spells c front → behind_text before (front ++ rest) ≡ behind_text (with before c front) rest
+pub text_more : (before : Reading) (c : DviCommand) (front rest : List ℕ) → Spells c front → behind_text before (front ++ rest) ≡ behind_text (with before c front) rest
 text_more before c front rest h =
     ap (λ cs. reverse cs ++ before) (placed_first (end_of before) c front rest h)
     ∙ reversed_onto (placed (end_of before) c front) (placed_from (end_of before + length front) rest) before
 
--- what each command keeps holds behind them all
+-- what each command keeps holds after them all
 walk : (P : Reading → Type 0) → ((before : Reading) (c : DviCommand) (front : List ℕ) → P before → Spells c front → IsTrue (may_stand context.Page (slice_index front 0)) → is_eop c ≡ false → P (with before c front))
     → (commands : List DviCommand) (body : List ℕ) (before : Reading) → AreCommands context.Page commands body → AllByRecursion (λ c. is_eop c ≡ false) commands → P before → P (behind_text before body)
 walk P step [] body before are ends p = subst P (sym (ap (behind_text before) are ∙ text_none before)) p
@@ -69,7 +69,7 @@ pub record IsPlain (c : DviCommand) : Type 0 where
 op_of : (front text : List ℕ) → IsTrue (may_stand context.Page (slice_index front 0)) → front ≡ text → IsTrue (may_stand context.Page (slice_index text 0))
 op_of front text h e = subst (λ t. IsTrue (may_stand context.Page (slice_index t 0))) e h
 
-plain : (c : DviCommand) (front : List ℕ) → Spells c front → IsTrue (may_stand context.Page (slice_index front 0)) → is_eop c ≡ false → IsPlain c
+pub plain : (c : DviCommand) (front : List ℕ) → Spells c front → IsTrue (may_stand context.Page (slice_index front 0)) → is_eop c ≡ false → IsPlain c
 plain (Bop counts back) front s h e = let no = op_of front _ h s.2 in cc
 plain Eop front s h e = cc
 plain (Pre q) front s h e = let no = op_of front _ h s.2 in cc
@@ -183,7 +183,7 @@ module _ (q : Preamble) (n : ℕ) (back : ℤ) where
 
 -- ---- fonts
 
-commands_are : (commands : List DviCommand) (body : List ℕ) → AreCommands context.Page commands body → commands_of body ≡ commands
+pub commands_are : (commands : List DviCommand) (body : List ℕ) → AreCommands context.Page commands body → commands_of body ≡ commands
 commands_are [] body are = ap commands_of are ∙ commands_none
 commands_are (c ∷ commands) body are =
     ap commands_of are.2.whole ∙ commands_first c are.0 are.1 are.2.spelled ∙ ap (λ cs. c ∷ cs) (commands_are commands are.1 are.3)

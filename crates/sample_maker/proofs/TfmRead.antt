@@ -39,7 +39,7 @@ all_widths pairs = (0, pos 0) ∷ pairs
 abbrev zeros : List ℕ
 zeros = word (pos 0) ++ word (pos 0) ++ word (pos 0)
 
--- what stands behind the front
+-- what stands after the prefix
 abbrev tables : List (ℕ × ℤ) → List ℕ
 tables pairs = indices pairs ++ (flat_map pair_word (all_widths pairs) ++ zeros)
 
@@ -50,7 +50,7 @@ parted : (pairs : List (ℕ × ℤ)) → tfm_file pairs ≡ front pairs ++ table
 unfolding tfm_file
 parted pairs = regroup (front pairs) (indices pairs) (word (pos 0)) (flat_map pair_word pairs) zeros
 
--- ---- the words behind the front
+-- ---- the words after the prefix
 
 index_four : (pairs : List (ℕ × ℤ)) (c : ℕ) → length (index_word pairs c) ≡ 4
 index_four pairs c = refl

@@ -14,7 +14,7 @@ use Rattle.sample_maker.proofs.VfItems.{IsDefinitionOf, IsPacketOf, local_is, pa
 
 -- ---- items from the first to the last
 
--- behind those before them
+-- after those before them
 abbrev pub behind : List (List ℕ) → List (List ℕ) → List (List ℕ)
 behind before [] = before
 behind before (item ∷ items) = behind (item ∷ before) items

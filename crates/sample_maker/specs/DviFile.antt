@@ -1,5 +1,6 @@
--- The DVI file of given units, fonts and pages: Knuth, DVItype, "Device-independent file format". The file is given as its reading, the
--- last command first, so that a pointer is the position of the last Bop of the commands before it.
+-- The DVI file of given units, fonts and pages: Knuth, DVItype, "Device-independent file format".
+-- The file is given as its reading, the last command first, so that a pointer is the position of
+-- the last Bop of the commands before it.
 use Rattle.std.specs.Prelude.{◌≡◌, ℕ, ◌+◌, ◌-◌, ◌%◌, ◌^◌, ◌<◌, ◌≤◌, ℤ, pos, Bool, true, false, not, ◌&&◌, List, [], ◌∷◌, ◌++◌, length, replicate, reverse, get_or, if◌then◌else◌, Option, Some, None}
 use Rattle.std.specs.List.{AllByRecursion, flat_map, list_any}
 use Rattle.big_endian.specs.Numbers.{int_eq}
@@ -11,6 +12,7 @@ use Rattle.dvi_commands.specs.ShortestSpelling.{shortest_spelling}
 use Rattle.dvi_commands.specs.Reading.{AreCommands, commands_of, placed, placed_from}
 use Rattle.dvi_commands.specs.declared.command.Context.TheVariants as context
 use Rattle.page_index.specs.Document.{Reading, end_of, font_table, is_eop, key_or, last_bop, pages_begun, text_of}
+use Rattle.page_index.specs.Judged.{define_fault}
 use Rattle.page_index.specs.Pages.{document_units, page_commands}
 
 -- ---- what is given
@@ -27,7 +29,7 @@ pub record IsPageText (body : List ℕ) : Type 0 where
   pub are : AreCommands context.Page commands body
   pub no_end : AllByRecursion (λ c. is_eop c ≡ false) commands
 
--- a font whose sizes are right, with a name whose rest behind the area has a length of one byte
+-- a font whose sizes are right, with a name whose rest after the area has a length of one byte
 pub record IsWritable (font : ℤ × FontKey) : Type 0 where
   pub key : IsFontKey font.1
   pub rest : length font.1.name - font.1.area ≤ 255
@@ -49,16 +51,32 @@ preamble u = Pre (record { id = 2; num = pos u.num; den = pos u.den; mag = pos u
 
 -- with the checksum 0
 abbrev pub definition : ℤ × FontKey → DviCommand
-definition f = Define (record { number = f.0; check = 0; size = pos f.1.size; design = pos f.1.design; area = f.1.area; name = f.1.name })
+definition f = Define (record {
+  number = f.0;
+  check = 0;
+  size = pos f.1.size;
+  design = pos f.1.design;
+  area = f.1.area;
+  name = f.1.name;
+})
 
 abbrev pub beginning : ℕ → ℤ → DviCommand
-beginning number back = Bop (pos number ∷ pos 0 ∷ pos 0 ∷ pos 0 ∷ pos 0 ∷ pos 0 ∷ pos 0 ∷ pos 0 ∷ pos 0 ∷ pos 0 ∷ []) back
+beginning number back = Bop (pos number ∷ replicate 9 (pos 0)) back
 
 -- with the greatest height, width and stack depth 0
 abbrev pub postamble : Units → ℤ → ℕ → DviCommand
-postamble u back count = Post (record { back = back; num = pos u.num; den = pos u.den; mag = pos u.mag; tallest = pos 0; widest = pos 0; deepest = 0; pages = count % 65536 })
+postamble u back count = Post (record {
+  back = back;
+  num = pos u.num;
+  den = pos u.den;
+  mag = pos u.mag;
+  tallest = pos 0;
+  widest = pos 0;
+  deepest = 0;
+  pages = count % 65536;
+})
 
--- ---- one behind another
+-- ---- one after another
 
 -- a command in its shortest spelling
 abbrev pub behind : Reading → DviCommand → Reading
@@ -74,11 +92,13 @@ with_fonts before (f ∷ fonts) = with_fonts (behind before (definition f)) font
 
 -- a page, with its number in the first of the ten counts and the pointer to the page before it
 abbrev pub with_page : Reading → ℕ → List ℕ → Reading
-with_page before number body = behind (behind_text (behind before (beginning number (last_bop before))) body) Eop
+with_page before number body =
+    behind (behind_text (behind before (beginning number (last_bop before))) body) Eop
 
 abbrev pub with_pages : Reading → ℕ → List (List ℕ) → Reading
 with_pages before number [] = before
-with_pages before number (body ∷ pages) = with_pages (with_page before number body) (number + 1) pages
+with_pages before number (body ∷ pages) =
+    with_pages (with_page before number body) (number + 1) pages
 
 -- ---- the file
 
@@ -90,9 +110,10 @@ pages_reading u fonts pages = with_pages (with_fonts (behind [] (preamble u)) fo
 unfoldable pub document_reading : Units → List (ℤ × FontKey) → List (List ℕ) → Reading
 document_reading u fonts pages =
     let before = pages_reading u fonts pages in
-    behind (with_fonts (behind before (postamble u (last_bop before) (length pages))) fonts) (PostPost (pos (end_of before)) 2)
+    behind (with_fonts (behind before (postamble u (last_bop before) (length pages))) fonts)
+    (PostPost (pos (end_of before)) 2)
 
--- so many bytes behind these make a multiple of four, and are at least four
+-- so many bytes after these make a multiple of four, and are at least four
 abbrev pub filler_behind : ℕ → ℕ
 filler_behind n = 4 + (4 - n % 4) % 4
 
@@ -112,17 +133,20 @@ fonts_text fonts = flat_map (λ font. shortest_spelling (definition font)) fonts
 -- ---- what is appended for pages that begin at a position, with the pointer of the first
 
 unfoldable pub page_text : ℕ → ℤ → List ℕ → List ℕ
-page_text number back body = shortest_spelling (beginning number back) ++ body ++ shortest_spelling Eop
+page_text number back body =
+    shortest_spelling (beginning number back) ++ body ++ shortest_spelling Eop
 
 abbrev pub pages_text : ℕ → ℕ → ℤ → List (List ℕ) → List ℕ
 pages_text at number back [] = []
 pages_text at number back (body ∷ pages) =
-    page_text number back body ++ pages_text (at + length (page_text number back body)) (number + 1) (pos at) pages
+    page_text number back body
+    ++ pages_text (at + length (page_text number back body)) (number + 1) (pos at) pages
 
 -- the pointer to the last of them
 abbrev pub last_page : ℕ → ℕ → ℤ → List (List ℕ) → ℤ
 last_page at number back [] = back
-last_page at number back (body ∷ pages) = last_page (at + length (page_text number back body)) (number + 1) (pos at) pages
+last_page at number back (body ∷ pages) =
+    last_page (at + length (page_text number back body)) (number + 1) (pos at) pages
 
 -- ---- read again
 
@@ -131,9 +155,27 @@ abbrev pub NeverDefines : ℤ → List ℕ → Type 0
 NeverDefines k body = AllByRecursion (λ c. key_or None k c ≡ None) (commands_of body)
 
 -- a document's reading, at a resolution, gives the units, the pages and the fonts
-pub record GivesBack (u : Units) (fonts : List (ℤ × FontKey)) (pages : List (List ℕ)) (res : ℕ) (r : Reading) : Type 0 where
-  pub units : document_units res r ≡ Some (record { num = u.num; den = u.den; mag = u.mag; res = res })
+pub record GivesBack (u : Units) (fonts : List (ℤ × FontKey)) (pages : List (List ℕ))
+    (res : ℕ) (r : Reading) : Type 0 where
+  pub units : document_units res r
+      ≡ Some (record { num = u.num; den = u.den; mag = u.mag; res = res })
   pub count : pages_begun r ≡ length pages
-  pub page : (i : ℕ) → i < length pages → (at : ℕ) × (page_commands i r ≡ placed_from at (get_or pages i []))
+  pub page : (i : ℕ) → i < length pages
+      → (at : ℕ) × (page_commands i r ≡ placed_from at (get_or pages i []))
   pub font : (k : ℤ) (key : FontKey) → key_given fonts k ≡ Some key → font_table r k ≡ Some key
-  pub other : (k : ℤ) → key_given fonts k ≡ None → AllByRecursion (NeverDefines k) pages → font_table r k ≡ None
+  pub other : (k : ℤ) → key_given fonts k ≡ None → AllByRecursion (NeverDefines k) pages
+      → font_table r k ≡ None
+
+-- ---- a document
+
+-- where font numbers have these keys, a command is no definition, or one with which nothing is
+-- wrong, wherever it stands
+abbrev pub IsRightDefinition : (ℤ → Option FontKey) → DviCommand → Type 0
+IsRightDefinition known (Define d) = (at : ℕ) → define_fault (known d.number) at d ≡ None
+IsRightDefinition known _ = Unit {0}
+
+-- commands whose definitions have right sizes, and agree with these keys and with one another
+abbrev pub DefineRightly : (ℤ → Option FontKey) → List DviCommand → Type 0
+DefineRightly known [] = Unit {0}
+DefineRightly known (c ∷ commands) =
+    IsRightDefinition known c × DefineRightly (λ k. key_or (known k) k c) commands

@@ -1,4 +1,5 @@
--- The sample: a document of n pages in three fonts, one of them virtual, with the font files of all three. This project's own choice.
+-- The sample: a document of n pages in three fonts, one of them virtual, with the font files of all
+-- three. This project's own choice.
 use Rattle.std.specs.Prelude.{◌≡◌, ℕ, ◌+◌, ◌%◌, ◌≤◌, ℤ, pos, List, [], ◌∷◌, ◌++◌, codes, length, map, replicate}
 use Rattle.std.specs.List.{range_with_len, repeat}
 use Rattle.std.specs.FinMap.{from_entries}
@@ -63,23 +64,34 @@ bar_tfm = tfm_file ((65, pos 0x18000) ∷ [])
 
 -- a font at the virtual font's size, with a design size of 128 units in points
 abbrev pub local_of : ℤ → List ℕ → LocalDef
-local_of number name = record { number = number; area = 0; name = name; factor = 0x00100000; points = 0x00f6ae7d }
+local_of number name =
+    record { number = number; area = 0; name = name; factor = 0x00100000; points = 0x00f6ae7d }
 
--- the character 65 is that of its first font, and behind it that of its second
+-- the character 65 is that of its first font, and after it that of its second
 unfoldable pub duo_vf : List ℕ
-duo_vf = vf_file (local_of (pos 0) dot ∷ local_of (pos 1) bar ∷ []) ((65, pos 0x28000, 0x41 ∷ 0xac ∷ 0x41 ∷ []) ∷ [])
+duo_vf =
+    vf_file (local_of (pos 0) dot ∷ local_of (pos 1) bar ∷ [])
+    ((65, pos 0x28000, 0x41 ∷ 0xac ∷ 0x41 ∷ []) ∷ [])
 
 -- no comment, a design size of ten points, the checksum 0, and 300 dots to the inch
 abbrev pub pk_preamble : List ℕ
-pk_preamble = 0xf7 ∷ 0x59 ∷ 0x00 ∷ 0x00 ∷ 0xa0 ∷ 0x00 ∷ 0x00 ∷ 0x00 ∷ 0x00 ∷ 0x00 ∷ 0x00 ∷ 0x00 ∷ 0x04 ∷ 0x26 ∷ 0xae ∷ 0x00 ∷ 0x04 ∷ 0x26 ∷ 0xae ∷ []
+pk_preamble =
+    0xf7 ∷ 0x59 ∷ 0x00 ∷ 0x00 ∷ 0xa0 ∷ 0x00 ∷ 0x00 ∷ 0x00 ∷ 0x00 ∷ 0x00 ∷ 0x00
+    ∷ 0x00 ∷ 0x04 ∷ 0x26 ∷ 0xae ∷ 0x00 ∷ 0x04 ∷ 0x26 ∷ 0xae ∷ []
 
 -- the character 65: two rows of two black pixels
 unfoldable pub dot_pk : List ℕ
-dot_pk = pk_preamble ++ 0xe0 ∷ 0x09 ∷ 0x41 ∷ 0x01 ∷ 0x00 ∷ 0x00 ∷ 0x04 ∷ 0x02 ∷ 0x02 ∷ 0x00 ∷ 0x01 ∷ 0xf0 ∷ 0xf5 ∷ []
+dot_pk =
+    pk_preamble
+    ++ 0xe0 ∷ 0x09 ∷ 0x41 ∷ 0x01 ∷ 0x00 ∷ 0x00 ∷ 0x04 ∷ 0x02 ∷ 0x02 ∷ 0x00 ∷ 0x01 ∷ 0xf0 ∷ 0xf5 ∷ []
 
--- the character 65: three rows with a white pixel between two black ones, and below them one of three black pixels
+-- the character 65: three rows with a white pixel between two black ones, and below them one of
+-- three black pixels
 unfoldable pub bar_pk : List ℕ
-bar_pk = pk_preamble ++ 0xa8 ∷ 0x0b ∷ 0x41 ∷ 0x01 ∷ 0x80 ∷ 0x00 ∷ 0x06 ∷ 0x03 ∷ 0x04 ∷ 0x00 ∷ 0x03 ∷ 0xe2 ∷ 0x11 ∷ 0x40 ∷ 0xf5 ∷ 0xf6 ∷ 0xf6 ∷ []
+bar_pk =
+    pk_preamble
+    ++ 0xa8 ∷ 0x0b ∷ 0x41 ∷ 0x01 ∷ 0x80 ∷ 0x00 ∷ 0x06 ∷ 0x03 ∷ 0x04 ∷ 0x00 ∷ 0x03 ∷ 0xe2 ∷ 0x11
+    ∷ 0x40 ∷ 0xf5 ∷ 0xf6 ∷ 0xf6 ∷ []
 
 -- the files with their names
 abbrev pub named_files : List (List ℕ × List ℕ)
@@ -100,7 +112,8 @@ SamplesAreDocuments = (n res : ℕ) → 1 ≤ n → n ≤ 1000 → 1 ≤ res →
 -- whose reading gives its units, pages and fonts
 abbrev pub SamplesGiveBack : Type 0
 SamplesGiveBack = (n res : ℕ) (reading : Reading) → 1 ≤ n → n ≤ 1000
-    → IsDocument res (sample_document n) reading → GivesBack sample_units sample_fonts (sample_pages n) res reading
+    → IsDocument res (sample_document n) reading
+    → GivesBack sample_units sample_fonts (sample_pages n) res reading
 
 abbrev pub SamplesFit : Type 0
 SamplesFit = (n : ℕ) → n ≤ 1000 → length (sample_document n) ≤ LONGEST

@@ -31,7 +31,8 @@ last_code pairs = code_at pairs (length pairs - 1)
 abbrev pub codes_of : List (ℕ × ℤ) → ℕ
 codes_of pairs = last_code pairs + 1 - first_code pairs
 
--- the place of the pair with a code, where the first of these pairs has the place i; 0 where no pair has it
+-- the place of the pair with a code, where the first of these pairs has the place i; 0 where no
+-- pair has it
 abbrev pub place_from : ℕ → List (ℕ × ℤ) → ℕ → ℕ
 place_from i [] c = 0
 place_from i (p ∷ pairs) c = if p.0 == c then i else place_from (i + 1) pairs c
@@ -47,11 +48,12 @@ width_given pairs (negsuc c) = None
 
 -- ---- the file
 
--- lf, lh, bc, ec, nw, nh, nd, ni, nl, nk, ne, np: two words of header, a width more than pairs, one height, depth and italic correction
+-- lf, lh, bc, ec, nw, nh, nd, ni, nl, nk, ne, np: two words of header, a width more than pairs, one
+-- height, depth and italic correction
 abbrev pub counts_of : List (ℕ × ℤ) → List ℕ
 counts_of pairs =
-    (6 + 2 + codes_of pairs + (length pairs + 1) + 3) ∷ 2 ∷ first_code pairs ∷ last_code pairs ∷ (length pairs + 1)
-    ∷ 1 ∷ 1 ∷ 1 ∷ 0 ∷ 0 ∷ 0 ∷ 0 ∷ []
+    (6 + 2 + codes_of pairs + (length pairs + 1) + 3) ∷ 2 ∷ first_code pairs ∷ last_code pairs
+    ∷ (length pairs + 1) ∷ 1 ∷ 1 ∷ 1 ∷ 0 ∷ 0 ∷ 0 ∷ 0 ∷ []
 
 -- the checksum 0, and a design size of ten points
 abbrev pub header : List ℕ
@@ -61,7 +63,8 @@ header = 0 ∷ 0 ∷ 0 ∷ 0 ∷ 0 ∷ 160 ∷ 0 ∷ 0 ∷ []
 abbrev pub index_word : List (ℕ × ℤ) → ℕ → List ℕ
 index_word pairs c = place_from 1 pairs c ∷ 0 ∷ 0 ∷ 0 ∷ []
 
--- the counts, the header, char_info, the width 0 and the widths given, and the height, the depth and the italic correction 0
+-- the counts, the header, char_info, the width 0 and the widths given, and the height, the depth
+-- and the italic correction 0
 unfoldable pub tfm_file : List (ℕ × ℤ) → List ℕ
 tfm_file pairs =
     flat_map two (counts_of pairs)

@@ -28,7 +28,8 @@ pub record IsPacketWritable (p : Packet) : Type 0 where
 -- no two local fonts have one number, and no two packets one code
 abbrev pub have_own_numbers : List LocalDef → Bool
 have_own_numbers [] = true
-have_own_numbers (d ∷ locals) = not (list_any (λ e. int_eq d.number e.number) locals) && have_own_numbers locals
+have_own_numbers (d ∷ locals) =
+    not (list_any (λ e. int_eq d.number e.number) locals) && have_own_numbers locals
 
 abbrev pub have_own_codes : List Packet → Bool
 have_own_codes [] = true
@@ -43,7 +44,14 @@ program_given (p ∷ packets) c = if p.0 == c then Some p.2 else program_given p
 
 -- with the checksum 0
 abbrev pub local_definition : LocalDef → Definition
-local_definition d = record { number = d.number; check = 0; size = pos d.factor; design = pos d.points; area = d.area; name = d.name }
+local_definition d = record {
+  number = d.number;
+  check = 0;
+  size = pos d.factor;
+  design = pos d.points;
+  area = d.area;
+  name = d.name;
+}
 
 abbrev pub local_item : LocalDef → List ℕ
 local_item d = shortest_spelling (Define (local_definition d))
@@ -56,7 +64,8 @@ abbrev pub short_packet : Packet → List ℕ
 short_packet p = length p.2 ∷ p.0 ∷ number_bytes 3 p.1 ++ p.2
 
 abbrev pub long_packet : Packet → List ℕ
-long_packet p = 242 ∷ number_bytes 4 (pos (length p.2)) ++ number_bytes 4 (pos p.0) ++ number_bytes 4 p.1 ++ p.2
+long_packet p =
+    242 ∷ number_bytes 4 (pos (length p.2)) ++ number_bytes 4 (pos p.0) ++ number_bytes 4 p.1 ++ p.2
 
 -- the short form up to 241 bytes of commands
 unfoldable pub packet_item : Packet → List ℕ
@@ -68,7 +77,7 @@ packet_item p = if nat_le (length p.2) 241 then short_packet p else long_packet 
 abbrev pub vf_preamble : List ℕ
 vf_preamble = 0xf7 ∷ 0xca ∷ 0 ∷ 0 ∷ 0 ∷ 0 ∷ 0 ∷ 0 ∷ 0xa0 ∷ 0 ∷ 0 ∷ []
 
--- so many closing commands behind these bytes make a multiple of four
+-- so many closing commands after these bytes make a multiple of four
 abbrev pub closing_behind : ℕ → ℕ
 closing_behind n = 1 + (4 - (n + 1) % 4) % 4
 
@@ -76,11 +85,13 @@ unfoldable pub vf_items : List LocalDef → List Packet → List ℕ
 vf_items locals packets = vf_preamble ++ flat_map local_item locals ++ flat_map packet_item packets
 
 unfoldable pub vf_file : List LocalDef → List Packet → List ℕ
-vf_file locals packets = vf_items locals packets ++ replicate (closing_behind (length (vf_items locals packets))) 248
+vf_file locals packets =
+    vf_items locals packets ++ replicate (closing_behind (length (vf_items locals packets))) 248
 
 -- ---- read again
 
 -- the items of a VF file give the local fonts, in their order, and the commands of each packet
-pub record GivesFont (locals : List LocalDef) (packets : List Packet) (items : List (List ℕ)) : Type 0 where
+pub record GivesFont (locals : List LocalDef) (packets : List Packet)
+    (items : List (List ℕ)) : Type 0 where
   pub local : locals_of items ≡ locals
   pub program : (c : ℕ) → program_with items c ≡ program_given packets c

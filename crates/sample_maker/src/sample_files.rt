@@ -1,5 +1,6 @@
 //! The font files of the sample.
-ghost use Rattle.std.specs.Prelude.{◌≡◌, IfOk};
+ghost use Rattle.std.specs.Prelude.{◌≡◌, IfOk, OnOk};
+ghost use Rattle.std.specs.FinMap.{insert};
 ghost use Rattle.sample_maker.specs.Sample.{duo_vf, local_of, sample_files};
 
 use crate::{tfm_bytes, vf_bytes};
@@ -7,8 +8,8 @@ use outside::{FileName, FontName, Library};
 use std::alloc::{AllocError as NoMemory, Global};
 use vf_reader::LocalDef;
 
-// No comment, a design size of ten points, the checksum 0, and 300 dots to the inch; then a packet of
-// the character 65, and closing commands.
+// No comment, a design size of ten points, the checksum 0, and 300 dots to the inch; then a packet
+// of the character 65, and closing commands.
 const DOT_PK: [u8; 32] = [
     0xf7, 0x59, 0x00, 0x00, 0xa0, 0x00, 0x00, 0x00, 0x00, 0x00, 0x00, 0x00, 0x04, 0x26, 0xae, 0x00,
     0x04, 0x26, 0xae, 0xe0, 0x09, 0x41, 0x01, 0x00, 0x00, 0x04, 0x02, 0x02, 0x00, 0x01, 0xf0, 0xf5,
@@ -34,7 +35,8 @@ fn local(alloc: Global, number: i32, name: &[u8]) -> Result<LocalDef, NoMemory>
     })
 }
 
-// The virtual font, whose character 65 is that of its first font, and behind it that of its second.
+// The virtual font, whose character 65 is that of its first font, and after it that of its second.
+#[tactic(auto, unfolding(crate::specs::Sample::duo_vf))]
 fn virtual_font(alloc: Global) -> Result<Vec<u8>, NoMemory>
     ensures { IfOk result (λ bytes. bytes.items ≡ duo_vf) }
 {
@@ -45,12 +47,9 @@ fn virtual_font(alloc: Global) -> Result<Vec<u8>, NoMemory>
 }
 
 // Adds a file.
-fn add(
-    alloc: Global,
-    library: &mut Library,
-    name: &[u8],
-    bytes: Vec<u8>,
-) -> Result<(), NoMemory> {
+fn add(alloc: Global, library: &mut Library, name: &[u8], bytes: Vec<u8>) -> Result<(), NoMemory>
+    ensures { OnOk result (library.new ≡ insert library.old name.now bytes.items) }
+{
     library.add(FileName::new(alloc, name)?, bytes)
 }
 
@@ -59,11 +58,36 @@ pub(crate) fn library(alloc: Global) -> Result<Library, NoMemory>
     ensures { IfOk result (λ library. library ≡ sample_files) }
 {
     let mut files = Library::new(alloc);
-    add(alloc, &mut files, b"bar.300pk", Vec::from_slice(alloc, &BAR_PK)?)?;
-    add(alloc, &mut files, b"dot.300pk", Vec::from_slice(alloc, &DOT_PK)?)?;
+    add(
+        alloc,
+        &mut files,
+        b"bar.300pk",
+        Vec::from_slice(alloc, &BAR_PK)?,
+    )?;
+    add(
+        alloc,
+        &mut files,
+        b"dot.300pk",
+        Vec::from_slice(alloc, &DOT_PK)?,
+    )?;
     add(alloc, &mut files, b"duo.vf", virtual_font(alloc)?)?;
-    add(alloc, &mut files, b"bar.tfm", tfm_bytes(alloc, &[(65, 0x1_8000)])?)?;
-    add(alloc, &mut files, b"dot.tfm", tfm_bytes(alloc, &[(65, 0x1_0000)])?)?;
-    add(alloc, &mut files, b"duo.tfm", tfm_bytes(alloc, &[(65, 0x2_8000)])?)?;
+    add(
+        alloc,
+        &mut files,
+        b"bar.tfm",
+        tfm_bytes(alloc, &[(65, 0x1_8000)])?,
+    )?;
+    add(
+        alloc,
+        &mut files,
+        b"dot.tfm",
+        tfm_bytes(alloc, &[(65, 0x1_0000)])?,
+    )?;
+    add(
+        alloc,
+        &mut files,
+        b"duo.tfm",
+        tfm_bytes(alloc, &[(65, 0x2_8000)])?,
+    )?;
     Ok(files)
 }

@@ -2,9 +2,9 @@
 ghost use Rattle.std.specs.Prelude.{◌≡◌, ◌≤◌, IfOk, map};
 ghost use Rattle.sample_maker.specs.Sample.{font_of, sample_document, sample_files, sample_fonts, sample_page, sample_pages};
 
+use crate::document;
 use crate::made::Sample;
 use crate::sample_files::library;
-use crate::document;
 use outside::{FontKey, FontName};
 use pixel_round::Units;
 use std::alloc::{AllocError as NoMemory, Global};
@@ -73,12 +73,13 @@ fn pages(alloc: Global, n: u32) -> Result<Vec<Vec<u8>>, NoMemory>
     Ok(pages)
 }
 
-/// The sample of n pages, at most 1000. Its pages are set in the virtual font `duo`, of which each
-/// character is one of `dot` and one of `bar`, and in `dot`: page i, from 1, has 1 + i mod 3 lines of
-/// four characters, and a line of five. The library has the TFM files of the three fonts, the VF file
-/// of `duo`, and the PK files of `dot` and `bar` at 300 dots to the inch.
+/// The sample of n pages, from 1 to 1000. Its pages are set in the virtual font `duo`, whose one
+/// character is one of `dot` and one of `bar` side by side, and in `dot`: page i, from 1, has
+/// 1 + i mod 3 lines of four characters of `duo`, and a line of five of `dot`. The library has the
+/// TFM files of the three fonts, the VF file of `duo`, and the PK files of `dot` and `bar` at 300
+/// dots to the inch.
 ///
-/// `NoMemory` where memory is wanting.
+/// `NoMemory` when out of memory.
 pub fn sample(alloc: Global, n: u32) -> Result<Sample, NoMemory>
     requires some { 1 ≤ n }
     requires few { n ≤ 1000 }

@@ -73,7 +73,9 @@ fn append_indices(out: &mut Vec<u8>, widths: &[(u8, i32)]) -> Result<(), NoMemor
     requires some { 1 ≤ length widths.now }
     requires few { length widths.now ≤ 255 }
     requires rising { IsTrue (are_rising widths.now) }
-    ensures { OnOk result (out.new.items ≡ out.old.items ++ flat_map (index_word widths.now) (range_with_len (first_code widths.now) (codes_of widths.now))) }
+    ensures { OnOk result (out.new.items ≡ out.old.items
+        ++ flat_map (index_word widths.now)
+        (range_with_len (first_code widths.now) (codes_of widths.now))) }
 {
     let first = usize::from(code_at(widths, 0));
     let last = usize::from(code_at(widths, widths.len() - 1));
@@ -86,7 +88,8 @@ fn append_indices(out: &mut Vec<u8>, widths: &[(u8, i32)]) -> Result<(), NoMemor
 
 // Appends the widths.
 fn append_widths(out: &mut Vec<u8>, widths: &[(u8, i32)]) -> Result<(), NoMemory>
-    ensures { OnOk result (out.new.items ≡ out.old.items ++ flat_map (λ pair. word pair.1) widths.now) }
+    ensures { OnOk result
+        (out.new.items ≡ out.old.items ++ flat_map (λ pair. word pair.1) widths.now) }
 {
     for width in widths {
         out.extend_from_slice(&width.1.to_be_bytes())?;
@@ -98,7 +101,7 @@ fn append_widths(out: &mut Vec<u8>, widths: &[(u8, i32)]) -> Result<(), NoMemory
 /// and no other code has one. The codes rise, and there are 1 to 255. Its height, depth and italic
 /// correction are 0, and its design size is 10 points.
 ///
-/// `NoMemory` where memory is wanting.
+/// `NoMemory` when out of memory.
 pub fn tfm_bytes(alloc: Global, widths: &[(u8, i32)]) -> Result<Vec<u8>, NoMemory>
     requires some { 1 ≤ length widths.now }
     requires few { length widths.now ≤ 255 }
@@ -106,7 +109,8 @@ pub fn tfm_bytes(alloc: Global, widths: &[(u8, i32)]) -> Result<Vec<u8>, NoMemor
     requires fit { AllByRecursion (λ pair. IsFixWord pair.1) widths.now }
     ensures bytes { IfOk result (λ bytes. bytes.items ≡ tfm_file widths.now) }
     ensures sound { IfOk result (λ bytes. IsTfm bytes.items) }
-    ensures read_again { IfOk result (λ bytes. (c : ℤ) → tfm_width bytes.items c ≡ width_given widths.now c) }
+    ensures read_again { IfOk result
+        (λ bytes. (c : ℤ) → tfm_width bytes.items c ≡ width_given widths.now c) }
 {
     let counts = counts(widths);
     let mut bytes = Vec::new(alloc);

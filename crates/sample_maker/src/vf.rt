@@ -32,7 +32,8 @@ fn append_local(alloc: Global, local: &LocalDef, out: &mut Vec<u8>) -> Result<()
 // Appends the definitions of the local fonts.
 fn append_locals(alloc: Global, locals: &[LocalDef], out: &mut Vec<u8>) -> Result<(), NoMemory>
     requires { AllByRecursion IsLocalWritable locals.now }
-    ensures appended { OnOk result (out.new.items ≡ out.old.items ++ flat_map local_item locals.now) }
+    ensures appended { OnOk result
+        (out.new.items ≡ out.old.items ++ flat_map local_item locals.now) }
     ensures spelled { OnOk result (All IsLocalSpelled locals.now) }
 {
     for i in 0..locals.len() {
@@ -41,11 +42,13 @@ fn append_locals(alloc: Global, locals: &[LocalDef], out: &mut Vec<u8>) -> Resul
     Ok(())
 }
 
-// Appends a packet of at most 241 bytes of commands: their number, the code and a width of three bytes.
+// Appends a packet of at most 241 bytes of commands: their number, the code and a width of three
+// bytes.
 fn append_short(code: u8, width: i32, commands: &[u8], out: &mut Vec<u8>) -> Result<(), NoMemory>
     requires width { IsUnsigned 3 width }
     requires few { length commands.now ≤ 241 }
-    ensures { OnOk result (out.new.items ≡ out.old.items ++ short_packet (code, width, commands.now)) }
+    ensures { OnOk result
+        (out.new.items ≡ out.old.items ++ short_packet (code, width, commands.now)) }
 {
     out.extend_from_slice(&[commands.len() as u8, code])?;
     out.extend_from_slice(&width.to_be_bytes()[1..])?;
@@ -62,7 +65,8 @@ fn word_bytes(number: i32) -> [u8; 4]
 // Appends a packet with numbers of four bytes.
 fn append_long(code: u8, width: i32, commands: &[u8], out: &mut Vec<u8>) -> Result<(), NoMemory>
     requires { length commands.now < 2 ^ 32 }
-    ensures { OnOk result (out.new.items ≡ out.old.items ++ long_packet (code, width, commands.now)) }
+    ensures { OnOk result
+        (out.new.items ≡ out.old.items ++ long_packet (code, width, commands.now)) }
 {
     out.push(242)?;
     out.extend_from_slice(&(commands.len() as u32).to_be_bytes())?;
@@ -74,7 +78,8 @@ fn append_long(code: u8, width: i32, commands: &[u8], out: &mut Vec<u8>) -> Resu
 // Appends a packet, in the short form where it can.
 fn append_packet(code: u8, width: i32, commands: &[u8], out: &mut Vec<u8>) -> Result<(), NoMemory>
     requires { IsPacketWritable (code, width, commands.now) }
-    ensures { OnOk result (out.new.items ≡ out.old.items ++ packet_item (code, width, commands.now)) }
+    ensures { OnOk result
+        (out.new.items ≡ out.old.items ++ packet_item (code, width, commands.now)) }
 {
     if commands.len() <= 241 {
         append_short(code, width, commands, out)
@@ -86,7 +91,8 @@ fn append_packet(code: u8, width: i32, commands: &[u8], out: &mut Vec<u8>) -> Re
 // Appends the packets.
 fn append_packets(packets: &[(u8, i32, Vec<u8>)], out: &mut Vec<u8>) -> Result<(), NoMemory>
     requires { AllByRecursion IsPacketWritable (map (λ p. (p.0, p.1, p.2.items)) packets.now) }
-    ensures { OnOk result (out.new.items ≡ out.old.items ++ flat_map packet_item (map (λ p. (p.0, p.1, p.2.items)) packets.now)) }
+    ensures { OnOk result (out.new.items ≡ out.old.items
+        ++ flat_map packet_item (map (λ p. (p.0, p.1, p.2.items)) packets.now)) }
 {
     for i in 0..packets.len() {
         let packet = &packets[i];
@@ -97,7 +103,8 @@ fn append_packets(packets: &[(u8, i32, Vec<u8>)], out: &mut Vec<u8>) -> Result<(
 
 // Appends the closing command, at least once, up to a multiple of four.
 fn append_closing(out: &mut Vec<u8>) -> Result<(), NoMemory>
-    ensures { OnOk result (out.new.items ≡ out.old.items ++ replicate (closing_behind (length out.old.items)) 248) }
+    ensures { OnOk result (out.new.items
+        ≡ out.old.items ++ replicate (closing_behind (length out.old.items)) 248) }
 {
     let count = 1 + (4 - (out.len() % 4 + 1) % 4) % 4;
     for _ in 0..count {
@@ -108,10 +115,10 @@ fn append_closing(out: &mut Vec<u8>) -> Result<(), NoMemory>
 
 /// A VF file of these local fonts and packets, each a code, a width and commands. Checksums are 0,
 /// and the design size is 10 points; a width is a fix_word from 0 to 2^24 - 1. Local numbers and
-/// codes are distinct, factors and points are at most 2^31 - 1, an area lies in its name, whose rest
-/// has at most 255 bytes, and commands have less than 2^32 bytes.
+/// codes are distinct, factors and points are at most 2^31 - 1, an area lies in its name, whose
+/// rest has at most 255 bytes, and commands have less than 2^32 bytes.
 ///
-/// `NoMemory` where memory is wanting. Knuth, VFtoVP, "Virtual fonts".
+/// `NoMemory` when out of memory. Knuth, VFtoVP, "Virtual fonts".
 pub fn vf_bytes(
     alloc: Global,
     locals: &[LocalDef],
@@ -119,9 +126,11 @@ pub fn vf_bytes(
 ) -> Result<Vec<u8>, NoMemory>
     requires locals { AllByRecursion IsLocalWritable locals.now }
     requires numbers { IsTrue (have_own_numbers locals.now) }
-    requires packets { AllByRecursion IsPacketWritable (map (λ p. (p.0, p.1, p.2.items)) packets.now) }
+    requires packets { AllByRecursion IsPacketWritable
+        (map (λ p. (p.0, p.1, p.2.items)) packets.now) }
     requires codes { IsTrue (have_own_codes (map (λ p. (p.0, p.1, p.2.items)) packets.now)) }
-    ensures bytes { IfOk result (λ bytes. bytes.items ≡ vf_file locals.now (map (λ p. (p.0, p.1, p.2.items)) packets.now)) }
+    ensures bytes { IfOk result (λ bytes. bytes.items
+        ≡ vf_file locals.now (map (λ p. (p.0, p.1, p.2.items)) packets.now)) }
     ensures read_again { IfOk result (λ bytes. (items : List (List ℕ)) → IsVfFile bytes.items items
         → GivesFont locals.now (map (λ p. (p.0, p.1, p.2.items)) packets.now) items) }
 {

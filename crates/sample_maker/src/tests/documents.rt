@@ -20,12 +20,12 @@ fn a_page_with_a_rule(rt: HostRuntime) -> Result<(), Fail> {
     let bytes = document(alloc, &UNITS, &[], &[page])?;
     assert_eq!(rt; bytes.as_slice(), [
         0xf7, 2, 0, 0, 0x04, 0xf6, 0, 0, 0, 3, 0, 0, 0x03, 0xe8, 0, // the preamble
-        0x8b, 0, 0, 0, 1, 0, 0, 0, 0, 0, 0, 0, 0, 0, 0, 0, 0, 0, 0, 0, 0, 0, 0, 0, 0, 0, 0, 0, 0, 0, 0,
-        0, 0, 0, 0, 0, 0, 0, 0, 0, 0, 0xff, 0xff, 0xff, 0xff, // the page's beginning
+        0x8b, 0, 0, 0, 1, 0, 0, 0, 0, 0, 0, 0, 0, 0, 0, 0, 0, 0, 0, 0, 0, 0, 0, 0, 0, 0, 0, 0, 0,
+        0, 0, 0, 0, 0, 0, 0, 0, 0, 0, 0, 0, 0xff, 0xff, 0xff, 0xff, // the page's beginning
         0x89, 0, 0, 0, 4, 0, 0, 0, 6, // the rule
         0x8c, // its end
-        0xf8, 0, 0, 0, 0x0f, 0, 0, 0x04, 0xf6, 0, 0, 0, 3, 0, 0, 0x03, 0xe8, 0, 0, 0, 0, 0, 0, 0, 0, 0,
-        0, 0, 1, // the postamble
+        0xf8, 0, 0, 0, 0x0f, 0, 0, 0x04, 0xf6, 0, 0, 0, 3, 0, 0, 0x03, 0xe8, 0, 0, 0, 0, 0, 0, 0,
+        0, 0, 0, 0, 1, // the postamble
         0xf9, 0, 0, 0, 0x46, 2, 0xdf, 0xdf, 0xdf, 0xdf, 0xdf, 0xdf, 0xdf,
     ].as_slice());
     Ok(())
@@ -36,8 +36,8 @@ fn a_document_without_pages(rt: HostRuntime) -> Result<(), Fail> {
     let bytes = document(rt.alloc(), &UNITS, &[], &[])?;
     assert_eq!(rt; bytes.as_slice(), [
         0xf7, 2, 0, 0, 0x04, 0xf6, 0, 0, 0, 3, 0, 0, 0x03, 0xe8, 0, // the preamble
-        0xf8, 0xff, 0xff, 0xff, 0xff, 0, 0, 0x04, 0xf6, 0, 0, 0, 3, 0, 0, 0x03, 0xe8, 0, 0, 0, 0, 0, 0, 0,
-        0, 0, 0, 0, 0, // the postamble
+        0xf8, 0xff, 0xff, 0xff, 0xff, 0, 0, 0x04, 0xf6, 0, 0, 0, 3, 0, 0, 0x03, 0xe8, 0, 0, 0, 0,
+        0, 0, 0, 0, 0, 0, 0, 0, // the postamble
         0xf9, 0, 0, 0, 0x0f, 2, 0xdf, 0xdf, 0xdf, 0xdf, 0xdf, 0xdf,
     ].as_slice());
     Ok(())

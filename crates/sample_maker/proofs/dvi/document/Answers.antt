@@ -1,9 +1,12 @@
-use Rattle.std.proofs.Common.{◌≡◌, ℕ, suc, List, [], ◌∷◌, ap, Vec, Global, length, map, refl, sym, subst, arith}
+use Rattle.std.proofs.Common.{◌≡◌, ◌≤◌, ℕ, suc, List, [], ◌∷◌, ap, Vec, Global, length, map, refl, sym, subst, arith}
 use Rattle.std.proofs.lemmas.Int.{ints}
 use Rattle.dvi_commands.proofs.Motions.{stored}
 use Rattle.page_index.specs.Document.{IsDocument}
+use Rattle.page_index.specs.Limits.{LONGEST}
+use Rattle.sample_maker.specs.DviFile.{document_reading, document_text}
 use Rattle.sample_maker.proofs.DviMade.{document_made, head_made, pages_fit, post_fits}
 use Rattle.sample_maker.proofs.DviRead.{gives_back}
+use Rattle.sample_maker.proofs.DviSound.{is_document}
 use Rattle.sample_maker.proofs.dvi.document.Goals as goal
 
 texts : List (Vec ℕ Global) → List (List ℕ)
@@ -49,3 +52,12 @@ unfolding texts
 returns-clause-read_again c = λ res r is.
     gives_back c.args.units.now c.args.fonts.now (texts c.args.pages.now) c.requires.units.num.1 c.requires.units.den.1 c.requires.units.mag.1 c.in_ok-append_fonts.ensures.spelled c.requires.apart (omega (arith, as_many c.args.pages.now, c.requires.few)) c.requires.pages c.requires.fits
     res r (subst (λ (bytes : List ℕ). IsDocument res bytes r) (returns-clause-bytes c) is)
+
+pub returns-clause-is_document : goal.returns-clause-is_document
+unfolding texts
+returns-clause-is_document c = λ res scale define fits.
+    let pages = texts c.args.pages.now in
+    let same = returns-clause-bytes c in
+    let short : length (document_text c.args.units.now c.args.fonts.now pages) ≤ LONGEST = subst (λ (t : List ℕ). length t ≤ LONGEST) same fits in
+    subst (λ (t : List ℕ). IsDocument res t (document_reading c.args.units.now c.args.fonts.now pages)) (sym same)
+    (is_document c.args.units.now c.args.fonts.now pages c.requires.units c.requires.fonts c.in_ok-append_fonts.ensures.spelled c.requires.apart (omega (arith, as_many c.args.pages.now, c.requires.few)) c.requires.pages short res scale define)
