@@ -1,5 +1,5 @@
 //! The stages of a run: the input is read, the pages are found, and the workers draw them.
-ghost use Rattle.std.specs.Prelude.{◌≡◌, ◌≤◌, ◌<◌, ℕ, Option, [], length, slice_index_or};
+ghost use Rattle.std.specs.Prelude.{◌≡◌, ◌≤◌, ◌<◌, ℕ, Option, None, [], length, slice_index_or};
 ghost use Rattle.outside.specs.Counts.{Rose};
 ghost use Rattle.outside.specs.Library.{Files};
 ghost use Rattle.cache_core.specs.Views.{calls_of};
@@ -61,8 +61,8 @@ fn draw_pages<R: Threads + Wait + Sync, F: FontSource + Send, O: Output>(
     )
 }
 
-// Draws and writes the document of these bytes, and answers how that ended.
-fn draw_document<R: Threads + Wait + Sync, F: FontSource + Send, O: Output>(
+/// Draws and writes the document of these bytes, and answers how that ended.
+pub fn draw_document<R: Threads + Wait + Sync, F: FontSource + Send, O: Output>(
     rt: &R,
     alloc: Global,
     settings: &Settings,
@@ -80,7 +80,7 @@ fn draw_document<R: Threads + Wait + Sync, F: FontSource + Send, O: Output>(
     ensures ends { EndsBytes (O.written out.old) (O.written out.new) (Rose (O.faults out.old) (O.faults out.new))
         (SomeUsed settings.now.workers workers.old workers.new (SourceRose F.faults)) (out.new ≡ out.old)
         (given_by told settings.now) bytes.now (seen_ending result.0) }
-    ensures done { AreDone F.library F.faults F.loads told settings.now.cache settings.now.workers
+    ensures done { AreDone F.library F.faults F.loads told None settings.now.cache settings.now.workers
         (status_of (seen_ending result.0)) (seen_ending result.0) result.1 (calls_of history.new.items)
         workers.old workers.new }
     ensures drew { DrewTogether (given_by told settings.now) settings.now.summary (O.written out.old) (O.written out.new)
@@ -115,7 +115,7 @@ pub fn draw_input<R: Threads + Wait + Sync, I: Input, F: FontSource + Send, O: O
         (SomeUsed settings.now.workers workers.old workers.new (SourceRose F.faults)) (out.new ≡ out.old)
         (Rose (I.faults input.old) (I.faults input.new)) (given_by told settings.now)
         (I.left input.old) (I.left input.new) (seen_ending result.0) }
-    ensures done { AreDone F.library F.faults F.loads told settings.now.cache settings.now.workers
+    ensures done { AreDone F.library F.faults F.loads told None settings.now.cache settings.now.workers
         (status_of (seen_ending result.0)) (seen_ending result.0) result.1 (calls_of history.new.items)
         workers.old workers.new }
     ensures drew { OfRead (I.left input.old) (DrewTogether (given_by told settings.now) settings.now.summary (O.written out.old)
