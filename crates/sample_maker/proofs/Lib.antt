@@ -17,3 +17,4 @@ pub mod SampleParts
 pub mod DviRight
 pub mod DviSound
 pub mod SampleMade
+pub mod SampleFonts

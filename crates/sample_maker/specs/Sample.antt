@@ -1,13 +1,21 @@
 -- The sample: a document of n pages in three fonts, one of them virtual, with the font files of all
 -- three. This project's own choice.
-use Rattle.std.specs.Prelude.{◌≡◌, ℕ, ◌+◌, ◌%◌, ◌≤◌, ℤ, pos, List, [], ◌∷◌, ◌++◌, codes, length, map, replicate}
+use Rattle.std.specs.Prelude.{◌≡◌, ℕ, ◌+◌, ◌%◌, ◌≤◌, ℤ, pos, true, false, List, [], ◌∷◌, ◌++◌, codes, length, map, replicate, Some}
 use Rattle.std.specs.List.{range_with_len, repeat}
-use Rattle.std.specs.FinMap.{from_entries}
+use Rattle.std.specs.FinMap.{find, from_entries, get}
+use Rattle.std.specs.Cmp.Lexicographic.{slice_cmp}
+use Rattle.std.specs.Ordering.{nat_cmp}
 use Rattle.outside.specs.Library.{Files}
 use Rattle.outside.specs.declared.keys.FontKey.{FontKey}
 use Rattle.pixel_round.specs.declared.units.Units.{Units}
 use Rattle.page_index.specs.Document.{IsDocument, Reading}
 use Rattle.page_index.specs.Limits.{LONGEST}
+use Rattle.tfm_reader.specs.Right.{IsTfm}
+use Rattle.tfm_reader.specs.Tfm.{tfm_width}
+use Rattle.pk_runs.specs.declared.glyph.Glyph.{Glyph}
+use Rattle.pk_packets.specs.Fonts.{IsAnswer, IsPkFile}
+use Rattle.vf_reader.specs.Fonts.{IsVfFile, program_with}
+use Rattle.vf_reader.specs.Locals.{locals_of}
 use Rattle.vf_reader.specs.declared.locals.LocalDef.{LocalDef}
 use Rattle.sample_maker.specs.DviFile.{GivesBack, document_text}
 use Rattle.sample_maker.specs.TfmFile.{tfm_file}
@@ -117,3 +125,48 @@ SamplesGiveBack = (n res : ℕ) (reading : Reading) → 1 ≤ n → n ≤ 1000
 
 abbrev pub SamplesFit : Type 0
 SamplesFit = (n : ℕ) → n ≤ 1000 → length (sample_document n) ≤ LONGEST
+
+-- the files of the library by their names, and no other
+abbrev pub FilesAreTheSix : Type 0
+FilesAreTheSix = (name : List ℕ) → get sample_files name ≡ find (slice_cmp nat_cmp) name named_files
+
+-- the metrics are TFM files, which give the character 65 its width
+abbrev pub MetricsAreRead : Type 0
+MetricsAreRead =
+    IsTfm duo_tfm × (tfm_width duo_tfm (pos 65) ≡ Some (pos 0x28000))
+    × IsTfm dot_tfm × (tfm_width dot_tfm (pos 65) ≡ Some (pos 0x10000))
+    × IsTfm bar_tfm × (tfm_width bar_tfm (pos 65) ≡ Some (pos 0x18000))
+
+-- the virtual font is a VF file, which gives its two fonts and the commands of the character 65
+abbrev pub VirtualFontIsRead : Type 0
+VirtualFontIsRead = (items : List (List ℕ)) × IsVfFile duo_vf items
+    × (locals_of items ≡ local_of (pos 0) dot ∷ local_of (pos 1) bar ∷ [])
+    × (program_with items 65 ≡ Some (0x41 ∷ 0xac ∷ 0x41 ∷ []))
+
+-- the glyphs of the character 65, row by row, with true for black
+abbrev pub dot_glyph : Glyph
+dot_glyph = record {
+  raster = record { width = 2; height = 2; rows = (true ∷ true ∷ []) ∷ (true ∷ true ∷ []) ∷ [] };
+  hoff = pos 0;
+  voff = pos 1;
+}
+
+abbrev pub bar_glyph : Glyph
+bar_glyph = record {
+  raster = record {
+    width = 3;
+    height = 4;
+    rows = (true ∷ false ∷ true ∷ []) ∷ (true ∷ false ∷ true ∷ []) ∷ (true ∷ false ∷ true ∷ [])
+        ∷ (true ∷ true ∷ true ∷ []) ∷ [];
+  };
+  hoff = pos 0;
+  voff = pos 3;
+}
+
+-- a PK file gives the character 65 a glyph
+abbrev pub GivesGlyph : List ℕ → Glyph → Type 0
+GivesGlyph bytes glyph =
+    (items : List (List ℕ)) × IsPkFile bytes items × IsAnswer items 65 (Some glyph)
+
+abbrev pub GlyphsAreRead : Type 0
+GlyphsAreRead = GivesGlyph dot_pk dot_glyph × GivesGlyph bar_pk bar_glyph

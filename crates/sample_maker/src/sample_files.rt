@@ -57,37 +57,18 @@ fn add(alloc: Global, library: &mut Library, name: &[u8], bytes: Vec<u8>) -> Res
 pub(crate) fn library(alloc: Global) -> Result<Library, NoMemory>
     ensures { IfOk result (λ library. library ≡ sample_files) }
 {
+    let duo_tfm = tfm_bytes(alloc, &[(65, 0x2_8000)])?;
+    let dot_tfm = tfm_bytes(alloc, &[(65, 0x1_0000)])?;
+    let bar_tfm = tfm_bytes(alloc, &[(65, 0x1_8000)])?;
+    let duo_vf = virtual_font(alloc)?;
+    let dot_pk = Vec::from_slice(alloc, &DOT_PK)?;
+    let bar_pk = Vec::from_slice(alloc, &BAR_PK)?;
     let mut files = Library::new(alloc);
-    add(
-        alloc,
-        &mut files,
-        b"bar.300pk",
-        Vec::from_slice(alloc, &BAR_PK)?,
-    )?;
-    add(
-        alloc,
-        &mut files,
-        b"dot.300pk",
-        Vec::from_slice(alloc, &DOT_PK)?,
-    )?;
-    add(alloc, &mut files, b"duo.vf", virtual_font(alloc)?)?;
-    add(
-        alloc,
-        &mut files,
-        b"bar.tfm",
-        tfm_bytes(alloc, &[(65, 0x1_8000)])?,
-    )?;
-    add(
-        alloc,
-        &mut files,
-        b"dot.tfm",
-        tfm_bytes(alloc, &[(65, 0x1_0000)])?,
-    )?;
-    add(
-        alloc,
-        &mut files,
-        b"duo.tfm",
-        tfm_bytes(alloc, &[(65, 0x2_8000)])?,
-    )?;
+    add(alloc, &mut files, b"bar.300pk", bar_pk)?;
+    add(alloc, &mut files, b"dot.300pk", dot_pk)?;
+    add(alloc, &mut files, b"duo.vf", duo_vf)?;
+    add(alloc, &mut files, b"bar.tfm", bar_tfm)?;
+    add(alloc, &mut files, b"dot.tfm", dot_tfm)?;
+    add(alloc, &mut files, b"duo.tfm", duo_tfm)?;
     Ok(files)
 }

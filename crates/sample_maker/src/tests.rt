@@ -1,4 +1,5 @@
 //! Files with the bytes that they are to have, and read again.
 mod documents;
 mod fonts;
+mod samples;
 mod virtual_fonts;

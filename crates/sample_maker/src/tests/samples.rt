@@ -1,10 +1,8 @@
 //! The sample.
-use crate::{Sample, sample};
+use crate::sample;
 use outside::FileName;
 use page_index::Index;
 use std::test::Fail;
-use tfm_reader::Tfm;
-use vf_reader::VfFont;
 
 // The one page is numbered 1, so it has 1 + 1 mod 3 lines of four characters.
 #[test]
@@ -58,11 +56,67 @@ fn documents_are_read(rt: HostRuntime) -> Result<(), Fail> {
     Ok(())
 }
 
-// The file of a name.
-fn file<'a>(rt: &HostRuntime, made: &'a Sample, name: &[u8]) -> Result<&'a [u8], Fail> {
-    let name = FileName::new(rt.alloc(), name)?;
-    match made.library.get(&name) {
-        Some(bytes) => Ok(bytes),
-        None => Ok(&[]),
+#[test]
+fn metrics(rt: HostRuntime) -> Result<(), Fail> {
+    let alloc = rt.alloc();
+    let made = sample(alloc, 1)?;
+    for (name, width) in [
+        (b"duo.tfm", [0, 2, 0x80, 0]),
+        (b"dot.tfm", [0, 1, 0, 0]),
+        (b"bar.tfm", [0, 1, 0x80, 0]),
+    ] {
+        let mut bytes = Vec::from_slice(
+            alloc,
+            &[
+                0, 14, 0, 2, 0, 65, 0, 65, 0, 2, 0, 1, 0, 1, 0, 1, 0, 0, 0, 0, 0, 0, 0, 0, // counts
+                0, 0, 0, 0, 0, 0xa0, 0, 0, // header
+                1, 0, 0, 0, // char_info
+                0, 0, 0, 0, // the width 0
+            ],
+        )?;
+        bytes.extend_from_slice(&width)?;
+        bytes.extend_from_slice(&[0; 12])?;
+        let name = FileName::new(alloc, name)?;
+        assert_eq!(rt; made.library.get(&name), Some(bytes.as_slice()));
     }
+    Ok(())
+}
+
+#[test]
+fn a_virtual_font(rt: HostRuntime) -> Result<(), Fail> {
+    let alloc = rt.alloc();
+    let made = sample(alloc, 1)?;
+    let name = FileName::new(alloc, b"duo.vf")?;
+    assert_eq!(rt; made.library.get(&name), Some([
+        0xf7, 0xca, 0, 0, 0, 0, 0, 0, 0xa0, 0, 0, // the preamble
+        0xf3, 0, 0, 0, 0, 0, 0, 0x10, 0, 0, 0, 0xf6, 0xae, 0x7d, 0, 3, 0x64, 0x6f, 0x74, // dot
+        0xf3, 1, 0, 0, 0, 0, 0, 0x10, 0, 0, 0, 0xf6, 0xae, 0x7d, 0, 3, 0x62, 0x61, 0x72, // bar
+        3, 0x41, 2, 0x80, 0, 0x41, 0xac, 0x41, // the packet
+        0xf8, 0xf8, 0xf8,
+    ].as_slice()));
+    Ok(())
+}
+
+#[test]
+fn a_glyph_of_plain_bits(rt: HostRuntime) -> Result<(), Fail> {
+    let alloc = rt.alloc();
+    let made = sample(alloc, 1)?;
+    let name = FileName::new(alloc, b"dot.300pk")?;
+    assert_eq!(rt; made.library.get(&name), Some([
+        0xf7, 0x59, 0, 0, 0xa0, 0, 0, 0, 0, 0, 0, 0, 4, 0x26, 0xae, 0, 4, 0x26, 0xae, // preamble
+        0xe0, 9, 0x41, 1, 0, 0, 4, 2, 2, 0, 1, 0xf0, 0xf5,
+    ].as_slice()));
+    Ok(())
+}
+
+#[test]
+fn a_glyph_of_runs(rt: HostRuntime) -> Result<(), Fail> {
+    let alloc = rt.alloc();
+    let made = sample(alloc, 1)?;
+    let name = FileName::new(alloc, b"bar.300pk")?;
+    assert_eq!(rt; made.library.get(&name), Some([
+        0xf7, 0x59, 0, 0, 0xa0, 0, 0, 0, 0, 0, 0, 0, 4, 0x26, 0xae, 0, 4, 0x26, 0xae, // preamble
+        0xa8, 0x0b, 0x41, 1, 0x80, 0, 6, 3, 4, 0, 3, 0xe2, 0x11, 0x40, 0xf5, 0xf6, 0xf6,
+    ].as_slice()));
+    Ok(())
 }
