@@ -98,7 +98,8 @@ StoppedRunsWriteAlike = (g : Given) (files : Files) (bytes : List ℕ) (old new 
 
 -- what is read of it, to the limit of a document, is all of it
 abbrev pub SamplesAreReadWhole : Type 0
-SamplesAreReadWhole = (pages : ℕ) → pages ≤ 1000 → read_of (sample_document pages) ≡ sample_document pages
+SamplesAreReadWhole = (pages : ℕ) → pages ≤ 1000
+    → read_of (sample_document pages) ≡ sample_document pages
 
 -- ---- workers
 

@@ -1,5 +1,6 @@
--- What a run is given by its settings. Where they ask for the sample, its document and its font files are the sample's, and neither the input
--- nor the sources that were handed in are used; else it is what these tell.
+-- What a run is given by its settings. Where they ask for the sample, its document and its font
+-- files are the sample's, and neither the input nor the sources that were handed in are used; else
+-- it is what these tell.
 use Rattle.std.specs.Prelude.{◌≡◌, ℕ, List, [], ◌∷◌, Option, Some, None, slice_index_or}
 use Rattle.outside.specs.Library.{Files}
 use Rattle.font_decode.specs.Desks.{Loaded}
@@ -32,8 +33,8 @@ abbrev pub FailedBy : Option ℕ → Type 0 → Type 0
 FailedBy None Failed = Failed
 FailedBy (Some pages) Failed = ⊥
 
--- how many files a worker loaded: so many at most, and its source counts as many, other than for the sample, whose files are loaded from
--- a source of the run's own
+-- how many files a worker loaded: so many at most, and its source counts as many, other than for
+-- the sample, whose files are loaded from a source of the run's own
 abbrev pub LoadedBy : Option ℕ → (most before now count count_now : ℕ) → Type 0
 LoadedBy None most before now count count_now = Loaded most before now count count_now
 LoadedBy (Some pages) most before now count count_now = RoseUpTo most count count_now
@@ -56,18 +57,20 @@ FailedTo s Failed = FailedBy s.sample Failed
 
 -- all sources are as they were
 abbrev pub SourcesAreKept : {F : Type 0} → (before after : List (Worker F)) → Type 0
-SourcesAreKept {F} before after = (k : ℕ) (d : Worker F) → (slice_index_or after k d).source ≡ (slice_index_or before k d).source
+SourcesAreKept {F} before after = (k : ℕ) (d : Worker F)
+    → (slice_index_or after k d).source ≡ (slice_index_or before k d).source
 
--- Nothing was read of the input, no file was loaded from a source that was handed in, and so neither the document is at fault nor did they
--- fail.
-pub record UsesTheSample {F : Type 0} (status : ℕ) (InputKept : Type 0) (before after : List (Worker F)) : Type 0 where
+-- Nothing was read of the input, no file was loaded from a source that was handed in, and so
+-- neither the document is at fault nor did they fail.
+pub record UsesTheSample {F : Type 0} (status : ℕ) (InputKept : Type 0)
+    (before after : List (Worker F)) : Type 0 where
   pub input : InputKept
   pub sources : SourcesAreKept before after
   -- never 2, 5 or 6
   pub answers : IsAmong status (0 ∷ 3 ∷ 4 ∷ 7 ∷ 8 ∷ 9 ∷ [])
 
--- what the product's own worker drew, and how often it loaded, was handed to this one, which is the same else, and altogether where that is
--- nothing
+-- what a worker of the run's own drew, and how often it loaded, was handed to this one, which is
+-- the same else, and altogether where that is nothing
 pub record WasHanded {F G : Type 0} (own : Worker G) (before after : Worker F) : Type 0 where
   pub source : after.source ≡ before.source
   pub seat : after.seat ≡ before.seat

@@ -30,8 +30,8 @@ pub fn own_workers(
     Ok(workers)
 }
 
-// Hands what a worker drew, and how often it loaded, to another that wasn't used. Where that is nothing the
-// other stays as it was.
+// Hands what a worker drew, and how often it loaded, to another that wasn't used. Where that is
+// nothing the other stays as it was.
 fn hand<G: FontSource, F: FontSource>(own: &mut Worker<G>, worker: &mut Worker<F>)
     requires unused { worker.old.pages.items ≡ [] }
     ensures { WasHanded own.old worker.old worker.new }
@@ -42,7 +42,8 @@ fn hand<G: FontSource, F: FontSource>(own: &mut Worker<G>, worker: &mut Worker<F
     }
 }
 
-/// Hands what some workers drew, and how often each loaded, to the first of others that weren't used.
+/// Hands what some workers drew, and how often each loaded, to the first of others that weren't
+/// used.
 pub fn hand_all<G: FontSource, F: FontSource>(own: &mut [Worker<G>], workers: &mut [Worker<F>])
     requires there { length own.old ≤ length workers.old }
     requires unused { (k : ℕ) (d : _) → k < length own.old

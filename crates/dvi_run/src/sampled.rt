@@ -29,8 +29,9 @@ use std::alloc::Global;
 use std::sync::Wait;
 use std::thread::Threads;
 
-// Draws and writes a document without a fault by the run's own workers, whose sources never fail, and answers
-// how that ended. What each of them drew, and how often it loaded, is handed to the worker in its place.
+// Draws and writes a document without a fault by the run's own workers, whose sources never fail,
+// and answers how that ended. What each of them drew, and how often it loaded, is handed to the
+// worker in its place.
 fn draw_by_own<R: Threads + Wait + Sync, F: FontSource + Send, O: Output, G: FontSource + Send>(
     rt: &R,
     alloc: Global,
@@ -53,17 +54,21 @@ fn draw_by_own<R: Threads + Wait + Sync, F: FontSource + Send, O: Output, G: Fon
     requires ready { (k : ℕ) (d : _) → k < settings.now.workers
         → IsReady F.library told (slice_index_or workers.old k d) }
     requires empty { history.old.items ≡ [] }
-    ensures ends { IsEnding (O.written out.old) (O.written out.new) (Rose (O.faults out.old) (O.faults out.new))
-        ⊥ (out.new ≡ out.old) ⊥ (given_by (Some sample_files) settings.now) (Some document.now) (Some [])
-        (seen_ending result.0) }
-    ensures done { (pages : ℕ) → AreDone F.library F.faults F.loads told (Some pages) settings.now.cache
-        settings.now.workers (status_of (seen_ending result.0)) (seen_ending result.0) result.1
+    ensures ends { IsEnding (O.written out.old) (O.written out.new)
+        (Rose (O.faults out.old) (O.faults out.new))
+        ⊥ (out.new ≡ out.old) ⊥ (given_by (Some sample_files) settings.now) (Some document.now)
+        (Some []) (seen_ending result.0) }
+    ensures done { (pages : ℕ) → AreDone F.library F.faults F.loads told (Some pages)
+        settings.now.cache settings.now.workers (status_of (seen_ending result.0))
+        (seen_ending result.0) result.1
         (calls_of history.new.items) workers.old workers.new }
-    ensures drew { OfRead (Some document.now) (DrewTogether (given_by (Some sample_files) settings.now)
-        settings.now.summary (O.written out.old) (O.written out.new) settings.now.cache settings.now.workers
-        (status_of (seen_ending result.0)) (seen_ending result.0) result.1 (calls_of history.new.items)
-        workers.old workers.new) }
-    ensures sample { UsesTheSample (status_of (seen_ending result.0)) (Unit {0}) workers.old workers.new }
+    ensures drew { OfRead (Some document.now)
+        (DrewTogether (given_by (Some sample_files) settings.now)
+        settings.now.summary (O.written out.old) (O.written out.new) settings.now.cache
+        settings.now.workers (status_of (seen_ending result.0)) (seen_ending result.0) result.1
+        (calls_of history.new.items) workers.old workers.new) }
+    ensures sample { UsesTheSample (status_of (seen_ending result.0)) (Unit {0})
+        workers.old workers.new }
     ensures output { O.faults out.old ≤ O.faults out.new }
 {
     let drawn = draw_document(rt, alloc, settings, document, own, out, history);
@@ -71,8 +76,8 @@ fn draw_by_own<R: Threads + Wait + Sync, F: FontSource + Send, O: Output, G: Fon
     drawn
 }
 
-// Draws and writes the sample of so many pages by as many workers of its own as the settings say, and answers
-// how that ended. The worker in the place of each is handed what it drew.
+// Draws and writes the sample of so many pages by as many workers of its own as the settings say,
+// and answers how that ended. The worker in the place of each is handed what it drew.
 fn draw_sample<R: Threads + Wait + Sync, F: FontSource + Send, O: Output>(
     rt: &R,
     alloc: Global,
@@ -90,17 +95,20 @@ fn draw_sample<R: Threads + Wait + Sync, F: FontSource + Send, O: Output>(
     requires ready { (k : ℕ) (d : _) → k < settings.now.workers
         → IsReady F.library told (slice_index_or workers.old k d) }
     requires empty { history.old.items ≡ [] }
-    ensures ends { IsEnding (O.written out.old) (O.written out.new) (Rose (O.faults out.old) (O.faults out.new))
+    ensures ends { IsEnding (O.written out.old) (O.written out.new)
+        (Rose (O.faults out.old) (O.faults out.new))
         ⊥ (out.new ≡ out.old) ⊥ (given_by (Some sample_files) settings.now)
         (Some (sample_document pages)) (Some []) (seen_ending result.0) }
-    ensures done { AreDone F.library F.faults F.loads told (Some pages) settings.now.cache settings.now.workers
-        (status_of (seen_ending result.0)) (seen_ending result.0) result.1 (calls_of history.new.items)
+    ensures done { AreDone F.library F.faults F.loads told (Some pages) settings.now.cache
+        settings.now.workers (status_of (seen_ending result.0)) (seen_ending result.0) result.1
+        (calls_of history.new.items) workers.old workers.new }
+    ensures drew { OfRead (Some (sample_document pages))
+        (DrewTogether (given_by (Some sample_files) settings.now)
+        settings.now.summary (O.written out.old) (O.written out.new) settings.now.cache
+        settings.now.workers (status_of (seen_ending result.0)) (seen_ending result.0) result.1
+        (calls_of history.new.items) workers.old workers.new) }
+    ensures sample { UsesTheSample (status_of (seen_ending result.0)) (Unit {0})
         workers.old workers.new }
-    ensures drew { OfRead (Some (sample_document pages)) (DrewTogether (given_by (Some sample_files) settings.now)
-        settings.now.summary (O.written out.old) (O.written out.new) settings.now.cache settings.now.workers
-        (status_of (seen_ending result.0)) (seen_ending result.0) result.1 (calls_of history.new.items)
-        workers.old workers.new) }
-    ensures sample { UsesTheSample (status_of (seen_ending result.0)) (Unit {0}) workers.old workers.new }
     ensures output { O.faults out.old ≤ O.faults out.new }
 {
     // A sample is a document, which has no fault, and fits the limit of one.
@@ -117,8 +125,8 @@ fn draw_sample<R: Threads + Wait + Sync, F: FontSource + Send, O: Output>(
     )
 }
 
-/// Draws and writes the sample, where the settings ask for it, and else what is read, and answers how that
-/// ended.
+/// Draws and writes the sample, where the settings ask for it, and else what is read, and answers
+/// how that ended.
 pub fn draw_asked<R: Threads + Wait + Sync, I: Input, F: FontSource + Send, O: Output>(
     rt: &R,
     alloc: Global,
@@ -134,20 +142,24 @@ pub fn draw_asked<R: Threads + Wait + Sync, I: Input, F: FontSource + Send, O: O
     requires ready { (k : ℕ) (d : _) → k < settings.now.workers
         → IsReady F.library told (slice_index_or workers.old k d) }
     requires empty { history.old.items ≡ [] }
-    ensures ends { IsEnding (O.written out.old) (O.written out.new) (Rose (O.faults out.old) (O.faults out.new))
-        (FailedTo settings.now (SomeUsed settings.now.workers workers.old workers.new (SourceRose F.faults)))
+    ensures ends { IsEnding (O.written out.old) (O.written out.new)
+        (Rose (O.faults out.old) (O.faults out.new))
+        (FailedTo settings.now
+        (SomeUsed settings.now.workers workers.old workers.new (SourceRose F.faults)))
         (out.new ≡ out.old) (FailedTo settings.now (Rose (I.faults input.old) (I.faults input.new)))
         (given_to told settings.now) (document_to settings.now (I.left input.old))
         (rest_to settings.now (I.left input.new)) (seen_ending result.0) }
     ensures done { AreDone F.library F.faults F.loads told settings.now.sample settings.now.cache
         settings.now.workers (status_of (seen_ending result.0)) (seen_ending result.0) result.1
         (calls_of history.new.items) workers.old workers.new }
-    ensures drew { OfRead (document_to settings.now (I.left input.old)) (DrewTogether (given_to told settings.now)
-        settings.now.summary (O.written out.old) (O.written out.new) settings.now.cache settings.now.workers
-        (status_of (seen_ending result.0)) (seen_ending result.0) result.1 (calls_of history.new.items)
-        workers.old workers.new) }
-    ensures sample { IfSome settings.now.sample (λ pages. UsesTheSample (status_of (seen_ending result.0))
-        (input.new ≡ input.old) workers.old workers.new) }
+    ensures drew { OfRead (document_to settings.now (I.left input.old))
+        (DrewTogether (given_to told settings.now)
+        settings.now.summary (O.written out.old) (O.written out.new) settings.now.cache
+        settings.now.workers (status_of (seen_ending result.0)) (seen_ending result.0) result.1
+        (calls_of history.new.items) workers.old workers.new) }
+    ensures sample { IfSome settings.now.sample (λ pages.
+        UsesTheSample (status_of (seen_ending result.0)) (input.new ≡ input.old) workers.old
+        workers.new) }
     ensures input { I.faults input.old ≤ I.faults input.new }
     ensures output { O.faults out.old ≤ O.faults out.new }
 {

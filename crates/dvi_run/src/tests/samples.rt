@@ -1,5 +1,5 @@
-//! Runs of the sample. Their input fails at each read, and each source at each load, so that a run that used
-//! one of them would end otherwise.
+//! Runs of the sample. Their input fails at each read, and each source at each load, so that a run
+//! that used one of them would end otherwise.
 ghost use Rattle.std.specs.Prelude.{◌≡◌, ◌<◌, ◌≤◌, ℕ, IfOk, length, slice_index_or};
 ghost use Rattle.page_workers.specs.Seating.{IsUnused};
 
@@ -108,8 +108,8 @@ fn run_of<R: Threads + Wait + Sync>(
     })
 }
 
-// How many pixels of each page are black, where the text of a page is so many bytes long, of which the first
-// ones are its head.
+// How many pixels of each page are black, where the text of a page is so many bytes long, of which
+// the first ones are its head.
 fn blacks(alloc: Global, text: &[u8], head: usize, size: usize) -> Result<Vec<u32>, Fail>
     requires { 1 ≤ size }
 {
@@ -132,7 +132,8 @@ fn three_pages_and_their_counts(rt: HostRuntime) -> Result<(), Fail> {
         black 372\n";
     assert_eq!(rt; run.status, 0);
     assert_eq!(rt; run.notes.as_slice(), notes.as_slice());
-    // A page of 2550 by 3300 dots. Page i, from 1, has 1 + i mod 3 lines of 52 black dots, and 20 more.
+    // A page of 2550 by 3300 dots. Page i, from 1, has 1 + i mod 3 lines of 52 black dots, and 20
+    // more.
     let counts = blacks(alloc, &run.written, 13, 13 + 319 * 3300)?;
     assert_eq!(rt; counts.as_slice(), [124, 176, 72].as_slice());
     // Each claim is filled.
