@@ -145,7 +145,7 @@ class Arguments(unittest.TestCase):
 
     def test_arguments_that_are_no_command_line(self):
         for words in (['--help'], [''], ['page.dvi'], ['--'], ['--res'], ['--res', '0'], ['--res=4801'], ['--res=+300'], ['--width', '00000001'],
-                      ['--trace=1'], ['--workers', '33'], ['--trace', '--trace'], ['--summ'], ['--sample', '3']):
+                      ['--trace=1'], ['--workers', '33'], ['--trace', '--trace'], ['--summ'], ['--sample', '0'], ['--sample=1001']):
             self.assertEqual(self.drawn(*words), (1, b'', 'dvipbm: usage\n'), words)
 
     def test_an_argument_that_is_not_utf_8(self):
@@ -188,6 +188,16 @@ class Arguments(unittest.TestCase):
         self.assertEqual((ended[:2], ended[2].splitlines()), ((4, b''), [
             f'1 look {KEY} claimed', f'1 fill {KEY} evict -',
             'pages 0', 'looks 1', 'hits 0', 'claims 1', 'busy 0', 'evictions 0', 'releases 0', 'loads 1', 'black 0', MISSING[2].rstrip()]))
+
+    def test_a_sample(self):
+        """Page i has 1 + i mod 3 lines of 52 black dots and 20 more. A folder for an input and a file for a folder of fonts aren't used."""
+        with tempfile.TemporaryDirectory() as folder:
+            descriptor = os.open(folder, os.O_RDONLY)
+            status, out, notes = called(words=['--sample', '3', '--summary'], stdin=descriptor, env=environment(DVIPBM_FONTS=f'{SAMPLE}/drawn12.tfm'))
+            os.close(descriptor)
+        black = [sum(byte.bit_count() for byte in page) for page in out.split(PAGE)[1:]]
+        self.assertEqual((status, black, notes.splitlines()), (0, [124, 176, 72], [
+            'pages 3', 'looks 54', 'hits 51', 'claims 3', 'busy 0', 'evictions 0', 'releases 0', 'loads 8', 'black 372']))
 
     def test_a_run_without_a_cache_has_its_line_alone(self):
         self.assertEqual(self.drawn('--trace', '--summary', data=b''), (2, b'', 'dvipbm: document: truncated at 0\n'))

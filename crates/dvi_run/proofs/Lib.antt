@@ -16,3 +16,5 @@ pub mod Shares
 pub mod Together
 pub mod Reported
 pub mod Spelled
+pub mod Handed
+pub mod OwnDocument

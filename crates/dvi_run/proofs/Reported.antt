@@ -121,8 +121,8 @@ one_8 capacity n history one = record {
   idle = λ among. absurd (not_idle among);
 }
 
-module _ {F : Type 0} (library : F → Option Files) (faults loads : F → ℕ) (told : Option Files) (capacity n : ℕ) (tally : Option Tally) (history : List Call) (before after : List (Worker F)) where
-  worked_8 : (k : ℕ) (was now : Worker F) → Worked library faults loads told n 0 history k was now → Worked library faults loads told n 8 history k was now
+module _ {F : Type 0} (library : F → Option Files) (faults loads : F → ℕ) (told : Option Files) (sample : Option ℕ) (capacity n : ℕ) (tally : Option Tally) (history : List Call) (before after : List (Worker F)) where
+  worked_8 : (k : ℕ) (was now : Worker F) → Worked library faults loads told sample n 0 history k was now → Worked library faults loads told sample n 8 history k was now
   worked_8 k was now w = record {
     seat = w.seat;
     none = w.none;
@@ -136,7 +136,7 @@ module _ {F : Type 0} (library : F → Option Files) (faults loads : F → ℕ) 
   }
 
   abbrev Done : EndingSeen → Type 0
-  Done e = AreDone library faults loads told capacity n (status_of e) e tally history before after
+  Done e = AreDone library faults loads told sample capacity n (status_of e) e tally history before after
 
   pub done_on : (x : Ending) (taken : Bool) → Done (seen_ending x) → Done (with_notes (seen_ending x) taken)
   done_on code.Written true h = h

@@ -15,7 +15,8 @@ use Rattle.turn_lock.specs.Laws.{AloneIsHistory}
 use Rattle.page_index.specs.Document.{IsDocument, Reading, pages_begun}
 use Rattle.page_draw.specs.Values.{PageValue}
 use Rattle.page_workers.specs.declared.worker.Worker.{Worker}
-use Rattle.dvi_run.specs.Pages.{Given, given_by}
+use Rattle.dvi_run.specs.Pages.{Given}
+use Rattle.dvi_run.specs.Sampled.{LoadedBy, given_to}
 use Rattle.dvi_run.specs.Promises.{HasEnded, IsNoted}
 use Rattle.dvi_run.specs.Report.{loads_of, report_text}
 use Rattle.dvi_run.specs.Reading.{OfRead}
@@ -148,7 +149,7 @@ each_kept n (c ∷ calls) made none kept = dite (ℕ_discrete c.seat 0)
 
 module _ {F : Type 0} (library : F → Option Files) (faults loads : F → ℕ) (g : Given) (reading : Reading) (n : ℕ) (e : EndingSeen) (history : List Call) (k : ℕ) (before after : Worker F)
     (ran : Ran (IsDrawnThrough n e) library faults loads g reading history (k + 1) before after) where
-  worked : Worked library faults loads g.library n (status_of e) history k before after
+  worked : Worked library faults loads g.library None n (status_of e) history k before after
   worked = record {
     seat = ran.seat;
     none = ran.none;
@@ -207,7 +208,7 @@ one_history library faults loads g n capacity old new P reading values e history
 
 module _ {F : Type 0} (library : F → Option Files) (faults loads : F → ℕ) (g : Given) (counted : Bool) (reading : Reading) (capacity n : ℕ) (old new : Option (List ℕ)) (P : Type 0) (e : EndingSeen) (tally : Option Tally)
     (history : List Call) (before after : List (Worker F)) (drew : DrewPages library faults loads g counted reading capacity n old new P e tally history before after) where
-  pub are_done : RestIsKept n before after → AreDone library faults loads g.library capacity n (status_of e) e tally history before after
+  pub are_done : RestIsKept n before after → AreDone library faults loads g.library None capacity n (status_of e) e tally history before after
   are_done rest = record {
     counts = counts_to counted old new P (Unit {0}) reading drew.ends.0 e tally drew.ends.2 drew.ends.3;
     failed = drew.failed;
@@ -237,9 +238,9 @@ module _ {F : Type 0} (library : F → Option Files) (faults loads : F → ℕ) 
 -- the end of a run
 pub ended_at : {F : Type 0} (faults : F → ℕ) (told : Option Files) (settings : Settings) (e : EndingSeen) (tally : Option Tally) (left old new notes_old notes_new : Option (List ℕ)) (notes_before notes_now : ℕ)
     (history : List Call) (before after : List (Worker F))
-    → IsNoted (given_by told settings) e left old new notes_old notes_new notes_before notes_now (report_text settings tally (loads_of settings.workers after) history e) → CountsTo tally e
+    → IsNoted (given_to told settings) e left old new notes_old notes_new notes_before notes_now (report_text settings tally (loads_of settings.workers after) history e) → CountsTo tally e
     → ((page : ℕ) → e ≡ Source page → SomeUsed settings.workers before after (FailedAt faults page))
-    → OfRead left (DrewTogether (given_by told settings) settings.summary old new settings.cache settings.workers (status_of e) e tally history before after)
+    → OfRead left (DrewTogether (given_to told settings) settings.summary old new settings.cache settings.workers (status_of e) e tally history before after)
     → (status : ℕ) → status ≡ status_of e → HasEnded faults told settings status e tally left old new notes_old notes_new notes_before notes_now history before after
 ended_at faults told settings e tally left old new notes_old notes_new notes_before notes_now history before after noted counted failed drew status is =
     subst (λ (m : ℕ). HasEnded faults told settings m e tally left old new notes_old notes_new notes_before notes_now history before after) (sym is)
@@ -249,19 +250,31 @@ ended_at faults told settings e tally left old new notes_old notes_new notes_bef
 pub ready_untold : {F : Type 0} (library : F → Option Files) (w : Worker F) → IsUnused w → IsReady library None w
 ready_untold library w unused = record { fresh = record { tells = tt; none = unused.none; loads = unused.loads; pages = unused.pages }; seat = unused.seat }
 
+-- what is so of each element of a list, and of one more that is added, is so of all then
+pub more_each : {A : Type 0} (P : A → Type 0) (n : ℕ) (xs : List A) (x : A) → length xs ≡ n → P x → ((k : ℕ) (d : A) → k < n → P (get_or xs k d)) → (k : ℕ) (d : A) → k < n + 1 → P (get_or (xs ++ x ∷ []) k d)
+more_each P n xs x long one each k d lt = elim (cases_lt k n) [
+  | inl below ↦ subst P (sym (get_or_append_left xs (x ∷ []) d k (omega arith))) (each k d below)
+  | inr at ↦ subst P (sym (get_or_push xs x d k (omega arith))) one
+]
+
 -- and so are those of a list that one more was added to
 pub more_unused : {F : Type 0} (n : ℕ) (ws : List (Worker F)) (w : Worker F) → length ws ≡ n → IsUnused w → ((k : ℕ) (d : Worker F) → k < n → IsUnused (get_or ws k d))
     → (k : ℕ) (d : Worker F) → k < n + 1 → IsUnused (get_or (ws ++ w ∷ []) k d)
-more_unused n ws w long unused each k d lt = elim (cases_lt k n) [
-  | inl below ↦ subst IsUnused (sym (get_or_append_left ws (w ∷ []) d k (omega arith))) (each k d below)
-  | inr at ↦ subst IsUnused (sym (get_or_push ws w d k (omega arith))) unused
-]
+more_unused n ws w long unused each k d lt = more_each IsUnused n ws w long unused each k d lt
 
 -- ---- a run in which no cache was made
 
-idle_worked : {F : Type 0} (library : F → Option Files) (faults loads : F → ℕ) (told : Option Files) (n status k : ℕ) (w : Worker F) → IsReady library told w
-    → Worked library faults loads told n status [] k w w
-idle_worked library faults loads told n status k w ready = record {
+idle_loaded : (sample : Option ℕ) (before count : ℕ) → LoadedBy sample 0 before before count count
+idle_loaded None before count = record {
+  loads = record { most = omega arith; never_falls = omega arith };
+  counted = record { most = omega arith; never_falls = omega arith };
+  same = λ low. omega arith;
+}
+idle_loaded (Some pages) before count = record { most = omega arith; never_falls = omega arith }
+
+idle_worked : {F : Type 0} (library : F → Option Files) (faults loads : F → ℕ) (told : Option Files) (sample : Option ℕ) (n status k : ℕ) (w : Worker F) → IsReady library told w
+    → Worked library faults loads told sample n status [] k w w
+idle_worked library faults loads told sample n status k w ready = record {
   seat = ready.seat;
   none = ready.fresh.none;
   tells = ready.fresh.tells;
@@ -270,24 +283,20 @@ idle_worked library faults loads told n status k w ready = record {
   answered = refl;
   last = tt;
   kept = λ h. tt;
-  loaded = record {
-    loads = record { most = omega arith; never_falls = omega arith };
-    counted = record { most = omega arith; never_falls = omega arith };
-    same = λ low. omega arith;
-  };
+  loaded = idle_loaded sample (loads w.source) w.loads;
 }
 
 not_source : (e : EndingSeen) → IsIdle e → (page : ℕ) → e ≡ Source page → ⊥
 not_source e idle page is = subst IsIdle is idle
 
-pub idle_done : {F : Type 0} (library : F → Option Files) (faults loads : F → ℕ) (told : Option Files) (capacity n status : ℕ) (e : EndingSeen) (history : List Call) (ws : List (Worker F))
-    → ((k : ℕ) (d : Worker F) → k < n → IsReady library told (get_or ws k d)) → IsIdle e → history ≡ [] → AreDone library faults loads told capacity n status e None history ws ws
-idle_done library faults loads told capacity n status e history ws ready idle none =
-    subst (λ (h : List Call). AreDone library faults loads told capacity n status e None h ws ws) (sym none) (record {
+pub idle_done : {F : Type 0} (library : F → Option Files) (faults loads : F → ℕ) (told : Option Files) (sample : Option ℕ) (capacity n status : ℕ) (e : EndingSeen) (history : List Call) (ws : List (Worker F))
+    → ((k : ℕ) (d : Worker F) → k < n → IsReady library told (get_or ws k d)) → IsIdle e → history ≡ [] → AreDone library faults loads told sample capacity n status e None history ws ws
+idle_done library faults loads told sample capacity n status e history ws ready idle none =
+    subst (λ (h : List Call). AreDone library faults loads told sample capacity n status e None h ws ws) (sym none) (record {
       counts = idle;
       failed = λ page is. absurd (not_source e idle page is);
       one = record { legal = refl; made = tt; none_of_first = refl; few_claims = λ k. omega arith; kept = λ is. tt; idle = λ among. refl };
-      worked = λ k d lt. idle_worked library faults loads told n status k (get_or ws k d) (ready k d lt);
+      worked = λ k d lt. idle_worked library faults loads told sample n status k (get_or ws k d) (ready k d lt);
       shares = (0, record { rounds = 0; shared = λ k d lt. (ready k d lt).fresh.pages });
       rest = λ k d le. refl;
     })

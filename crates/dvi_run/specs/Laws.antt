@@ -11,8 +11,8 @@ use Rattle.page_index.specs.declared.faults.DocFault.{DocFault}
 use Rattle.font_decode.specs.Laws.{AreByteFiles}
 use Rattle.page_draw.specs.Values.{PageValue, PlacedFault}
 use Rattle.pbm_output.specs.Pbm.{page_text}
-use Rattle.command_line.specs.Settings.{default_settings}
-use Rattle.dvi_run.specs.Arguments.{run_settings}
+use Rattle.sample_maker.specs.Sample.{sample_document}
+use Rattle.dvi_run.specs.Reading.{read_of}
 use Rattle.dvi_run.specs.Shares.{EachPageHasOneWorker}
 use Rattle.dvi_run.specs.Endings.{OfRun, Stopped, Wrote}
 use Rattle.dvi_run.specs.Pages.{FailingPage, Given, IsRun, IsWholeRun, failing_page, run_fault, run_text}
@@ -94,11 +94,12 @@ abbrev pub StoppedRunsWriteAlike : Type 0
 StoppedRunsWriteAlike = (g : Given) (files : Files) (bytes : List ℕ) (old new other later : Option (List ℕ)) (p q : FailingPage) → g.library ≡ Some files
     → OfRun g bytes (λ _. Stopped old new p) → OfRun g bytes (λ _. Stopped other later q) → (p ≡ q) × GrewAlike old new other later
 
--- ---- arguments
+-- ---- the sample
 
--- no arguments at all ask for the default settings, wherever there is a worker
-abbrev pub NoArgumentsAskForTheDefaults : Type 0
-NoArgumentsAskForTheDefaults = (workers : ℕ) → 1 ≤ workers → run_settings workers [] ≡ Some default_settings
+-- what is read of it, to the limit of a document, is all of it
+abbrev pub SamplesAreReadWhole : Type 0
+SamplesAreReadWhole = (pages : ℕ) → pages ≤ 1000
+    → read_of (sample_document pages) ≡ sample_document pages
 
 -- ---- workers
 

@@ -13,6 +13,6 @@ pub mod Rounds
 pub mod Shares
 pub mod Tally
 pub mod Report
-pub mod Arguments
+pub mod Sampled
 pub mod Together
 pub mod Promises

@@ -8,13 +8,14 @@ use Rattle.page_index.specs.declared.faults.DocFault.{DocFault}
 use Rattle.page_draw.specs.Values.{PageValue}
 use Rattle.page_workers.specs.declared.worker.Worker.{Worker}
 use Rattle.dvi_run.specs.Reading.{IsAllRead, OfRead}
-use Rattle.dvi_run.specs.Pages.{FailingPage, Given, IsRun, IsWholeRun, given_by, run_fault}
+use Rattle.dvi_run.specs.Pages.{FailingPage, Given, IsRun, IsWholeRun, run_fault}
 use Rattle.dvi_run.specs.Lines.{line_of}
 use Rattle.dvi_run.specs.Report.{loads_of, report_text}
 use Rattle.dvi_run.specs.Tally.{CountsTo}
 use Rattle.dvi_run.specs.Endings.{EndingSeen, Source, IsAmong, IsPlaced, OfRun, Stopped, Tells, TellsBy, Wrote, WroteAll, WroteBefore, WroteFront, WroteSome, page_status, status_of, statuses}
 use Rattle.dvi_run.specs.Rounds.{FailedAt}
 use Rattle.dvi_run.specs.Together.{DrewTogether, SomeUsed}
+use Rattle.dvi_run.specs.Sampled.{given_to}
 use Rattle.command_line.specs.declared.settings.Settings.{Settings}
 use Rattle.dvi_run.specs.declared.tally.Tally.{Tally}
 
@@ -133,7 +134,7 @@ pub record HasEnded {F : Type 0} (faults : F → ℕ) (told : Option Files) (set
     (history : List Call) (before after : List (Worker F)) : Type 0 where
   -- the notes took the report of this end: the history's lines and the summary where they are asked for,
   -- with the tally and all loads of the used workers, and the line of the end, which is true
-  pub noted : IsNoted (given_by told settings) e left old new notes_old notes_new notes_before notes_now
+  pub noted : IsNoted (given_to told settings) e left old new notes_old notes_new notes_before notes_now
       (report_text settings tally (loads_of settings.workers after) history e)
   -- there is no tally where the run ended before a cache was made, and else it counts pages up to the one
   -- that the line names
@@ -144,7 +145,7 @@ pub record HasEnded {F : Type 0} (faults : F → ℕ) (told : Option Files) (set
   -- key: the pages have the values that this gives them, which say what was written; the workers drew
   -- the first pages, each page once, to the end of a round; the calls of each worker answer what its pages
   -- looked up; and the tally is that of the pages written whole, with their black pixels if the summary is asked for
-  pub drew : OfRead left (DrewTogether (given_by told settings) settings.summary old new settings.cache settings.workers status e tally history before after)
+  pub drew : OfRead left (DrewTogether (given_to told settings) settings.summary old new settings.cache settings.workers status e tally history before after)
 
 -- A run whose words give no settings: nothing was read, written, loaded, drawn or asked of a cache.
 pub record WasRefused (status : ℕ) (InputKept OutputKept WorkersKept HistoryKept : Type 0)

@@ -9,7 +9,7 @@ use Rattle.cache_core.specs.Laws.{FewClaims}
 use Rattle.cache_core.specs.Machine.{Legal}
 use Rattle.cache_core.specs.Solo.{solo_history}
 use Rattle.turn_lock.specs.Histories.{AllMade}
-use Rattle.font_decode.specs.Desks.{ReleasedLast, Loaded, misses}
+use Rattle.font_decode.specs.Desks.{ReleasedLast, misses}
 use Rattle.page_index.specs.Document.{Reading, pages_begun}
 use Rattle.page_draw.specs.Values.{PageValue}
 use Rattle.page_workers.specs.declared.worker.Worker.{Worker}
@@ -19,6 +19,7 @@ use Rattle.dvi_run.specs.Looked.{BrokenLooks, IsDrawnThrough, IsIdle, IsUnbroken
 use Rattle.dvi_run.specs.Rounds.{FailedAt, IsFresh, Ran, indexed_of}
 use Rattle.dvi_run.specs.Shares.{AreShares, DrewShares}
 use Rattle.dvi_run.specs.Tally.{CountsTo, Tallied}
+use Rattle.dvi_run.specs.Sampled.{LoadedBy}
 use Rattle.dvi_run.specs.declared.tally.Tally.{Tally}
 
 -- ---- the workers that a run uses: the first n of them
@@ -68,8 +69,8 @@ pub record IsOneHistory (capacity n status : ℕ) (history : List Call) : Type 0
   -- 1, 2 and 6: there is no call
   pub idle : IsAmong status (1 ∷ 2 ∷ 6 ∷ []) → history ≡ []
 
--- What a used worker did, by the calls of its seat in the history.
-pub record Worked {F : Type 0} (library : F → Option Files) (faults loads : F → ℕ) (told : Option Files) (n status : ℕ) (history : List Call) (k : ℕ) (before after : Worker F) : Type 0 where
+-- What a used worker did, by the calls of its seat in the history, in a run of the sample or of what the outside gives.
+pub record Worked {F : Type 0} (library : F → Option Files) (faults loads : F → ℕ) (told : Option Files) (sample : Option ℕ) (n status : ℕ) (history : List Call) (k : ℕ) (before after : Worker F) : Type 0 where
   -- it has neither a seat nor a result any more
   pub seat : after.seat ≡ None
   pub none : after.results.items ≡ []
@@ -82,8 +83,8 @@ pub record Worked {F : Type 0} (library : F → Option Files) (faults loads : F 
   -- a claim is given up at their end alone, and nowhere in a run that ends well
   pub last : ReleasedLast (own (k + 1) history)
   pub kept : IsDrawnThroughBy n status → NoneReleased (own (k + 1) history)
-  -- it loaded at most five files for each look that was no hit, and its source counts as many
-  pub loaded : Loaded (5 * misses (own (k + 1) history)) (loads before.source) (loads after.source) before.loads after.loads
+  -- it loaded at most five files for each look that was no hit, and its source counts as many, other than for the sample
+  pub loaded : LoadedBy sample (5 * misses (own (k + 1) history)) (loads before.source) (loads after.source) before.loads after.loads
 
 module _ {F : Type 0} (g : Given) (reading : Reading) where
   -- the calls of a used worker answer the look-ups of the pages that it drew, one page after another
@@ -118,10 +119,10 @@ pub record DrewPages {F : Type 0} (library : F → Option Files) (faults loads :
   pub ran : EachUsed n before after (λ k was now. Ran (IsDrawnThrough n e) library faults loads g reading history (k + 1) was now)
 
 -- what holds of the workers after any run that ended so
-pub record AreDone {F : Type 0} (library : F → Option Files) (faults loads : F → ℕ) (told : Option Files) (capacity n status : ℕ) (e : EndingSeen) (tally : Option Tally) (history : List Call) (before after : List (Worker F)) : Type 0 where
+pub record AreDone {F : Type 0} (library : F → Option Files) (faults loads : F → ℕ) (told : Option Files) (sample : Option ℕ) (capacity n status : ℕ) (e : EndingSeen) (tally : Option Tally) (history : List Call) (before after : List (Worker F)) : Type 0 where
   pub counts : CountsTo tally e
   pub failed : (page : ℕ) → e ≡ Source page → SomeUsed n before after (FailedAt faults page)
   pub one : IsOneHistory capacity n status history
-  pub worked : EachUsed n before after (λ k was now. Worked library faults loads told n status history k was now)
+  pub worked : EachUsed n before after (λ k was now. Worked library faults loads told sample n status history k was now)
   pub shares : (total : ℕ) × AreShares total n after
   pub rest : RestIsKept n before after

@@ -1,7 +1,6 @@
 //! Laws over the definitions, each a clause of a function without a body.
-ghost use Rattle.dvi_run.specs.Laws.{EachDocumentHasOneRun, EachPageHasItsEop, FaultsEndTheRun, GoodRunsWriteAlike, NoArgumentsAskForTheDefaults, OneReading, OneRun, PagesAreShared, RunsEndAtTheFirstFault, RunsHaveFronts, RunsHaveNoFault, RunsOfGoodPages, StoppedRunsWriteAlike};
+ghost use Rattle.dvi_run.specs.Laws.{EachDocumentHasOneRun, EachPageHasItsEop, FaultsEndTheRun, GoodRunsWriteAlike, OneReading, OneRun, PagesAreShared, RunsEndAtTheFirstFault, RunsHaveFronts, RunsHaveNoFault, RunsOfGoodPages, SamplesAreReadWhole, StoppedRunsWriteAlike};
 
-use command_line::laws::given_settings;
 use page_index::laws::documents;
 
 /// A run writes the pages before the first that fails, and no page after it matters.
@@ -42,9 +41,9 @@ pub fn shares()
     ensures { PagesAreShared }
 {}
 
-/// No arguments at all ask for the settings of `default_settings`.
-pub fn no_arguments()
-    ensures { NoArgumentsAskForTheDefaults }
+/// A sample is no longer than a document may be, and so it is read whole.
+pub fn samples()
+    ensures { SamplesAreReadWhole }
 {
-    given_settings();
+    sample_maker::laws::samples();
 }

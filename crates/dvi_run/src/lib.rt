@@ -5,10 +5,10 @@
 //! and the notes, each a part of its own that the calls' contracts don't name.
 #![tactic(auto)]
 
-mod arguments;
 mod at_once;
 mod clearing;
 mod ending;
+mod handing;
 pub mod laws;
 mod note;
 mod opening;
@@ -17,6 +17,7 @@ mod reading;
 mod report;
 mod rounds;
 mod run;
+mod sampled;
 mod stages;
 mod tally;
 #[cfg(test)]

@@ -1,64 +1,71 @@
 //! The run.
-ghost use Rattle.std.specs.Prelude.{◌≡◌, ◌≤◌, ◌<◌, ℕ, Option, Some, None, [], length, map, slice_index_or, string_bytes};
+ghost use Rattle.std.specs.Prelude.{◌≡◌, ◌≤◌, ◌<◌, ℕ, Option, Some, None, [], IfSome, length, map, slice_index_or, string_bytes};
 ghost use Rattle.outside.specs.Counts.{Rose};
 ghost use Rattle.outside.specs.Library.{Files};
 ghost use Rattle.cache_core.specs.Views.{calls_of};
+ghost use Rattle.command_line.specs.Line.{settings_of};
 ghost use Rattle.command_line.specs.Settings.{AreSettings};
-ghost use Rattle.dvi_run.specs.Arguments.{run_settings};
-ghost use Rattle.dvi_run.specs.Pages.{given_by};
 ghost use Rattle.dvi_run.specs.Shares.{AreShares};
+ghost use Rattle.dvi_run.specs.Sampled.{FailedTo, UsesTheSample, document_to, given_to, rest_to};
 ghost use Rattle.dvi_run.specs.Together.{IsOneHistory, IsReady, RestIsKept, SomeUsed, SourceRose, Worked};
 ghost use Rattle.dvi_run.specs.Promises.{HasEnded, IsCaused, IsCutShort, IsWritten, NoCountFalls, WasRefused};
 ghost use Rattle.dvi_run.specs.Endings.{EndingSeen, status_of};
 ghost use Rattle.dvi_run.specs.declared.tally.Tally.{Tally};
 
-use crate::arguments::settings_from;
 use crate::ending::Ending;
 use crate::laws::runs;
 use crate::report::{loads_asked, print, tell};
-use crate::stages::draw_input;
+use crate::sampled::draw_asked;
 use cache_core::Entry;
 use command_line::laws::given_settings;
-use command_line::{LineStop, Settings};
+use command_line::{LineStop, Settings, line};
 use outside::{FontSource, Input, Output};
 use page_workers::Worker;
 use std::alloc::Global;
 use std::sync::Wait;
 use std::thread::Threads;
 
-/// Reads a DVI document from `input`, draws its pages by `workers`, each with the fonts of its source, and
-/// writes them to `out` in the order of the file, each as a PBM bitmap, as soon as it and all before it are
-/// whole. `settings` name the resolution, the sheet, how many workers are used, from the first on, how many
-/// fonts their cache keeps, and what `notes` are told beside the end. The answer is an exit status, and every
-/// other than 0 and 8 prints one line to `notes`.
+/// Reads a DVI document from `input`, draws its pages by `workers`, each with the fonts of its
+/// source, and writes them to `out` in the order of the file, each as a PBM bitmap, as soon as it
+/// and all before it are whole. `settings` name the resolution, the sheet, how many workers are
+/// used, from the first on, how many fonts their cache keeps, and what `notes` are told beside the
+/// end. The answer is an exit status, and every other than 0 and 8 prints one line to `notes`.
 ///
-/// The input is read to its end or, where it is longer than a document may be (67,108,864 bytes), to one
-/// byte more; it may fail (6). What is no document has a first fault, which the line names with its byte
-/// (2). Then the pages are drawn in rounds of one page for each worker, and written. The first that has no
-/// bitmap ends the run, whatever came of the pages after it: with 4 where a font that it uses is at fault,
-/// whose name, size and design size the line gives with what is wrong with its files; with 3 where a font
-/// isn't defined, none is current, or a character isn't in its font, where a page has more than 2^24
-/// commands, or where one of its commands leads the pen too far, restores registers where none are saved,
-/// or saves them where 1000 are, or its end finds some saved. The line names the page, counted from 1, and
-/// the command's position in the file. A source that fails to load a font ends the run too (5), and so does
-/// a failed write (7), before which the output took the pages before whole, and a prefix of the page that
-/// the line names. Memory may run out in place of any answer (9); no page is then written in part.
+/// The input is read to its end or, where it is longer than a document may be (67,108,864 bytes),
+/// to one byte more; it may fail (6). What is no document has a first fault, which the line names
+/// with its byte (2). Then the pages are drawn in rounds of one page for each worker, and written.
+/// The first that has no bitmap ends the run, whatever came of the pages after it: with 4 where a
+/// font that it uses is at fault, whose name, size and design size the line gives with what is
+/// wrong with its files; with 3 where a font isn't defined, none is current, or a character isn't
+/// in its font, where a page has more than 2^24 commands, or where one of its commands leads the
+/// pen too far, restores registers where none are saved, or saves them where 1000 are, or its end
+/// finds some saved. The line names the page, counted from 1, and the command's position in the
+/// file. A source that fails to load a font ends the run too (5), and so does a failed write (7),
+/// before which the output took the pages before whole, and a prefix of the page that the line
+/// names. Memory may run out in place of any answer (9); no page is then written in part.
 ///
-/// At the end the notes are told, piece by piece: with `trace` a line for each call of the cache, in their
-/// order; with `summary` nine lines of counts, of the pages written whole, the calls of each kind, the loads
-/// asked of the used sources, and the black pixels of the pages written whole; and then the line of the end,
-/// which stands alone where the run ended before a cache was made. Notes that fail decide only between 0 and
-/// 8: all pages were written, and the notes took all of this, or they failed and took a prefix of it.
+/// At the end the notes are told, piece by piece: with `trace` a line for each call of the cache,
+/// in their order; with `summary` nine lines of counts, of the pages written whole, the calls of
+/// each kind, the loads asked of the used sources, and the black pixels of the pages written whole;
+/// and then the line of the end, which stands alone where the run ended before a cache was made.
+/// Notes that fail decide only between 0 and 8: all pages were written, and the notes took all of
+/// this, or they failed and took a prefix of it.
 ///
-/// `history` is empty when handed in, and is then the list of the cache's calls, in order: of worker k of n,
-/// both counted from 1, they bear the number k, and it draws the pages k, k + n, k + 2n and so on of the
-/// rounds begun, which its `pages` count from 0. The list stays empty where no page was begun. A worker that
-/// is used has neither a seat nor results when handed in, and its counts are those of no work.
+/// `history` is empty when handed in, and is then the list of the cache's calls, in order: of
+/// worker k of n, both counted from 1, they bear the number k, and it draws the pages k, k + n, k +
+/// 2n and so on of the rounds begun, which its `pages` count from 0. The list stays empty where no
+/// page was begun. A worker that is used has neither a seat nor results when handed in, and its
+/// counts are those of no work.
 ///
-/// Knuth, DVItype, "Device-independent file format" and "Translation to symbolic form"; Netpbm, the raw
-/// form of PBM. Clauses on bytes hold where the input, the output or the notes tell theirs, and what they
-/// say of fonts holds for the files `told`, which the source of each used worker tells. The sample isn't
-/// made yet, so that `settings` ask for none.
+/// With `sample` the run makes the document and its font files itself, as `sample_maker::sample`
+/// says, and draws them over workers of its own, as many as are used: `input` isn't read, and no
+/// file is loaded from the sources of `workers`. What its own worker k drew and how often it loaded
+/// are handed to worker k, and all else is as above, but that the run never ends with 2, 5 or 6.
+///
+/// Knuth, DVItype, "Device-independent file format" and "Translation to symbolic form"; Netpbm, the
+/// raw form of PBM. Clauses on bytes hold where the input, the output or the notes tell theirs, and
+/// what they say of fonts holds for the files `told`, which the source of each used worker tells.
+/// The sample is told always.
 pub fn run_with<R: Threads + Wait + Sync, I: Input, F: FontSource + Send, O: Output, N: Output>(
     rt: &R,
     alloc: Global,
@@ -71,28 +78,34 @@ pub fn run_with<R: Threads + Wait + Sync, I: Input, F: FontSource + Send, O: Out
 ) -> u8
     ghost told: { Option Files }
     requires settings { AreSettings settings.now }
-    requires own_document { settings.now.sample ≡ None }
     requires there { settings.now.workers ≤ length workers.old }
     requires ready { (k : ℕ) (d : _) → k < settings.now.workers
         → IsReady F.library told (slice_index_or workers.old k d) }
     requires empty { history.old.items ≡ [] }
 
     // Why it ended so: the causes of each status, both ways.
-    ensures caused { IsCaused (given_by told settings.now) result
-        (I.left input.old) (Rose (I.faults input.old) (I.faults input.new))
-        (SomeUsed settings.now.workers workers.old workers.new (SourceRose F.faults))
-        (Rose (O.faults out.old) (O.faults out.new)) (Rose (N.faults notes.old) (N.faults notes.new)) }
+    ensures caused { IsCaused (given_to told settings.now) result
+        (document_to settings.now (I.left input.old))
+        (FailedTo settings.now (Rose (I.faults input.old) (I.faults input.new)))
+        (FailedTo settings.now
+        (SomeUsed settings.now.workers workers.old workers.new (SourceRose F.faults)))
+        (Rose (O.faults out.old) (O.faults out.new))
+        (Rose (N.faults notes.old) (N.faults notes.new)) }
 
     // The bytes written where it ended well.
-    ensures written { IsWritten (given_by told settings.now) result
-        (I.left input.old) (I.left input.new) (O.written out.old) (O.written out.new) }
+    ensures written { IsWritten (given_to told settings.now) result
+        (document_to settings.now (I.left input.old)) (rest_to settings.now (I.left input.new))
+        (O.written out.old) (O.written out.new) }
 
-    // The report in the notes, what was written whole, the worker whose source failed, and the pages drawn,
-    // with what each look-up found and the calls that it made, of one and the same end.
+    // The report in the notes, what was written whole, the worker whose source failed, and the
+    // pages drawn, with what each look-up found and the calls that it made, of one and the same
+    // end.
     ensures ended { (ending : EndingSeen) × (tally : Option Tally) × (result ≡ status_of ending)
-        × HasEnded F.faults told settings.now result ending tally (I.left input.old)
-        (O.written out.old) (O.written out.new) (N.written notes.old) (N.written notes.new)
-        (N.faults notes.old) (N.faults notes.new) (calls_of history.new.items) workers.old workers.new }
+        × HasEnded F.faults told settings.now result ending tally
+        (document_to settings.now (I.left input.old)) (O.written out.old) (O.written out.new)
+        (N.written notes.old) (N.written notes.new)
+        (N.faults notes.old) (N.faults notes.new) (calls_of history.new.items) workers.old
+        workers.new }
 
     // The history, one legal list.
     ensures history { IsOneHistory settings.now.cache settings.now.workers result
@@ -100,32 +113,38 @@ pub fn run_with<R: Threads + Wait + Sync, I: Input, F: FontSource + Send, O: Out
 
     // Each call of each used worker, once, and its loads.
     ensures called { (k : ℕ) (d : _) → k < settings.now.workers
-        → Worked F.library F.faults F.loads told settings.now.workers result (calls_of history.new.items) k
-        (slice_index_or workers.old k d) (slice_index_or workers.new k d) }
+        → Worked F.library F.faults F.loads told settings.now.sample settings.now.workers result
+        (calls_of history.new.items) k (slice_index_or workers.old k d)
+        (slice_index_or workers.new k d) }
 
     // What was written where it was refused: pages from the first on, and a prefix of one at most.
-    ensures cut_short { IsCutShort (given_by told settings.now) result (I.left input.old)
-        (O.written out.old) (O.written out.new) (out.new ≡ out.old) }
+    ensures cut_short { IsCutShort (given_to told settings.now) result
+        (document_to settings.now (I.left input.old)) (O.written out.old) (O.written out.new)
+        (out.new ≡ out.old) }
 
     // The pages that were drawn, each by one worker.
     ensures shares { (total : ℕ) × AreShares total settings.now.workers workers.new }
     ensures rest { RestIsKept settings.now.workers workers.old workers.new }
+
+    // With the sample neither the input nor a source of the workers is used.
+    ensures sample { IfSome settings.now.sample (λ pages.
+        UsesTheSample result (input.new ≡ input.old) workers.old workers.new) }
 
     ensures counts { NoCountFalls (I.faults input.old) (I.faults input.new)
         (O.faults out.old) (O.faults out.new) (N.faults notes.old) (N.faults notes.new) }
 {
     // Bytes that have a fault are no document, and a document's pages have one value each.
     runs();
-    let (ending, tally) = draw_input(rt, alloc, settings, input, workers, out, history);
+    let (ending, tally) = draw_asked(rt, alloc, settings, input, workers, out, history);
     let loads = loads_asked(&workers[..settings.workers as usize]);
     let taken = print(notes, settings, &tally, loads, history.as_slice(), &ending).is_ok();
     ending.status(taken)
 }
 
-/// What the program does: `run_with` with the settings that `words`, the arguments after the program's name,
-/// give where there are so many workers, as `line` says. Where they give none, as today also where they ask
-/// for the sample, it is a fault of usage (1), or memory runs out (9): then nothing is read, loaded or
-/// written, and the notes have the line alone. Want of memory may come also while a good line is read.
+/// What the program does: `run_with` with the settings that `words`, the arguments after the
+/// program's name, give where there are so many workers, as `line` says. Where they give none it is
+/// a fault of usage (1), or memory runs out (9): then nothing is read, loaded or written, and the
+/// notes have the line alone. Want of memory may come also while a good line is read.
 pub fn dvipbm_run<R: Threads + Wait + Sync, I: Input, F: FontSource + Send, O: Output, N: Output>(
     rt: &R,
     alloc: Global,
@@ -143,59 +162,80 @@ pub fn dvipbm_run<R: Threads + Wait + Sync, I: Input, F: FontSource + Send, O: O
         → IsReady F.library told (slice_index_or workers.old k d) }
     requires empty { history.old.items ≡ [] }
 
-    // 1: exactly where the words give no settings, but for want of memory. Nothing was read, loaded or written.
-    ensures usage { result ≡ 1 → run_settings (length workers.old) (map string_bytes words.now) ≡ None }
-    ensures refused { run_settings (length workers.old) (map string_bytes words.now) ≡ None
+    // 1: exactly where the words give no settings, but for want of memory. Nothing was read, loaded
+    // or written.
+    ensures usage { result ≡ 1
+        → settings_of (length workers.old) (map string_bytes words.now) ≡ None }
+    ensures refused { settings_of (length workers.old) (map string_bytes words.now) ≡ None
         → WasRefused result (input.new ≡ input.old) (out.new ≡ out.old) (workers.new ≡ workers.old)
         (history.new ≡ history.old) (N.written notes.old) (N.written notes.new) (N.faults notes.old)
         (N.faults notes.new) }
 
     // Why it ended so: the causes of each status, both ways.
-    ensures caused { (s : Settings) → run_settings (length workers.old) (map string_bytes words.now) ≡ Some s
-        → IsCaused (given_by told s) result (I.left input.old) (Rose (I.faults input.old) (I.faults input.new))
-        (SomeUsed s.workers workers.old workers.new (SourceRose F.faults))
-        (Rose (O.faults out.old) (O.faults out.new)) (Rose (N.faults notes.old) (N.faults notes.new)) }
+    ensures caused { (s : Settings)
+        → settings_of (length workers.old) (map string_bytes words.now) ≡ Some s
+        → IsCaused (given_to told s) result (document_to s (I.left input.old))
+        (FailedTo s (Rose (I.faults input.old) (I.faults input.new)))
+        (FailedTo s (SomeUsed s.workers workers.old workers.new (SourceRose F.faults)))
+        (Rose (O.faults out.old) (O.faults out.new))
+        (Rose (N.faults notes.old) (N.faults notes.new)) }
 
     // The bytes written where it ended well.
-    ensures written { (s : Settings) → run_settings (length workers.old) (map string_bytes words.now) ≡ Some s
-        → IsWritten (given_by told s) result (I.left input.old) (I.left input.new) (O.written out.old)
-        (O.written out.new) }
+    ensures written { (s : Settings)
+        → settings_of (length workers.old) (map string_bytes words.now) ≡ Some s
+        → IsWritten (given_to told s) result (document_to s (I.left input.old))
+        (rest_to s (I.left input.new)) (O.written out.old) (O.written out.new) }
 
-    // The report in the notes, what was written whole, the worker whose source failed, and the pages drawn,
-    // with what each look-up found and the calls that it made, of one and the same end.
-    ensures ended { (s : Settings) → run_settings (length workers.old) (map string_bytes words.now) ≡ Some s
+    // The report in the notes, what was written whole, the worker whose source failed, and the
+    // pages drawn, with what each look-up found and the calls that it made, of one and the same
+    // end.
+    ensures ended { (s : Settings)
+        → settings_of (length workers.old) (map string_bytes words.now) ≡ Some s
         → (ending : EndingSeen) × (tally : Option Tally) × (result ≡ status_of ending)
-        × HasEnded F.faults told s result ending tally (I.left input.old) (O.written out.old)
-        (O.written out.new) (N.written notes.old) (N.written notes.new) (N.faults notes.old)
+        × HasEnded F.faults told s result ending tally (document_to s (I.left input.old))
+        (O.written out.old) (O.written out.new) (N.written notes.old) (N.written notes.new)
+        (N.faults notes.old)
         (N.faults notes.new) (calls_of history.new.items) workers.old workers.new }
 
     // The history, one legal list.
-    ensures history { (s : Settings) → run_settings (length workers.old) (map string_bytes words.now) ≡ Some s
+    ensures history { (s : Settings)
+        → settings_of (length workers.old) (map string_bytes words.now) ≡ Some s
         → IsOneHistory s.cache s.workers result (calls_of history.new.items) }
 
     // Each call of each used worker, once, and its loads.
-    ensures called { (s : Settings) → run_settings (length workers.old) (map string_bytes words.now) ≡ Some s
+    ensures called { (s : Settings)
+        → settings_of (length workers.old) (map string_bytes words.now) ≡ Some s
         → (k : ℕ) (d : _) → k < s.workers
-        → Worked F.library F.faults F.loads told s.workers result (calls_of history.new.items) k
-        (slice_index_or workers.old k d) (slice_index_or workers.new k d) }
+        → Worked F.library F.faults F.loads told s.sample s.workers result
+        (calls_of history.new.items) k (slice_index_or workers.old k d)
+        (slice_index_or workers.new k d) }
 
     // What was written where it was refused: pages from the first on, and a prefix of one at most.
-    ensures cut_short { (s : Settings) → run_settings (length workers.old) (map string_bytes words.now) ≡ Some s
-        → IsCutShort (given_by told s) result (I.left input.old) (O.written out.old) (O.written out.new)
-        (out.new ≡ out.old) }
+    ensures cut_short { (s : Settings)
+        → settings_of (length workers.old) (map string_bytes words.now) ≡ Some s
+        → IsCutShort (given_to told s) result (document_to s (I.left input.old)) (O.written out.old)
+        (O.written out.new) (out.new ≡ out.old) }
 
     // The pages that were drawn, each by one worker.
-    ensures shares { (s : Settings) → run_settings (length workers.old) (map string_bytes words.now) ≡ Some s
+    ensures shares { (s : Settings)
+        → settings_of (length workers.old) (map string_bytes words.now) ≡ Some s
         → (total : ℕ) × AreShares total s.workers workers.new }
-    ensures rest { (s : Settings) → run_settings (length workers.old) (map string_bytes words.now) ≡ Some s
+    ensures rest { (s : Settings)
+        → settings_of (length workers.old) (map string_bytes words.now) ≡ Some s
         → RestIsKept s.workers workers.old workers.new }
+
+    // With the sample neither the input nor a source of the workers is used.
+    ensures sample { (s : Settings)
+        → settings_of (length workers.old) (map string_bytes words.now) ≡ Some s
+        → IfSome s.sample (λ pages.
+        UsesTheSample result (input.new ≡ input.old) workers.old workers.new) }
 
     ensures counts { NoCountFalls (I.faults input.old) (I.faults input.new)
         (O.faults out.old) (O.faults out.new) (N.faults notes.old) (N.faults notes.new) }
 {
     // Settings that words give are within their limits.
     given_settings();
-    match settings_from(alloc, words, workers.len()) {
+    match line(alloc, words, workers.len()) {
         Ok(settings) => run_with(rt, alloc, &settings, input, workers, out, notes, history),
         Err(LineStop::Usage) => tell(notes, &Ending::Usage),
         Err(LineStop::NoMemory) => tell(notes, &Ending::Memory),

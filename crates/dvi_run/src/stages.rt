@@ -1,5 +1,5 @@
 //! The stages of a run: the input is read, the pages are found, and the workers draw them.
-ghost use Rattle.std.specs.Prelude.{◌≡◌, ◌≤◌, ◌<◌, ℕ, Option, [], length, slice_index_or};
+ghost use Rattle.std.specs.Prelude.{◌≡◌, ◌≤◌, ◌<◌, ℕ, Option, None, [], length, slice_index_or};
 ghost use Rattle.outside.specs.Counts.{Rose};
 ghost use Rattle.outside.specs.Library.{Files};
 ghost use Rattle.cache_core.specs.Views.{calls_of};
@@ -22,8 +22,8 @@ use std::alloc::Global;
 use std::sync::Wait;
 use std::thread::Threads;
 
-// Draws and writes the pages of a document by the first workers, as many as the settings say, and answers
-// how that ended.
+// Draws and writes the pages of a document by the first workers, as many as the settings say, and
+// answers how that ended.
 fn draw_pages<R: Threads + Wait + Sync, F: FontSource + Send, O: Output>(
     rt: &R,
     alloc: Global,
@@ -43,7 +43,8 @@ fn draw_pages<R: Threads + Wait + Sync, F: FontSource + Send, O: Output>(
     ensures drew { DrewPages F.library F.faults F.loads (given_by told settings.now)
         settings.now.summary index.now.reading
         settings.now.cache settings.now.workers (O.written out.old) (O.written out.new)
-        (Rose (O.faults out.old) (O.faults out.new)) (seen_ending result.0) result.1 (calls_of history.new.items)
+        (Rose (O.faults out.old) (O.faults out.new)) (seen_ending result.0) result.1
+        (calls_of history.new.items)
         workers.old workers.new }
     ensures rest { RestIsKept settings.now.workers workers.old workers.new }
     ensures output { O.faults out.old ≤ O.faults out.new }
@@ -61,8 +62,8 @@ fn draw_pages<R: Threads + Wait + Sync, F: FontSource + Send, O: Output>(
     )
 }
 
-// Draws and writes the document of these bytes, and answers how that ended.
-fn draw_document<R: Threads + Wait + Sync, F: FontSource + Send, O: Output>(
+/// Draws and writes the document of these bytes, and answers how that ended.
+pub fn draw_document<R: Threads + Wait + Sync, F: FontSource + Send, O: Output>(
     rt: &R,
     alloc: Global,
     settings: &Settings,
@@ -77,14 +78,19 @@ fn draw_document<R: Threads + Wait + Sync, F: FontSource + Send, O: Output>(
     requires ready { (k : ℕ) (d : _) → k < settings.now.workers
         → IsReady F.library told (slice_index_or workers.old k d) }
     requires empty { history.old.items ≡ [] }
-    ensures ends { EndsBytes (O.written out.old) (O.written out.new) (Rose (O.faults out.old) (O.faults out.new))
-        (SomeUsed settings.now.workers workers.old workers.new (SourceRose F.faults)) (out.new ≡ out.old)
+    ensures ends { EndsBytes (O.written out.old) (O.written out.new)
+        (Rose (O.faults out.old) (O.faults out.new))
+        (SomeUsed settings.now.workers workers.old workers.new (SourceRose F.faults))
+        (out.new ≡ out.old)
         (given_by told settings.now) bytes.now (seen_ending result.0) }
-    ensures done { AreDone F.library F.faults F.loads told settings.now.cache settings.now.workers
-        (status_of (seen_ending result.0)) (seen_ending result.0) result.1 (calls_of history.new.items)
+    ensures done { AreDone F.library F.faults F.loads told None settings.now.cache
+        settings.now.workers (status_of (seen_ending result.0)) (seen_ending result.0) result.1
+        (calls_of history.new.items)
         workers.old workers.new }
-    ensures drew { DrewTogether (given_by told settings.now) settings.now.summary (O.written out.old) (O.written out.new)
-        settings.now.cache settings.now.workers (status_of (seen_ending result.0)) (seen_ending result.0) result.1
+    ensures drew { DrewTogether (given_by told settings.now) settings.now.summary
+        (O.written out.old) (O.written out.new)
+        settings.now.cache settings.now.workers (status_of (seen_ending result.0))
+        (seen_ending result.0) result.1
         (calls_of history.new.items) workers.old workers.new bytes.now }
     ensures output { O.faults out.old ≤ O.faults out.new }
 {
@@ -111,15 +117,20 @@ pub fn draw_input<R: Threads + Wait + Sync, I: Input, F: FontSource + Send, O: O
     requires ready { (k : ℕ) (d : _) → k < settings.now.workers
         → IsReady F.library told (slice_index_or workers.old k d) }
     requires empty { history.old.items ≡ [] }
-    ensures ends { IsEnding (O.written out.old) (O.written out.new) (Rose (O.faults out.old) (O.faults out.new))
-        (SomeUsed settings.now.workers workers.old workers.new (SourceRose F.faults)) (out.new ≡ out.old)
+    ensures ends { IsEnding (O.written out.old) (O.written out.new)
+        (Rose (O.faults out.old) (O.faults out.new))
+        (SomeUsed settings.now.workers workers.old workers.new (SourceRose F.faults))
+        (out.new ≡ out.old)
         (Rose (I.faults input.old) (I.faults input.new)) (given_by told settings.now)
         (I.left input.old) (I.left input.new) (seen_ending result.0) }
-    ensures done { AreDone F.library F.faults F.loads told settings.now.cache settings.now.workers
-        (status_of (seen_ending result.0)) (seen_ending result.0) result.1 (calls_of history.new.items)
+    ensures done { AreDone F.library F.faults F.loads told None settings.now.cache
+        settings.now.workers (status_of (seen_ending result.0)) (seen_ending result.0) result.1
+        (calls_of history.new.items)
         workers.old workers.new }
-    ensures drew { OfRead (I.left input.old) (DrewTogether (given_by told settings.now) settings.now.summary (O.written out.old)
-        (O.written out.new) settings.now.cache settings.now.workers (status_of (seen_ending result.0))
+    ensures drew { OfRead (I.left input.old)
+        (DrewTogether (given_by told settings.now) settings.now.summary (O.written out.old)
+        (O.written out.new) settings.now.cache settings.now.workers
+        (status_of (seen_ending result.0))
         (seen_ending result.0) result.1 (calls_of history.new.items) workers.old workers.new) }
     ensures input { I.faults input.old ≤ I.faults input.new }
     ensures output { O.faults out.old ≤ O.faults out.new }

@@ -1,5 +1,5 @@
 //! Runs in memory, with documents at half a dot for a unit (num 1270, den 3, mag 1000).
-ghost use Rattle.std.specs.Prelude.{◌≡◌, ◌≤◌, None};
+ghost use Rattle.std.specs.Prelude.{◌≡◌, ◌≤◌};
 ghost use Rattle.page_draw.specs.Sheets.{IsDrawable};
 ghost use Rattle.command_line.specs.Settings.{AreSettings};
 
@@ -16,6 +16,7 @@ mod machine;
 mod one;
 mod pages;
 mod reports;
+mod samples;
 mod streams;
 mod virtual_faults;
 mod virtual_files;
@@ -165,7 +166,6 @@ fn on(sheet: Sheet) -> Settings
     requires { IsDrawable sheet }
     ensures allowed { AreSettings result }
     ensures one { result.workers ≡ 1 }
-    ensures own_document { result.sample ≡ None }
 {
     Settings {
         res: 300,
@@ -191,7 +191,6 @@ fn ends_on<R: Threads + Wait + Sync, F: FontSource + Send>(
 ) -> Result<bool, Fail>
     requires settings { AreSettings settings.now }
     requires one { settings.now.workers ≡ 1 }
-    requires own_document { settings.now.sample ≡ None }
 {
     let mut input = SureInput::new(Vec::from_slice(alloc, bytes)?);
     let mut out = MemOutput::new(alloc, 64, Vec::new(alloc));

@@ -1,8 +1,8 @@
 -- A made document is one.
-use Rattle.std.proofs.Common.{◌≡◌, ◌∙◌, inl, inr, ℕ, ◌+◌, ◌%◌, ◌^◌, ◌<◌, ◌≤◌, ℤ, pos, negsuc, Bool, true, false, List, [], ◌∷◌, ◌++◌, length, Option, Some, None, refl, sym, ap, subst, arith}
+use Rattle.std.proofs.Common.{◌≡◌, ◌∙◌, inl, inr, ℕ, ◌+◌, ◌%◌, ◌^◌, ◌<◌, ◌≤◌, ℤ, pos, negsuc, true, false, List, [], ◌∷◌, length, Option, Some, None, refl, sym, ap, subst, arith}
 use Rattle.std.specs.Prelude.{All, IsTrue, not, if◌then◌else◌, int_lt}
 use Rattle.std.specs.List.{AllByRecursion, flat_map, list_any}
-use Rattle.std.proofs.lemmas.Bool.{cases_Bool, cond-true, cond-false, eq-eqb, lt-ltb, not-true, and_parts, or_parts}
+use Rattle.std.proofs.lemmas.Bool.{cases_Bool, cond-true, cond-false, eq-eqb, lt-ltb, not-true, and_parts}
 use Rattle.big_endian.specs.Numbers.{IsSigned, int_eq}
 use Rattle.big_endian.specs.Fields.{signed_at}
 use Rattle.big_endian.proofs.Bytes.{signed_is_read_again}
@@ -10,18 +10,17 @@ use Rattle.outside.specs.declared.keys.FontKey.{FontKey}
 use Rattle.pixel_round.specs.declared.units.Units.{Units}
 use Rattle.dvi_commands.specs.Spelling.{DviCommand, Postamble, PostPost}
 use Rattle.dvi_commands.specs.ShortestSpelling.{shortest_spelling}
-use Rattle.dvi_commands.specs.Reading.{commands_of, placed}
+use Rattle.dvi_commands.specs.Reading.{commands_of}
 use Rattle.dvi_commands.specs.declared.command.Context.TheVariants as context
 use Rattle.page_index.specs.Limits.{LONGEST, MOST_PAGES}
 use Rattle.page_index.specs.Judged.{is_scale_right, post_fault, post_fault_against, postpost_fault, preamble_fault}
-use Rattle.page_index.specs.Document.{IsDocument, Reading, Sound, end_of, font_table, last_bop, pages_begun, post_at, preamble_of, text_of}
+use Rattle.page_index.specs.Document.{IsDocument, Reading, end_of, font_table, last_bop, pages_begun, post_at, preamble_of, text_of}
 use Rattle.page_index.specs.declared.faults.DocFault.{DocFault}
 use Rattle.page_index.specs.declared.faults.DocFault.TheVariants as fault
 use Rattle.sample_maker.specs.DviFile.{AreSigned, DefineRightly, IsFontSpelled, IsPageText, IsWritable, are_apart, behind, definition, document_reading, document_text, filler_behind, key_given, pages_reading, postamble, preamble, with_fonts}
-use Rattle.sample_maker.proofs.PageTexts.{Stands}
 use Rattle.sample_maker.proofs.DviPages.{fonts_there, int_eq_same, none_given, not_redefined}
 use Rattle.sample_maker.proofs.DviRead.{all_spelled, are, at, done_stands, end_stands, ended, head, head_even, head_stands, minus, pre_stands, told}
-use Rattle.sample_maker.proofs.DviRight.{AreRight, IsFree, IsRight, Rightly, allowed_there, fonts_right, int_same, pages_right, place_by, place_is, sound_of}
+use Rattle.sample_maker.proofs.DviRight.{AreRight, IsFree, Rightly, allowed_there, fonts_right, int_same, pages_right, place_is, sound_of}
 
 -- ---- the preamble
 

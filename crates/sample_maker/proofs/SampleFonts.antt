@@ -1,11 +1,9 @@
 -- The font files of the sample, read.
-use Rattle.std.proofs.Common.{◌≡◌, ◌∙◌, ℕ, suc, ◌+◌, ◌<◌, ◌≤◌, ℤ, pos, Bool, true, false, List, [], ◌∷◌, ◌++◌, length, Some, refl, sym, ap, arith, inl, inr}
-use Rattle.std.specs.Prelude.{All, IsTrue, codes}
+use Rattle.std.proofs.Common.{◌≡◌, ℕ, ◌<◌, ◌≤◌, ℤ, pos, List, [], ◌∷◌, Some, refl, arith, inl, inr}
+use Rattle.std.specs.Prelude.{codes}
 use Rattle.std.specs.List.{AllByRecursion}
 use Rattle.std.specs.FinMap.{get-from_entries}
 use Rattle.std.proofs.lemmas.Int.{ints}
-use Rattle.std.specs.Cmp.Lexicographic.{slice_cmp}
-use Rattle.std.specs.Ordering.{nat_cmp}
 use Rattle.std.specs.Cmp.Lexicographic.{nat_list_cmp_total}
 use Rattle.dvi_commands.specs.Spelling.{Font, Set}
 use Rattle.pk_runs.specs.Numbers.{Item, Repeat, Run, SpellsItem, SpellsItems}
@@ -14,11 +12,10 @@ use Rattle.pk_packets.specs.Fonts.{HasRaster}
 use Rattle.tfm_reader.specs.Fits.{IsFixWord}
 use Rattle.tfm_reader.specs.Right.{IsTfm}
 use Rattle.tfm_reader.specs.Tfm.{tfm_width}
-use Rattle.vf_reader.specs.Fonts.{IsVfFile, program_with}
-use Rattle.vf_reader.specs.Locals.{locals_of}
+use Rattle.vf_reader.specs.Fonts.{IsVfFile}
 use Rattle.sample_maker.specs.TfmFile.{tfm_file}
 use Rattle.sample_maker.specs.VfFile.{packet_item, vf_file, vf_items}
-use Rattle.sample_maker.specs.Sample.{FilesAreTheSix, GivesGlyph, GlyphsAreRead, MetricsAreRead, VirtualFontIsRead, bar_glyph, bar_pk, bar_tfm, dot_glyph, dot_pk, dot_tfm, duo_tfm, duo_vf, named_files, sample_files}
+use Rattle.sample_maker.specs.Sample.{FilesAreTheSix, GivesGlyph, MetricsAreRead, VirtualFontIsRead, bar_glyph, bar_pk, bar_tfm, dot_glyph, dot_pk, dot_tfm, duo_tfm, duo_vf, named_files, sample_files}
 use Rattle.sample_maker.proofs.TfmRead.{file_sound, widths_read}
 
 pub six_files : FilesAreTheSix

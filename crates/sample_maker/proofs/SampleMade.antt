@@ -1,5 +1,5 @@
 -- The pages of the sample are whole commands, and its document is one.
-use Rattle.std.proofs.Common.{◌≡◌, ◌∙◌, ℕ, zero, suc, ◌+◌, ◌*◌, ◌%◌, ◌^◌, ◌<◌, ◌≤◌, ℤ, pos, Bool, false, List, [], ◌∷◌, ◌++◌, length, map, Option, refl, sym, ap, subst, arith, length-append, replicate, inl}
+use Rattle.std.proofs.Common.{◌≡◌, ℕ, zero, suc, ◌+◌, ◌*◌, ◌%◌, ◌≤◌, ℤ, pos, false, List, [], ◌∷◌, ◌++◌, length, map, Option, refl, sym, ap, subst, arith, replicate, inl}
 use Rattle.std.specs.Prelude.{All, IsTrue, slice_index}
 use Rattle.std.specs.List.{AllByRecursion, flat_map, range_with_len, repeat}
 use Rattle.std.proofs.lemmas.Bool.{le-leb}
@@ -8,10 +8,9 @@ use Rattle.dvi_commands.specs.Spelling.{DviCommand, Down, FieldsFit, Font, Pop, 
 use Rattle.dvi_commands.specs.Refusal.{may_stand}
 use Rattle.dvi_commands.specs.Reading.{AreCommands, commands_of}
 use Rattle.dvi_commands.specs.declared.command.Context.TheVariants as context
-use Rattle.page_index.specs.Limits.{LONGEST, MOST_PAGES}
-use Rattle.page_index.specs.Judged.{is_scale_right}
+use Rattle.page_index.specs.Limits.{LONGEST}
 use Rattle.page_index.specs.Document.{IsDocument, Reading, is_eop}
-use Rattle.sample_maker.specs.DviFile.{AreSigned, DefineRightly, GivesBack, IsFontSpelled, IsPageText, IsRightDefinition, IsWritable, are_apart, document_reading, document_text, fonts_text, key_given}
+use Rattle.sample_maker.specs.DviFile.{AreSigned, DefineRightly, GivesBack, IsFontSpelled, IsPageText, IsRightDefinition, IsWritable, document_reading, document_text, fonts_text, key_given}
 use Rattle.sample_maker.specs.Sample.{line, sample_document, sample_fonts, sample_page, sample_pages, sample_units}
 use Rattle.sample_maker.proofs.PageTexts.{commands_are}
 use Rattle.sample_maker.proofs.DviRead.{gives_back}

@@ -1,5 +1,5 @@
 //! Runs over one worker.
-ghost use Rattle.std.specs.Prelude.{◌≡◌, ◌<◌, ℕ, None, [], IfOk, length, slice_index_or};
+ghost use Rattle.std.specs.Prelude.{◌≡◌, ◌<◌, ℕ, [], IfOk, length, slice_index_or};
 ghost use Rattle.command_line.specs.Settings.{AreSettings};
 ghost use Rattle.page_workers.specs.Seating.{IsUnused};
 
@@ -45,7 +45,6 @@ pub fn run_alone<R: Threads + Wait + Sync, I: Input, F: FontSource + Send, O: Ou
 ) -> Result<u8, Fail>
     requires settings { AreSettings settings.now }
     requires one { settings.now.workers ≡ 1 }
-    requires own_document { settings.now.sample ≡ None }
     requires empty { history.old.items ≡ [] }
 {
     let mut workers = one_worker(alloc, source)?;

@@ -1,5 +1,5 @@
 //! What runs tell in their notes: traces, summaries and the lines of their ends.
-ghost use Rattle.std.specs.Prelude.{◌≡◌, ◌≤◌, None};
+ghost use Rattle.std.specs.Prelude.{◌≡◌, ◌≤◌};
 ghost use Rattle.page_draw.specs.Sheets.{IsDrawable};
 ghost use Rattle.command_line.specs.Settings.{AreSettings};
 
@@ -68,7 +68,6 @@ fn asks(cache: u32, trace: bool, summary: bool) -> Settings
     requires { (1 ≤ cache) × (cache ≤ 256) }
     ensures allowed { AreSettings result }
     ensures one { result.workers ≡ 1 }
-    ensures own_document { result.sample ≡ None }
 {
     Settings {
         res: 300,
@@ -98,7 +97,6 @@ fn run_of<R: Threads + Wait + Sync, F: FontSource + Send>(
 ) -> Result<Came, Fail>
     requires settings { AreSettings settings.now }
     requires one { settings.now.workers ≡ 1 }
-    requires own_document { settings.now.sample ≡ None }
 {
     let mut input = MemInput::new(Vec::from_slice(alloc, bytes)?, 64, Vec::new(alloc));
     let mut out = MemOutput::new(alloc, 64, Vec::new(alloc));

@@ -55,8 +55,7 @@ fn run_of<R: Threads + Wait + Sync, F: FontSource + Send>(
     })
 }
 
-// The first read would fail: it isn't made. A sample isn't made yet, so a line that asks for one is
-// refused too.
+// The first read would fail: it isn't made.
 #[test]
 fn arguments_that_are_no_line_are_refused(rt: HostRuntime) -> Result<(), Fail> {
     let alloc = rt.alloc();
@@ -70,7 +69,7 @@ fn arguments_that_are_no_line_are_refused(rt: HostRuntime) -> Result<(), Fail> {
         &["--width"],
         &["page.dvi"],
         &[""],
-        &["--sample", "3"],
+        &["--sample", "1001"],
     ];
     for line in lines {
         let ran = run_of(&rt, alloc, line, &PUT_RULE, no_fonts(alloc)?, &[1])?;

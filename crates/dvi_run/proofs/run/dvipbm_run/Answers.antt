@@ -1,10 +1,10 @@
 use Rattle.std.proofs.Common.{None, Err, inl, inr, ◌≡◌, [], refl, sym, ap, rules, ◌≤◌, ◌∙◌, length, arith}
 use Rattle.cache_core.specs.Views.{calls_of}
 use Rattle.dvi_run.specs.Endings.{Memory, Usage}
-use Rattle.dvi_run.specs.Pages.{given_by}
+use Rattle.dvi_run.specs.Sampled.{document_to, given_to}
 use Rattle.dvi_run.proofs.Promised.{idle_caused, idle_cut_short, idle_wrote, not_usage}
 use Rattle.dvi_run.proofs.Together.{idle_done, idle_drew}
-use Rattle.dvi_run.proofs.Spelled.{allowed, not_both, same_settings}
+use Rattle.dvi_run.proofs.Spelled.{not_both, same_settings}
 use Rattle.dvi_run.proofs.run.dvipbm_run.Goals as goal
 
 pub returns-in-Err-Usage-clause-caused : goal.returns-in-Err-Usage-clause-caused
@@ -81,8 +81,8 @@ returns-in-Err-NoMemory-clause-history g c =
     let q = c.requires.1.1.1.1.1.1.1 in
     let none : calls_of c.args.history.now.items ≡ [] = ap calls_of q.1.1.1 in
     λ s is.
-    let most : s.workers ≤ length c.args.workers.now = (allowed c.given_settings.ensures.allowed _ _ s is).1 in
-    let done = idle_done g.F.FontSource.library g.F.FontSource.faults g.F.FontSource.loads g.told s.cache s.workers 9 Memory (calls_of c.args.history.now.items) c.args.workers.now
+    let most : s.workers ≤ length c.args.workers.now = (c.given_settings.ensures.allowed _ _ s is).1 in
+    let done = idle_done g.F.FontSource.library g.F.FontSource.faults g.F.FontSource.loads g.told s.sample s.cache s.workers 9 Memory (calls_of c.args.history.now.items) c.args.workers.now
     (λ k d lt. q.1.1.0 k d (omega (arith, lt, most))) tt none in
     rw c.tell-in-Err-NoMemory.ensures.status done.one
 
@@ -91,8 +91,8 @@ returns-in-Err-NoMemory-clause-called g c =
     let q = c.requires.1.1.1.1.1.1.1 in
     let none : calls_of c.args.history.now.items ≡ [] = ap calls_of q.1.1.1 in
     λ s is.
-    let most : s.workers ≤ length c.args.workers.now = (allowed c.given_settings.ensures.allowed _ _ s is).1 in
-    let done = idle_done g.F.FontSource.library g.F.FontSource.faults g.F.FontSource.loads g.told s.cache s.workers 9 Memory (calls_of c.args.history.now.items) c.args.workers.now
+    let most : s.workers ≤ length c.args.workers.now = (c.given_settings.ensures.allowed _ _ s is).1 in
+    let done = idle_done g.F.FontSource.library g.F.FontSource.faults g.F.FontSource.loads g.told s.sample s.cache s.workers 9 Memory (calls_of c.args.history.now.items) c.args.workers.now
     (λ k d lt. q.1.1.0 k d (omega (arith, lt, most))) tt none in
     rw c.tell-in-Err-NoMemory.ensures.status done.worked
 
@@ -101,8 +101,8 @@ returns-in-Err-NoMemory-clause-shares g c =
     let q = c.requires.1.1.1.1.1.1.1 in
     let none : calls_of c.args.history.now.items ≡ [] = ap calls_of q.1.1.1 in
     λ s is.
-    let most : s.workers ≤ length c.args.workers.now = (allowed c.given_settings.ensures.allowed _ _ s is).1 in
-    let done = idle_done g.F.FontSource.library g.F.FontSource.faults g.F.FontSource.loads g.told s.cache s.workers 9 Memory (calls_of c.args.history.now.items) c.args.workers.now
+    let most : s.workers ≤ length c.args.workers.now = (c.given_settings.ensures.allowed _ _ s is).1 in
+    let done = idle_done g.F.FontSource.library g.F.FontSource.faults g.F.FontSource.loads g.told s.sample s.cache s.workers 9 Memory (calls_of c.args.history.now.items) c.args.workers.now
     (λ k d lt. q.1.1.0 k d (omega (arith, lt, most))) tt none in
     done.shares
 
@@ -121,7 +121,7 @@ returns-in-Err-NoMemory-clause-ended g c =
         noted = record { placed = tt; told = c.tell-in-Err-NoMemory.ensures.told.tells };
         counted = tt;
         failed = λ page is. absurd cc;
-        drew = idle_drew (given_by g.told s) s.summary (g.O.Output.written c.args.out.now) (g.O.Output.written c.args.out.now) s.cache s.workers _ Memory (calls_of c.args.history.now.items) c.args.workers.now (g.I.Input.left c.args.input.now) tt none;
+        drew = idle_drew (given_to g.told s) s.summary (g.O.Output.written c.args.out.now) (g.O.Output.written c.args.out.now) s.cache s.workers _ Memory (calls_of c.args.history.now.items) c.args.workers.now (document_to s (g.I.Input.left c.args.input.now)) tt none;
       }),
     )
 
@@ -133,4 +133,4 @@ pub run_with-requires : goal.run_with-requires
 run_with-requires g c κs within =
     let q = c.requires.1.1.1.1.1.1.1 in
     let most = c.in-Ok.ensures.at_hand in
-    (search rules fits 100000 depth 60, (search rules fits 100000 depth 60, (search rules fits 100000 depth 60, (search rules fits 100000 depth 60, (search rules fits 100000 depth 60, (search rules fits 100000 depth 60, (search rules fits 100000 depth 60, (c.in-Ok.ensures.allowed, (c.in-Ok.ensures.own_document, (omega (arith, most), (λ k d lt. q.1.1.0 k d (omega (arith, lt, most)), q.1.1.1)))))))))))
+    (search rules fits 100000 depth 60, (search rules fits 100000 depth 60, (search rules fits 100000 depth 60, (search rules fits 100000 depth 60, (search rules fits 100000 depth 60, (search rules fits 100000 depth 60, (search rules fits 100000 depth 60, (c.in-Ok.ensures.allowed, (omega (arith, most), (λ k d lt. q.1.1.0 k d (omega (arith, lt, most)), q.1.1.1))))))))))

@@ -30,7 +30,7 @@ pub returns-in-Ok-clause-drew : goal.returns-in-Ok-clause-drew
 returns-in-Ok-clause-drew g c = drew_together _ _ _ _ _ _ _ _ _ _ _ _ _ _ _ _ c.draw_pages.ensures.drew c.args.bytes.now c.in-Ok.ensures.document alone_is_history solo_is_one
 
 pub returns-in-Err-Fault-clause-done : goal.returns-in-Err-Fault-clause-done
-returns-in-Err-Fault-clause-done g c = let q = c.requires.1.1.1.1.1 in idle_done _ _ _ _ _ _ _ _ _ _ q.1.1.0 tt (ap calls_of q.1.1.1)
+returns-in-Err-Fault-clause-done g c = let q = c.requires.1.1.1.1.1 in idle_done _ _ _ _ _ _ _ _ _ _ _ q.1.1.0 tt (ap calls_of q.1.1.1)
 
 pub returns-in-Err-NoMemory-clause-done : goal.returns-in-Err-NoMemory-clause-done
-returns-in-Err-NoMemory-clause-done g c = let q = c.requires.1.1.1.1.1 in idle_done _ _ _ _ _ _ _ _ _ _ q.1.1.0 tt (ap calls_of q.1.1.1)
+returns-in-Err-NoMemory-clause-done g c = let q = c.requires.1.1.1.1.1 in idle_done _ _ _ _ _ _ _ _ _ _ _ q.1.1.0 tt (ap calls_of q.1.1.1)

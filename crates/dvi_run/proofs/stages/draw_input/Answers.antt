@@ -50,7 +50,7 @@ returns-in-Ok-clause-drew g c =
     of_read Of (g.I.Input.left c.args.input.now) (g.I.Input.left c.read_all.new.input) _ c.in-Ok.ensures.bytes (subst Of c.as_slice.ensures.value c.draw_document.ensures.drew)
 
 pub returns-in-Err-Failed-clause-done : goal.returns-in-Err-Failed-clause-done
-returns-in-Err-Failed-clause-done g c = let q = c.requires.1.1.1.1.1.1 in idle_done _ _ _ _ _ _ _ _ _ _ q.1.1.0 tt (ap calls_of q.1.1.1)
+returns-in-Err-Failed-clause-done g c = let q = c.requires.1.1.1.1.1.1 in idle_done _ _ _ _ _ _ _ _ _ _ _ q.1.1.0 tt (ap calls_of q.1.1.1)
 
 pub returns-in-Err-Failed-clause-drew : goal.returns-in-Err-Failed-clause-drew
 returns-in-Err-Failed-clause-drew g c =
@@ -60,7 +60,7 @@ returns-in-Err-Failed-clause-drew g c =
     (g.I.Input.left c.args.input.now) tt (ap calls_of q.1.1.1)
 
 pub returns-in-Err-NoMemory-clause-done : goal.returns-in-Err-NoMemory-clause-done
-returns-in-Err-NoMemory-clause-done g c = let q = c.requires.1.1.1.1.1.1 in idle_done _ _ _ _ _ _ _ _ _ _ q.1.1.0 tt (ap calls_of q.1.1.1)
+returns-in-Err-NoMemory-clause-done g c = let q = c.requires.1.1.1.1.1.1 in idle_done _ _ _ _ _ _ _ _ _ _ _ q.1.1.0 tt (ap calls_of q.1.1.1)
 
 pub returns-in-Err-NoMemory-clause-drew : goal.returns-in-Err-NoMemory-clause-drew
 returns-in-Err-NoMemory-clause-drew g c =

@@ -24,7 +24,7 @@ run_with-status-requires g c κs within =
                   search rules fits 100000 depth 60,
                   (
                     c.requires.settings,
-                    (c.requires.own_document, (omega (arith, long, made.count, c.requires.one), (λ k d lt. ready_untold _ (get_or ws k d) (subst (λ xs. IsUnused (get_or xs k d)) (sym same) (made.unused k d (omega (arith, lt, c.requires.one)))), c.requires.empty))),
+                    (omega (arith, long, made.count, c.requires.one), (λ k d lt. ready_untold _ (get_or ws k d) (subst (λ xs. IsUnused (get_or xs k d)) (sym same) (made.unused k d (omega (arith, lt, c.requires.one)))), c.requires.empty)),
                   ),
                 ),
               ),

@@ -27,7 +27,7 @@ run_with-status-requires g c κs within =
                   search rules fits 100000 depth 60,
                   (
                     record { resolution = allowed.resolution; sheet = allowed.sheet; workers = c.requires.workers; cache = c.requires.cache; sample = allowed.sample },
-                    (c.on.ensures.own_document, (omega (arith, long, made.count), (λ k d lt. ready_untold _ (get_or ws k d) (subst (λ xs. IsUnused (get_or xs k d)) (sym same) (made.unused k d lt)), search rules))),
+                    (omega (arith, long, made.count), (λ k d lt. ready_untold _ (get_or ws k d) (subst (λ xs. IsUnused (get_or xs k d)) (sym same) (made.unused k d lt)), search rules)),
                   ),
                 ),
               ),

@@ -26,7 +26,7 @@ run_with-status-requires g c κs within =
                   search rules fits 100000 depth 60,
                   (
                     record { resolution = search rules; sheet = search rules; workers = (omega arith, omega arith); cache = search rules; sample = tt },
-                    (refl, (omega (arith, long, made.count), (λ k d lt. ready_untold _ (get_or ws k d) (subst (λ xs. IsUnused (get_or xs k d)) (sym same) (made.unused k d lt)), search rules))),
+                    (omega (arith, long, made.count), (λ k d lt. ready_untold _ (get_or ws k d) (subst (λ xs. IsUnused (get_or xs k d)) (sym same) (made.unused k d lt)), search rules)),
                   ),
                 ),
               ),

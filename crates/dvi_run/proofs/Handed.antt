@@ -1,0 +1,126 @@
+-- From the workers of a run's own to those that what they drew is handed to.
+use Rattle.std.proofs.Common.{◌≡◌, ◌∙◌, ◌⊎◌, inl, inr, ℕ, ◌+◌, ◌*◌, ◌<◌, ◌≤◌, Bool, List, [], ◌∷◌, length, get_or, Option, Some, None, IfSome, refl, sym, ap, subst, arith}
+use Rattle.std.proofs.lemmas.Bool.{cases_lt}
+use Rattle.std.proofs.lemmas.List.{ext_get_or}
+use Rattle.outside.specs.Counts.{Rose}
+use Rattle.outside.specs.Library.{Files}
+use Rattle.cache_core.specs.declared.calls.Call.{Call}
+use Rattle.cache_core.specs.Histories.{own}
+use Rattle.font_decode.specs.Desks.{misses}
+use Rattle.font_decode.specs.Loads.{RoseUpTo}
+use Rattle.outside.specs.declared.keys.FontKey.{FontKey}
+use Rattle.page_index.specs.Document.{Reading, pages_begun}
+use Rattle.page_workers.specs.declared.worker.Worker.{Worker}
+use Rattle.dvi_run.specs.Pages.{Given, finding}
+use Rattle.dvi_run.specs.Endings.{EndingSeen, Source, IsAmong}
+use Rattle.dvi_run.specs.Looked.{BrokenLooks, WholeLooks}
+use Rattle.dvi_run.specs.Rounds.{FailedAt, indexed_of}
+use Rattle.dvi_run.specs.Sampled.{SourcesAreKept, WasHanded}
+use Rattle.dvi_run.specs.Tally.{CountsTo}
+use Rattle.dvi_run.specs.Together.{Answered, AreDone, DrewTogether, IsReady, RestIsKept, SomeUsed, SourceRose, Worked}
+use Rattle.dvi_run.specs.declared.tally.Tally.{Tally}
+use Rattle.dvi_run.proofs.Together.{one_of, some_rose}
+
+-- two lists with the same elements are one
+ext_by : {A : Type 0} (xs ys : List A) → length xs ≡ length ys → ((k : ℕ) (d : A) → k < length xs → get_or xs k d ≡ get_or ys k d) → xs ≡ ys
+ext_by [] [] long each = refl
+ext_by [] (y ∷ ys) long each = cc
+ext_by (x ∷ xs) ys long each = ext_get_or x (x ∷ xs) ys long (λ k lt. each k x lt)
+
+-- a count that stands at 0 never rose
+never_rose : (before now : ℕ) → now ≡ 0 → Rose before now → ⊥
+never_rose before now none (inl lt) = omega (arith, lt, none)
+never_rose before now none (inr at) = omega (arith, at, none)
+
+-- ---- one worker
+
+module _ {F G : Type 0} (mine : Worker G) (was now : Worker F) (h : WasHanded mine was now) where
+  worked_handed : (glibrary : G → Option Files) (gfaults gloads : G → ℕ) (gtold : Option Files) (library : F → Option Files) (faults loads : F → ℕ) (told : Option Files) (pages n status : ℕ) (history : List Call) (k : ℕ) (first : Worker G)
+      → first.loads ≡ 0 → IsReady library told was → Worked glibrary gfaults gloads gtold None n status history k first mine → Worked library faults loads told (Some pages) n status history k was now
+  worked_handed glibrary gfaults gloads gtold library faults loads told pages n status history k first none ready w = record {
+    seat = h.seat ∙ ready.seat;
+    none = ap (λ v. v.items) h.results ∙ ready.fresh.none;
+    tells = subst (λ (s : F). IfSome told (λ l. library s ≡ Some l)) (sym h.source) ready.fresh.tells;
+    count = subst (λ (s : F). faults was.source ≤ faults s) (sym h.source) (omega arith);
+    keys = w.keys;
+    answered = w.answered;
+    last = w.last;
+    kept = w.kept;
+    loaded = subst (λ (m : ℕ). RoseUpTo (5 * misses (own (k + 1) history)) m now.loads) (none ∙ sym ready.fresh.loads)
+        (subst (λ (m : ℕ). RoseUpTo (5 * misses (own (k + 1) history)) first.loads m) (sym h.loads) w.loaded.counted);
+  }
+
+  answered_handed : (g : Given) (reading : Reading) (capacity n status : ℕ) (history : List Call) (k : ℕ) → Answered g reading capacity n status history k mine → Answered g reading capacity n status history k now
+  answered_handed g reading capacity n status history k a = record {
+    keys = a.keys;
+    looked = subst (λ (ps : List ℕ). WholeLooks (finding g reading) (indexed_of g reading) g.sheet ps a.keys ⊎ BrokenLooks (finding g reading) (indexed_of g reading) g.sheet ps a.keys) (sym h.pages) a.looked;
+    through = λ is. subst (λ (ps : List ℕ). WholeLooks (finding g reading) (indexed_of g reading) g.sheet ps a.keys) (sym h.pages) (a.through is);
+    answered = a.answered;
+    one = a.one;
+  }
+
+-- ---- all of them
+
+module _ {F G : Type 0} (n : ℕ) (first last : List (Worker G)) (before after : List (Worker F)) (long : length first ≡ n) (long_last : length last ≡ n)
+    (handed : (k : ℕ) (e : Worker G) (d : Worker F) → k < n → WasHanded (get_or last k e) (get_or before k d) (get_or after k d)) where
+  at_first : (k : ℕ) → k < n → Worker G
+  at_first k lt = one_of first k (omega (arith, lt, long))
+
+  at_last : (k : ℕ) → k < n → Worker G
+  at_last k lt = one_of last k (omega (arith, lt, long_last))
+
+  pub none_rose : (gfaults : G → ℕ) → ((s : G) → gfaults s ≡ 0) → SomeUsed n first last (SourceRose gfaults) → ⊥
+  none_rose gfaults sure s = let d = at_first s.0 s.1 in never_rose (gfaults (get_or first s.0 d).source) (gfaults (get_or last s.0 d).source) (sure _) (s.2 d)
+
+  module _ (rest : RestIsKept n before after) where
+    pub sources_kept : SourcesAreKept before after
+    sources_kept k d = elim (cases_lt k n) [
+      | inl lt ↦ (handed k (at_last k lt) d lt).source
+      | inr le ↦ ap (λ (w : Worker F). w.source) (rest k d le)
+    ]
+
+    module _ (library : F → Option Files) (told : Option Files) (ready : (k : ℕ) (d : Worker F) → k < n → IsReady library told (get_or before k d))
+        (glibrary : G → Option Files) (gtold : Option Files) (own_ready : (k : ℕ) (d : Worker G) → k < n → IsReady glibrary gtold (get_or first k d)) where
+      -- where the run's own workers are as they were, the others are too
+      same_workers : length before ≡ length after → last ≡ first → after ≡ before
+      same_workers sizes same =
+          sym (ext_by before after sizes (λ k d within. elim (cases_lt k n) [
+            | inl lt ↦
+                let e = at_first k lt in
+                let is : get_or last k e ≡ get_or first k e = ap (λ (ws : List (Worker G)). get_or ws k e) same in
+                let unused = (own_ready k e lt).fresh in
+                sym ((handed k e d lt).same (ap (λ (w : Worker G). w.pages.items) is ∙ unused.pages) (ap (λ (w : Worker G). w.loads) is ∙ unused.loads ∙ sym (ready k d lt).fresh.loads))
+            | inr le ↦ sym (rest k d le)
+          ]))
+
+      pub drew_handed : (g : Given) (counted : Bool) (old new : Option (List ℕ)) (capacity status : ℕ) (e : EndingSeen) (tally : Option Tally) (history : List Call) (bytes : List ℕ) → length before ≡ length after
+          → DrewTogether g counted old new capacity n status e tally history first last bytes → DrewTogether g counted old new capacity n status e tally history before after bytes
+      drew_handed g counted old new capacity status e tally history bytes sizes (inl idle) = inl (idle.0, idle.1, idle.2, same_workers sizes idle.3)
+      drew_handed g counted old new capacity status e tally history bytes sizes (inr run) =
+          inr (
+            run.0,
+            run.1,
+            run.2,
+            (
+              run.3.0,
+              run.3.1,
+              record {
+                drew = record { rounds = run.3.2.drew.rounds; shared = λ k d lt. (handed k (at_last k lt) d lt).pages ∙ run.3.2.drew.shared k (at_last k lt) lt };
+                begun = run.3.2.begun;
+              },
+              λ k d lt. answered_handed (get_or last k (at_last k lt)) (get_or before k d) (get_or after k d) (handed k (at_last k lt) d lt) g run.0 capacity n status history k (run.3.3 k (at_last k lt) lt),
+            ),
+          )
+
+      pub done_handed : (gfaults gloads : G → ℕ) (faults loads : F → ℕ) (pages capacity status : ℕ) (e : EndingSeen) (tally : Option Tally) (history : List Call) → ((s : G) → gfaults s ≡ 0)
+          → AreDone glibrary gfaults gloads gtold None capacity n status e tally history first last → AreDone library faults loads told (Some pages) capacity n status e tally history before after
+      done_handed gfaults gloads faults loads pages capacity status e tally history sure done = record {
+        counts = done.counts;
+        failed = λ page is. absurd (none_rose gfaults sure (some_rose gfaults n first last page (done.failed page is)));
+        one = done.one;
+        worked = λ k d lt.
+            worked_handed (get_or last k (at_last k lt)) (get_or before k d) (get_or after k d) (handed k (at_last k lt) d lt) glibrary gfaults gloads gtold library faults loads told pages n status history k
+            (get_or first k (at_last k lt)) (own_ready k (at_last k lt) lt).fresh.loads (ready k d lt) (done.worked k (at_last k lt) lt);
+        shares = (done.shares.0, record { rounds = done.shares.1.rounds; shared = λ k d lt. (handed k (at_last k lt) d lt).pages ∙ done.shares.1.shared k (at_last k lt) lt });
+        rest = rest;
+      }

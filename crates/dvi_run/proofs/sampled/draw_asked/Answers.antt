@@ -1,0 +1,37 @@
+use mir.Syntax.{of_param}
+use Rattle.std.proofs.Common.{◌≡◌, ◌≤◌, ℕ, Option, Some, IfSome, sym, subst, rules}
+use Rattle.outside.specs.Counts.{Rose}
+use Rattle.dvi_run.specs.Endings.{IsEnding, seen_ending}
+use Rattle.dvi_run.specs.Pages.{given_by}
+use Rattle.dvi_run.specs.Sampled.{FailedBy, document_by, library_by, rest_by}
+use Rattle.dvi_run.specs.Together.{SomeUsed, SourceRose}
+use Rattle.dvi_run.proofs.sampled.draw_asked.Goals as goal
+
+pub draw_sample-requires : goal.draw_sample-requires
+draw_sample-requires g c κs within =
+    let q = c.requires.1.1.1.1.1.1 in
+    let sent = c.requires.1.1.1.1.0 in
+    let range = subst (λ (o : Option ℕ). IfSome o (λ pages. (1 ≤ pages) × (pages ≤ 1000))) c.in-Some.is q.0.sample in (
+      search rules fits 100000 depth 60,
+      (
+        search rules fits 100000 depth 60,
+        (
+          search rules fits 100000 depth 60,
+          (
+            record { owned = sent.owned; leaving = λ k x w. sent.leaving (λ _. k (of_param 1)) x w },
+            (search rules fits 100000 depth 60, (q.0, (range.0, (range.1, (q.1.0, (q.1.1.0, q.1.1.1)))))),
+          ),
+        ),
+      ),
+    )
+
+pub returns-in-Some-clause-ends : goal.returns-in-Some-clause-ends
+returns-in-Some-clause-ends g c =
+    let old = g.O.Output.written c.args.out.now in
+    let new = g.O.Output.written c.draw_sample.new.out in
+    let OutputFailed = Rose (g.O.Output.faults c.args.out.now) (g.O.Output.faults c.draw_sample.new.out) in
+    let SourceFailed = SomeUsed c.args.settings.now.workers c.args.workers.now c.draw_sample.new.workers (SourceRose g.F.FontSource.faults) in
+    let InputFailed = Rose (g.I.Input.faults c.args.input.now) (g.I.Input.faults c.args.input.now) in
+    let left = g.I.Input.left c.args.input.now in
+    subst (λ (o : Option ℕ). IsEnding old new OutputFailed (FailedBy o SourceFailed) (c.draw_sample.new.out ≡ c.args.out.now) (FailedBy o InputFailed)
+    (given_by (library_by o g.told) c.args.settings.now) (document_by o left) (rest_by o left) (seen_ending c.draw_sample.result.0)) (sym c.in-Some.is) c.draw_sample.ensures.ends

@@ -1,0 +1,170 @@
+//! Runs of the sample, which the run makes itself, and draws over workers of its own.
+ghost use Rattle.std.specs.Prelude.{◌≡◌, ◌≤◌, ◌<◌, ℕ, Option, [], ◌∷◌, Some, IfSome, length, slice_index_or};
+ghost use Rattle.outside.specs.Counts.{Rose};
+ghost use Rattle.outside.specs.Library.{Files};
+ghost use Rattle.cache_core.specs.Views.{calls_of};
+ghost use Rattle.command_line.specs.Settings.{AreSettings};
+ghost use Rattle.page_index.specs.Faults.{IsFirstFault};
+ghost use Rattle.page_index.specs.Limits.{LONGEST};
+ghost use Rattle.page_index.specs.declared.faults.DocFault.{DocFault};
+ghost use Rattle.sample_maker.specs.Sample.{sample_document, sample_files};
+ghost use Rattle.dvi_run.specs.Reading.{OfRead};
+ghost use Rattle.dvi_run.specs.Pages.{given_by};
+ghost use Rattle.dvi_run.specs.Endings.{IsEnding, seen_ending, status_of};
+ghost use Rattle.dvi_run.specs.Sampled.{FailedTo, UsesTheSample, document_to, given_to, rest_to};
+ghost use Rattle.dvi_run.specs.Together.{AreDone, DrewTogether, IsReady, SomeUsed, SourceRose};
+
+use crate::ending::Ending;
+use crate::handing::{hand_all, own_workers};
+use crate::stages::{draw_document, draw_input};
+use crate::tally::Tally;
+use cache_core::Entry;
+use command_line::Settings;
+use outside::{FontSource, Input, Output};
+use page_index::laws::documents;
+use page_workers::Worker;
+use sample_maker::laws::samples;
+use sample_maker::{Sample, sample};
+use std::alloc::Global;
+use std::sync::Wait;
+use std::thread::Threads;
+
+// Draws and writes a document without a fault by the run's own workers, whose sources never fail,
+// and answers how that ended. What each of them drew, and how often it loaded, is handed to the
+// worker in its place.
+fn draw_by_own<R: Threads + Wait + Sync, F: FontSource + Send, O: Output, G: FontSource + Send>(
+    rt: &R,
+    alloc: Global,
+    settings: &Settings,
+    document: &[u8],
+    own: &mut [Worker<G>],
+    workers: &mut [Worker<F>],
+    out: &mut O,
+    history: &mut Vec<Entry>,
+) -> (Ending, Option<Tally>)
+    ghost told: { Option Files }
+    requires settings { AreSettings settings.now }
+    requires fits { length document.now ≤ LONGEST }
+    requires good { (fault : DocFault) → IsFirstFault settings.now.res document.now fault → ⊥ }
+    requires own { length own.old ≡ settings.now.workers }
+    requires own_ready { (k : ℕ) (d : _) → k < settings.now.workers
+        → IsReady G.library (Some sample_files) (slice_index_or own.old k d) }
+    requires sure { (s : _) → G.faults s ≡ 0 }
+    requires there { settings.now.workers ≤ length workers.old }
+    requires ready { (k : ℕ) (d : _) → k < settings.now.workers
+        → IsReady F.library told (slice_index_or workers.old k d) }
+    requires empty { history.old.items ≡ [] }
+    ensures ends { IsEnding (O.written out.old) (O.written out.new)
+        (Rose (O.faults out.old) (O.faults out.new))
+        ⊥ (out.new ≡ out.old) ⊥ (given_by (Some sample_files) settings.now) (Some document.now)
+        (Some []) (seen_ending result.0) }
+    ensures done { (pages : ℕ) → AreDone F.library F.faults F.loads told (Some pages)
+        settings.now.cache settings.now.workers (status_of (seen_ending result.0))
+        (seen_ending result.0) result.1
+        (calls_of history.new.items) workers.old workers.new }
+    ensures drew { OfRead (Some document.now)
+        (DrewTogether (given_by (Some sample_files) settings.now)
+        settings.now.summary (O.written out.old) (O.written out.new) settings.now.cache
+        settings.now.workers (status_of (seen_ending result.0)) (seen_ending result.0) result.1
+        (calls_of history.new.items) workers.old workers.new) }
+    ensures sample { UsesTheSample (status_of (seen_ending result.0)) (Unit {0})
+        workers.old workers.new }
+    ensures output { O.faults out.old ≤ O.faults out.new }
+{
+    let drawn = draw_document(rt, alloc, settings, document, own, out, history);
+    hand_all(own, workers);
+    drawn
+}
+
+// Draws and writes the sample of so many pages by as many workers of its own as the settings say,
+// and answers how that ended. The worker in the place of each is handed what it drew.
+fn draw_sample<R: Threads + Wait + Sync, F: FontSource + Send, O: Output>(
+    rt: &R,
+    alloc: Global,
+    settings: &Settings,
+    pages: u32,
+    workers: &mut [Worker<F>],
+    out: &mut O,
+    history: &mut Vec<Entry>,
+) -> (Ending, Option<Tally>)
+    ghost told: { Option Files }
+    requires settings { AreSettings settings.now }
+    requires some { 1 ≤ pages }
+    requires few { pages ≤ 1000 }
+    requires there { settings.now.workers ≤ length workers.old }
+    requires ready { (k : ℕ) (d : _) → k < settings.now.workers
+        → IsReady F.library told (slice_index_or workers.old k d) }
+    requires empty { history.old.items ≡ [] }
+    ensures ends { IsEnding (O.written out.old) (O.written out.new)
+        (Rose (O.faults out.old) (O.faults out.new))
+        ⊥ (out.new ≡ out.old) ⊥ (given_by (Some sample_files) settings.now)
+        (Some (sample_document pages)) (Some []) (seen_ending result.0) }
+    ensures done { AreDone F.library F.faults F.loads told (Some pages) settings.now.cache
+        settings.now.workers (status_of (seen_ending result.0)) (seen_ending result.0) result.1
+        (calls_of history.new.items) workers.old workers.new }
+    ensures drew { OfRead (Some (sample_document pages))
+        (DrewTogether (given_by (Some sample_files) settings.now)
+        settings.now.summary (O.written out.old) (O.written out.new) settings.now.cache
+        settings.now.workers (status_of (seen_ending result.0)) (seen_ending result.0) result.1
+        (calls_of history.new.items) workers.old workers.new) }
+    ensures sample { UsesTheSample (status_of (seen_ending result.0)) (Unit {0})
+        workers.old workers.new }
+    ensures output { O.faults out.old ≤ O.faults out.new }
+{
+    // A sample is a document, which has no fault, and fits the limit of one.
+    samples();
+    documents();
+    let Ok(Sample { document, library }) = sample(alloc, pages) else {
+        return (Ending::Memory, None);
+    };
+    let Ok(mut own) = own_workers(alloc, library, settings.workers) else {
+        return (Ending::Memory, None);
+    };
+    draw_by_own(
+        rt, alloc, settings, &document, &mut own, workers, out, history,
+    )
+}
+
+/// Draws and writes the sample, where the settings ask for it, and else what is read, and answers
+/// how that ended.
+pub fn draw_asked<R: Threads + Wait + Sync, I: Input, F: FontSource + Send, O: Output>(
+    rt: &R,
+    alloc: Global,
+    settings: &Settings,
+    input: &mut I,
+    workers: &mut [Worker<F>],
+    out: &mut O,
+    history: &mut Vec<Entry>,
+) -> (Ending, Option<Tally>)
+    ghost told: { Option Files }
+    requires settings { AreSettings settings.now }
+    requires there { settings.now.workers ≤ length workers.old }
+    requires ready { (k : ℕ) (d : _) → k < settings.now.workers
+        → IsReady F.library told (slice_index_or workers.old k d) }
+    requires empty { history.old.items ≡ [] }
+    ensures ends { IsEnding (O.written out.old) (O.written out.new)
+        (Rose (O.faults out.old) (O.faults out.new))
+        (FailedTo settings.now
+        (SomeUsed settings.now.workers workers.old workers.new (SourceRose F.faults)))
+        (out.new ≡ out.old) (FailedTo settings.now (Rose (I.faults input.old) (I.faults input.new)))
+        (given_to told settings.now) (document_to settings.now (I.left input.old))
+        (rest_to settings.now (I.left input.new)) (seen_ending result.0) }
+    ensures done { AreDone F.library F.faults F.loads told settings.now.sample settings.now.cache
+        settings.now.workers (status_of (seen_ending result.0)) (seen_ending result.0) result.1
+        (calls_of history.new.items) workers.old workers.new }
+    ensures drew { OfRead (document_to settings.now (I.left input.old))
+        (DrewTogether (given_to told settings.now)
+        settings.now.summary (O.written out.old) (O.written out.new) settings.now.cache
+        settings.now.workers (status_of (seen_ending result.0)) (seen_ending result.0) result.1
+        (calls_of history.new.items) workers.old workers.new) }
+    ensures sample { IfSome settings.now.sample (λ pages.
+        UsesTheSample (status_of (seen_ending result.0)) (input.new ≡ input.old) workers.old
+        workers.new) }
+    ensures input { I.faults input.old ≤ I.faults input.new }
+    ensures output { O.faults out.old ≤ O.faults out.new }
+{
+    match settings.sample {
+        None => draw_input(rt, alloc, settings, input, workers, out, history),
+        Some(pages) => draw_sample(rt, alloc, settings, pages, workers, out, history),
+    }
+}
