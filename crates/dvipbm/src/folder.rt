@@ -3,7 +3,7 @@ ghost use Rattle.std.specs.Prelude.{◌≡◌, ◌<◌, ◌^◌};
 
 use outside::{FileName, FontSource, LoadStop};
 use std::alloc::Global;
-use std::io::{self, BufReader, ErrorKind, Read};
+use std::io::{self, ErrorKind, Read, Take};
 use std::path::PathBuf;
 use std::rt::Files;
 use std::{fs, str};
@@ -20,6 +20,8 @@ pub struct FolderFonts<'a, R> {
     rt: &'a R,
     alloc: Global,
     folder: &'a PathBuf,
+    // Room for what one read gives, from the first load on.
+    piece: Vec<u8>,
     faults: u64,
     loads: u64,
     ghost loads_fit: { loads < 2 ^ 64 },
@@ -35,20 +37,48 @@ impl<'a, R: Files> FolderFonts<'a, R> {
             rt,
             alloc,
             folder,
+            piece: Vec::new(alloc),
             faults: 0,
             loads: 0,
         }
     }
 
-    // The bytes of a file, of a long one more than a font file may have.
-    fn read(&self, name: &FileName) -> io::Result<Vec<u8>> {
+    // Opens a file of the folder, up to one byte more than a font file may have.
+    fn open(&self, name: &FileName) -> io::Result<Take<R::File>> {
         let name = str::from_utf8(name.bytes()).map_err(|_| ErrorKind::InvalidInput)?;
         let path = self.folder.join(self.alloc, name)?;
-        let mut bytes = Vec::new(self.alloc);
-        let file = fs::open(self.rt, path)?.take(MOST);
-        BufReader::with_capacity(self.alloc, PIECE, file)?.read_to_end(&mut bytes)?;
-        Ok(bytes)
+        Ok(fs::open(self.rt, path)?.take(MOST))
     }
+
+    // The bytes of a file, of a long one more than a font file may have.
+    fn read(&mut self, name: &FileName) -> io::Result<Vec<u8>>
+        ensures faults { self.new.faults ≡ self.old.faults }
+        ensures loads { self.new.loads ≡ self.old.loads }
+    {
+        let file = self.open(name)?;
+        read_pieces(self.alloc, file, &mut self.piece)
+    }
+}
+
+// All that a reader gives, read into `piece`, which gets its room at the first call.
+fn read_pieces<T: Read + Drop>(
+    alloc: Global,
+    mut file: T,
+    piece: &mut Vec<u8>,
+) -> io::Result<Vec<u8>> {
+    if piece.is_empty() {
+        piece.resize(PIECE, 0)?;
+    }
+    let mut bytes = Vec::new(alloc);
+    for _ in 0..u64::MAX {
+        match file.read(piece) {
+            Ok(0) => break,
+            Ok(count) => bytes.extend_from_slice(&piece[..count])?,
+            Err(error) if error.kind() == ErrorKind::Interrupted => {}
+            Err(error) => return Err(error),
+        }
+    }
+    Ok(bytes)
 }
 
 impl<'a, R: Files> FontSource for FolderFonts<'a, R> {
