@@ -1,4 +1,4 @@
-use Rattle.std.proofs.Common.{◌≡◌, ◌∙◌, [], ◌∷◌, ◌+◌, ◌%◌, ◌++◌, sym, ap, arith}
+use Rattle.std.proofs.Common.{◌≡◌, ◌∙◌, ◌∷◌, ◌+◌, ◌%◌, ◌++◌, refl, sym, ap, arith}
 use Rattle.std.specs.List.{repeat}
 use Rattle.sample_maker.specs.Sample.{line, sample_page}
 use Rattle.sample_maker.proofs.SampleParts.{repeat_more}
@@ -11,4 +11,5 @@ pub returns : goal.returns
 unfolding sample_page
 returns c =
     let count : c.loop.counter ≡ 1 + c.args.number % 3 = omega arith in
-    c.in_ok-extend_from_slice-2.ensures.items ∙ ap (λ t. t ++ (0xac ∷ 0x41 ∷ 0x41 ∷ 0x41 ∷ 0x41 ∷ 0x41 ∷ [])) (c.loop.invariant ∙ ap (λ k. 0xab ∷ repeat k line) count)
+    let lines : c.loop.page.items ≡ 0xab ∷ repeat (1 + c.args.number % 3) line = c.loop.invariant ∙ ap (λ k. 0xab ∷ repeat k line) count in
+    c.in_ok-extend_from_slice-2.ensures.items ∙ rw lines refl
