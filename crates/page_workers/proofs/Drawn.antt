@@ -1,11 +1,11 @@
 -- Pages that a worker drew, one after another.
-use Rattle.std.proofs.Common.{◌≡◌, ◌⊎◌, inl, inr, ℕ, zero, suc, ◌+◌, ◌<◌, ◌≤◌, List, [], ◌∷◌, ◌++◌, length, map, Bool, true, false, refl, sym, ap, subst, ◌∙◌, arith, append_assoc, append-nil}
-use Rattle.std.specs.Prelude.{◌^◌, All, Contains, IsErr, IsErrOf, Option, Result, Ok, Err, is_ok}
+use Rattle.std.proofs.Common.{◌≡◌, inl, inr, ℕ, ◌+◌, ◌≤◌, List, [], ◌∷◌, ◌++◌, false, refl, sym, ap, subst, ◌∙◌, arith, append_assoc, append-nil}
+use Rattle.std.specs.Prelude.{◌^◌, All, IsErr, IsErrOf, Option, Result, Ok, Err, is_ok}
 use Rattle.std.proofs.lemmas.List.Elements.{All-tail, Contains-append_right}
 use Rattle.outside.specs.Counts.{HasCause}
 use Rattle.outside.specs.Library.{Files}
 use Rattle.font_decode.specs.Decoding.{IsFontOf}
-use Rattle.font_decode.specs.Desks.{Trail, TrailGrew}
+use Rattle.font_decode.specs.Desks.{TrailGrew}
 use Rattle.turn_lock.specs.Seats.{SeatView}
 use Rattle.page_index.specs.Pages.{Indexed}
 use Rattle.page_draw.specs.Drawn.{IsWhole}

@@ -1,6 +1,6 @@
 -- A worker in the middle of its part of a round.
-use Rattle.std.proofs.Common.{◌≡◌, ◌⊎◌, inl, inr, ℕ, zero, suc, ◌+◌, ◌*◌, ◌-◌, ◌<◌, ◌≤◌, List, [], ◌∷◌, ◌++◌, length, map, Bool, true, false, refl, sym, ap, subst, ◌∙◌, arith, append-nil, length-append}
-use Rattle.std.specs.Prelude.{◌^◌, All, Option, None, Some, Result, Ok, Err, is_ok, IsOk}
+use Rattle.std.proofs.Common.{◌≡◌, inl, inr, ℕ, ◌+◌, ◌*◌, ◌-◌, ◌<◌, ◌≤◌, List, [], ◌∷◌, ◌++◌, length, map, Bool, true, false, refl, sym, ap, subst, ◌∙◌, arith, append-nil, length-append}
+use Rattle.std.specs.Prelude.{◌^◌, All, Option, None, Some}
 use Rattle.std.specs.List.Sorted.{IsStrictlyIncreasing}
 use Rattle.std.proofs.lemmas.List.Elements.{All-push, All-nil}
 use Rattle.atomic_table.specs.Seated.{TableId}
@@ -14,7 +14,7 @@ use Rattle.page_workers.specs.declared.worker.PageResult.{PageResult}
 use Rattle.page_workers.specs.declared.worker.Worker.{Worker}
 use Rattle.page_workers.specs.Seats.{Fits, room_at}
 use Rattle.page_workers.specs.Rounds.{Rested, Drew, HasBitmap, pages_of}
-use Rattle.page_workers.specs.Claims.{HasRoom, HasSeat, IsClaimOf, Claimed, MayTakePart, DrewNext, TookPart, claims_at, with_counter}
+use Rattle.page_workers.specs.Claims.{HasRoom, HasSeat, IsClaimOf, Claimed, MayTakePart, DrewNext, TookPart, claims_at}
 use Rattle.page_workers.proofs.Rested.{rested_self}
 use Rattle.page_workers.proofs.Drawn.{drew_before_rest, drew_more, bitmaps_all, bitmaps_before, lacks_last, pages_of-more}
 use Rattle.page_workers.proofs.Rising.{rising_few, map-more}

@@ -1,7 +1,7 @@
 -- What the workers of a round did, all together: each page was claimed by one of them.
-use Rattle.std.proofs.Common.{◌≡◌, ◌≢◌, ◌⊎◌, inl, inr, ℕ, zero, suc, ◌+◌, ◌<◌, ◌≤◌, min, List, [], ◌∷◌, ◌++◌, length, map, get_or, refl, sym, ap, subst, ◌∙◌, ⊎_elim, arith, length-append, append-nil, cond, eqb}
-use Rattle.std.specs.Prelude.{All, Contains, Option, None, Some}
-use Rattle.std.specs.List.{sum_by, flat_map}
+use Rattle.std.proofs.Common.{◌≡◌, ◌⊎◌, inl, inr, ℕ, ◌+◌, ◌<◌, ◌≤◌, min, List, [], ◌∷◌, ◌++◌, length, map, get_or, refl, sym, ap, subst, ◌∙◌, ⊎_elim, arith, cond, eqb}
+use Rattle.std.specs.Prelude.{All, Contains, Option}
+use Rattle.std.specs.List.{sum_by}
 use Rattle.std.specs.List.Sorted.{IsStrictlyIncreasing}
 use Rattle.std.proofs.lemmas.Bool.{cases_lt, cases_eq}
 use Rattle.std.proofs.lemmas.List.{length-map}
@@ -20,7 +20,7 @@ use Rattle.page_workers.specs.declared.bench.Bench.{Bench}
 use Rattle.page_workers.specs.declared.worker.PageResult.{PageResult}
 use Rattle.page_workers.specs.declared.worker.Worker.{Worker}
 use Rattle.page_workers.specs.Rounds.{Rested, Drew, DrewRound, BitmapsToLast, LacksBitmap, pages_of}
-use Rattle.page_workers.specs.Claims.{Kept, GotSeat, GaveSeat, TookPart, IsOver, claims_at, with_counter}
+use Rattle.page_workers.specs.Claims.{Kept, GotSeat, GaveSeat, TookPart, IsOver, claims_at}
 use Rattle.page_workers.proofs.Rested.{rests}
 use Rattle.page_workers.proofs.Drawn.{drew_after_rest, drew_before_rest}
 use Rattle.page_workers.proofs.Lists.{same_default}
@@ -196,12 +196,12 @@ module _ {F : Type 0} (library : F → Option Files) (faults loads : F → ℕ) 
           there,
           of_drawn (λ j rs. Contains (claims_of_seat j) i → Contains (pages_of rs) (first + i)) (λ j lt' has. page_claimed j (in_seats j lt') _ _ (shares j lt') i (omega arith) has) k there found.2,
           λ j j_in j_has.
-          let claimed : Contains (claims_of_seat j) i = of_drawn (λ j rs. Contains (pages_of rs) (first + i) → Contains (claims_of_seat j) i) (λ j lt' has.
-          let claim = page_inside j (in_seats j lt') _ _ (shares j lt') (first + i) has in
-          let is = claim.3 in
-          let at : claim.0 ≡ i = omega arith in
-          subst (Contains (claims_of_seat j)) at claim.1) j j_in j_has in
-          apart m seats once j k i no_claims (in_seats j j_in) found.1 claimed found.2,
+              let claimed : Contains (claims_of_seat j) i = of_drawn (λ j rs. Contains (pages_of rs) (first + i) → Contains (claims_of_seat j) i) (λ j lt' has.
+              let claim = page_inside j (in_seats j lt') _ _ (shares j lt') (first + i) has in
+              let is = claim.3 in
+              let at : claim.0 ≡ i = omega arith in
+              subst (Contains (claims_of_seat j)) at claim.1) j j_in j_has in
+              apart m seats once j k i no_claims (in_seats j j_in) found.1 claimed found.2,
         )
 
     pub drew_round : DrewRound library faults loads bench indexed sheet first count before after

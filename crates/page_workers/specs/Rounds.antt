@@ -1,7 +1,6 @@
 -- What workers did in a round.
 use Rattle.std.specs.Prelude.{◌≡◌, ◌⊎◌, ℕ, ◌+◌, ◌*◌, ◌^◌, ◌<◌, ◌≤◌, List, [], ◌∷◌, ◌++◌, length, map, slice_index_or, Contains, Option, None, Result, Ok, Err, IsOk, IsErr, IsErrOf}
 use Rattle.std.specs.List.Sorted.{IsStrictlyIncreasing}
-use Rattle.std.specs.Vec.{vec_len, vec_capacity}
 use Rattle.outside.specs.Counts.{HasCause}
 use Rattle.outside.specs.Library.{Files}
 use Rattle.outside.specs.declared.keys.FontKey.{FontKey}

@@ -18,11 +18,7 @@ pub struct Round {
 }
 
 // Gives a worker a seat at the counter.
-fn seat_one<F: FontSource>(
-    counter: &PageCounter,
-    first: &mut CounterSeat,
-    worker: &mut Worker<F>,
-)
+fn seat_one<F: FontSource>(counter: &PageCounter, first: &mut CounterSeat, worker: &mut Worker<F>)
     requires counter { first.old.counter ≡ counter.now }
     requires number { first.old.view.number ≡ 0 }
     requires room { first.old.view.made < 33 }
@@ -74,11 +70,7 @@ pub fn claim_page<F: FontSource>(worker: &mut Worker<F>, round: &Round) -> Optio
 }
 
 // Takes in a worker's seat at the counter.
-fn join_one<F: FontSource>(
-    counter: &PageCounter,
-    first: &mut CounterSeat,
-    worker: &mut Worker<F>,
-)
+fn join_one<F: FontSource>(counter: &PageCounter, first: &mut CounterSeat, worker: &mut Worker<F>)
     requires counter { first.old.counter ≡ counter.now }
     requires number { first.old.view.number ≡ 0 }
     requires seated { HasSeat counter.now worker.old }

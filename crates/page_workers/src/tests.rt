@@ -94,7 +94,7 @@ fn picky_workers(
     ensures unused { IfOk result (λ workers. All IsUnused workers.items) }
 {
     let mut workers = Vec::new(alloc);
-    for _i in 0..3 {
+    for _i in 0..3usize {
         let front = FontName::new(alloc, front)?;
         workers.push(Worker::new(alloc, PickyFonts::new(Arc::try_clone(library)?, front)))?;
     }
@@ -272,7 +272,7 @@ fn a_failed_load_stops_its_own_page_alone(rt: HostRuntime) -> Result<(), Fail> {
         assert_eq!(rt; u64::from(hits) + missed, 3);
         assert_eq!(rt; (claims, fills, released), (2, 1, 1));
         // Each font that was missed took three loads, but for font 1, which took this many.
-        assert_eq!(rt; all_loads(&workers) + 3, 3 * missed + loads);
+        assert_eq!(rt; all_loads(&workers).wrapping_add(3), 3 * missed + loads);
     }
     Ok(())
 }

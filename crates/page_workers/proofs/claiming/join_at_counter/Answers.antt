@@ -1,4 +1,4 @@
-use Rattle.std.proofs.Common.{◌≡◌, ℕ, ◌+◌, ◌++◌, ◌∷◌, [], ◌<◌, List, length, get_or, set, rules, subst, sym, arith, length-append}
+use Rattle.std.proofs.Common.{ℕ, ◌+◌, ◌∷◌, [], ◌<◌, List, length, get_or, set, rules, subst, sym, arith, length-append}
 use Rattle.page_counter.specs.declared.view.SeatClaims.{SeatClaims}
 use Rattle.page_workers.specs.Claims.{GaveSeat}
 use Rattle.page_workers.proofs.Lists.{each_pair_step, left_step, here}

@@ -1,4 +1,4 @@
-use Rattle.std.proofs.Common.{ℕ, ◌+◌, ◌<◌, length, get_or, rules, subst}
+use Rattle.std.proofs.Common.{ℕ, ◌<◌, length, rules, subst}
 use Rattle.page_workers.specs.Claims.{GotSeat}
 use Rattle.page_workers.proofs.Lists.{each_step, left_step, here}
 use Rattle.page_workers.proofs.claiming.seat_at_counter.Goals as goal

@@ -1,5 +1,5 @@
-use Rattle.std.proofs.Common.{◌≡◌, true, false, rules, arith}
-use Rattle.page_workers.proofs.Parts.{begins, ends_beyond, ends_at, goes_on, falls, few, inside, may_draw_next}
+use Rattle.std.proofs.Common.{◌≡◌, true, false, rules}
+use Rattle.page_workers.proofs.Parts.{ends_beyond, ends_at, goes_on, falls, may_draw_next}
 use Rattle.page_workers.proofs.drawing.take_part.Goals as goal
 
 pub draw_page-requires-clause-look_ups : goal.draw_page-requires-clause-look_ups
