@@ -1,5 +1,10 @@
 pub mod Fonts
 pub mod Calls
+pub mod Rested
 pub mod Lists
 pub mod Numbers
+pub mod Drawn
+pub mod Rising
+pub mod Parts
+pub mod Shares
 pub mod Rounds

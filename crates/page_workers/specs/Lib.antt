@@ -1,5 +1,6 @@
 pub mod Counts
 pub mod Seats
 pub mod Rounds
+pub mod Claims
 pub mod Seating
 pub mod Laws

@@ -1,11 +1,10 @@
--- What a worker did in a round.
-use Rattle.std.specs.Prelude.{◌≡◌, ℕ, ◌+◌, ◌^◌, ◌<◌, ◌≤◌, List, [], ◌∷◌, ◌++◌, Option, Result, Ok, Err, IsErrOf}
-use Rattle.std.specs.Vec.{vec_len, vec_capacity}
+-- What workers did in a round.
+use Rattle.std.specs.Prelude.{◌≡◌, ◌⊎◌, ℕ, ◌+◌, ◌*◌, ◌^◌, ◌<◌, ◌≤◌, List, [], ◌∷◌, ◌++◌, length, map, slice_index_or, Contains, Option, None, Result, Ok, Err, IsOk, IsErr, IsErrOf}
+use Rattle.std.specs.List.Sorted.{IsStrictlyIncreasing}
 use Rattle.outside.specs.Counts.{HasCause}
 use Rattle.outside.specs.Library.{Files}
 use Rattle.outside.specs.declared.keys.FontKey.{FontKey}
 use Rattle.packed_rows.specs.Bitmap.{Bitmap}
-use Rattle.page_index.specs.Document.{pages_begun}
 use Rattle.page_index.specs.Pages.{Indexed}
 use Rattle.font_decode.specs.Decoding.{IsFontOf}
 use Rattle.font_decode.specs.Desks.{Trail, TrailGrew}
@@ -15,6 +14,7 @@ use Rattle.page_draw.specs.declared.sheet.Sheet.{Sheet}
 use Rattle.page_draw.specs.declared.stop.PageStop.{PageStop}
 use Rattle.page_draw.specs.declared.stop.PageStop.TheVariants.{SourceFault}
 use Rattle.page_workers.specs.declared.bench.Bench.{Bench}
+use Rattle.page_workers.specs.declared.worker.PageResult.{PageResult}
 use Rattle.page_workers.specs.declared.worker.Worker.{Worker}
 use Rattle.page_workers.specs.Seats.{Fits, library_at, units_at, asked_at, trail_at, room_at}
 
@@ -24,10 +24,25 @@ abbrev pub IsOutcome : Finding → Indexed → Sheet → ℕ → Result Bitmap P
 IsOutcome Finds indexed sheet i (Ok page) old new = IsDrawn Finds indexed sheet i (Ok page) old new
 IsOutcome Finds indexed sheet i (Err stop) old new = IsStop Finds indexed sheet i stop old new
 
--- room for one result and one page more was taken
-pub record HasRoom {F : Type 0} (w : Worker F) : Type 0 where
-  pub results : vec_len w.results + 1 ≤ vec_capacity w.results
-  pub pages : vec_len w.pages + 1 ≤ vec_capacity w.pages
+-- ---- results
+
+-- the pages of these results
+abbrev pub pages_of : List PageResult → List ℕ
+pages_of results = map (λ r. r.page) results
+
+abbrev pub HasBitmap : PageResult → Type 0
+HasBitmap r = IsOk r.outcome
+
+-- each but the last has a bitmap
+abbrev pub BitmapsToLast : List PageResult → Type 0
+BitmapsToLast [] = Unit {0}
+BitmapsToLast (r ∷ results) = (results ≡ []) ⊎ (HasBitmap r × BitmapsToLast results)
+
+-- one of them has none
+abbrev pub LacksBitmap : List PageResult → Type 0
+LacksBitmap results = (r : PageResult) × Contains results r × IsErr r.outcome
+
+-- ---- one worker
 
 -- the worker drew nothing
 pub record Rested {F : Type 0} (before after : Worker F) : Type 0 where
@@ -37,35 +52,60 @@ pub record Rested {F : Type 0} (before after : Worker F) : Type 0 where
   pub loads : after.loads ≡ before.loads
   pub pages : after.pages.items ≡ before.pages.items
 
--- the worker may draw a page at this bench
-pub record MayDraw {F : Type 0} (library : F → Option Files) (bench : Bench) (w : Worker F)
-    : Type 0 where
+-- the worker may draw so many pages at this bench
+pub record MayDraw {F : Type 0} (library : F → Option Files) (bench : Bench) (count : ℕ)
+    (w : Worker F) : Type 0 where
   pub fits : Fits (library w.source) bench w.seat
   pub no_result : w.results.items ≡ []
-  pub room : 2 ^ 24 ≤ room_at w.loads w.seat
+  pub no_counter : w.counter ≡ None
+  pub room : count * 2 ^ 24 ≤ room_at w.loads w.seat
 
 abbrev pub trail_of : {F : Type 0} → (F → ℕ) → Worker F → Option Trail
 trail_of loads w = trail_at (loads w.source) w.loads w.seat
 
 module _ {F : Type 0} (library : F → Option Files) (faults loads : F → ℕ) where
-  -- the worker drew the page with this number, from 0, and may draw on
-  pub record Drew (bench : Bench) (indexed : Indexed) (sheet : Sheet) (page : ℕ)
+  -- the worker drew the page of this result after the others of its round, and may draw on
+  pub record DrewPage (bench : Bench) (indexed : Indexed) (sheet : Sheet) (r : PageResult)
       (before after : Worker F) : Type 0 where
-    pub outcome : Result Bitmap PageStop
-    pub result : after.results.items ≡ record { page = page; outcome = outcome } ∷ []
+    pub result : after.results.items ≡ before.results.items ++ r ∷ []
+    pub pages : after.pages.items ≡ before.pages.items ++ r.page ∷ []
     pub value : IsOutcome (IsFontOf (library_at before.seat) (units_at before.seat))
-        indexed sheet page outcome (asked_at before.seat) (asked_at after.seat)
-    pub pages : after.pages.items ≡ before.pages.items ++ page ∷ []
+        indexed sheet r.page r.outcome (asked_at before.seat) (asked_at after.seat)
     pub fits : Fits (library after.source) bench after.seat
     pub room : room_at before.loads before.seat ≤ room_at after.loads after.seat + 2 ^ 24
     pub same_library : library_at after.seat ≡ library_at before.seat
     pub same_units : units_at after.seat ≡ units_at before.seat
-    pub cause : HasCause (faults before.source) (faults after.source) (IsErrOf outcome SourceFault)
-    pub trail : TrailGrew (IsWhole outcome) (asked_at before.seat) (asked_at after.seat)
+    pub cause : HasCause (faults before.source) (faults after.source)
+        (IsErrOf r.outcome SourceFault)
+    pub trail : TrailGrew (IsWhole r.outcome) (asked_at before.seat) (asked_at after.seat)
         (trail_of loads before) (trail_of loads after)
 
-  -- the page with this number, where there is one
-  pub record TookPart (bench : Bench) (indexed : Indexed) (sheet : Sheet) (page : ℕ)
-      (before after : Worker F) : Type 0 where
-    pub drew : page < pages_begun indexed.reading → Drew bench indexed sheet page before after
-    pub rested : pages_begun indexed.reading ≤ page → Rested before after
+  -- the worker drew the pages of these results, one after another
+  abbrev pub Drew : Bench → Indexed → Sheet → List PageResult → Worker F → Worker F → Type 0
+  Drew bench indexed sheet [] before after = Rested before after
+  Drew bench indexed sheet (r ∷ results) before after = (between : Worker F)
+      × DrewPage bench indexed sheet r before between
+      × Drew bench indexed sheet results between after
+
+  -- ---- all workers
+
+  -- they drew so many pages from `first` on, at most `count`, each by one of them and once. A
+  -- worker draws its pages in rising order, and no more after one without a bitmap
+  pub record DrewRound (bench : Bench) (indexed : Indexed) (sheet : Sheet) (first count : ℕ)
+      (before after : List (Worker F)) : Type 0 where
+    pub pages : ℕ
+    pub some : 1 ≤ pages
+    pub most : pages ≤ count
+    -- what worker k drew
+    pub drawn : ℕ → List PageResult
+    pub each : (k : ℕ) (d : Worker F) → k < length before → Drew bench indexed sheet (drawn k)
+        (slice_index_or before k d) (slice_index_or after k d)
+    pub rising : (k : ℕ) → k < length before → IsStrictlyIncreasing (pages_of (drawn k))
+    pub inside : (k page : ℕ) → k < length before → Contains (pages_of (drawn k)) page
+        → (first ≤ page) × (page < first + pages)
+    pub shared : (i : ℕ) → i < pages → (k : ℕ) × (k < length before)
+        × Contains (pages_of (drawn k)) (first + i)
+        × ((j : ℕ) → j < length before → Contains (pages_of (drawn j)) (first + i) → j ≡ k)
+    pub stopped : (k : ℕ) → k < length before → BitmapsToLast (drawn k)
+    -- fewer than `count` only where one of them has no bitmap
+    pub whole : pages < count → (k : ℕ) × (k < length before) × LacksBitmap (drawn k)

@@ -21,6 +21,7 @@ pub record IsUnused {F : Type 0} (w : Worker F) : Type 0 where
   pub none : w.results.items ≡ []
   pub loads : w.loads ≡ 0
   pub pages : w.pages.items ≡ []
+  pub counter : w.counter ≡ None
 
 -- a worker but for its seat
 pub record SameElse {F : Type 0} (before after : Worker F) : Type 0 where
@@ -28,6 +29,7 @@ pub record SameElse {F : Type 0} (before after : Worker F) : Type 0 where
   pub results : after.results.items ≡ before.results.items
   pub loads : after.loads ≡ before.loads
   pub pages : after.pages.items ≡ before.pages.items
+  pub counter : after.counter ≡ before.counter
 
 -- a new seat of this lock with this number
 pub record IsNewSeat (id : TableId) (common : Common) (n : ℕ) (s : SeatView) : Type 0 where

@@ -3,7 +3,9 @@
 #![tactic(auto)]
 
 mod bench;
+mod claiming;
 mod counting;
+mod drawing;
 mod keeping;
 pub mod laws;
 mod loading;
@@ -12,6 +14,7 @@ mod seating;
 mod worker;
 
 pub use bench::Bench;
+pub use page_counter::{CounterSeat, PageCounter};
 pub use round::{MOST_WORKERS, draw_round};
 pub use seating::{join_all, seat_all};
 pub use worker::{PageResult, Worker};

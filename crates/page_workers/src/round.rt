@@ -1,104 +1,58 @@
-//! A round: as many pages as workers, each in a thread of its own.
-ghost use Rattle.std.specs.Prelude.{◌≡◌, ℕ, ◌+◌, ◌<◌, ◌≤◌, Some, length, slice_index_or, IfSome, OnOk, OnErr};
+//! A round: some pages, drawn by all workers at once, each in a thread of its own.
+ghost use Rattle.std.specs.Prelude.{◌≡◌, ℕ, ◌+◌, ◌<◌, ◌≤◌, None, Some, length, slice_index_or, OnOk, OnErr};
 ghost use Rattle.page_index.specs.Document.{pages_begun};
 ghost use Rattle.page_index.specs.Pages.{document_units};
 ghost use Rattle.page_draw.specs.Sheets.{IsDrawable};
-ghost use Rattle.page_workers.specs.Rounds.{Drew, HasRoom, MayDraw, Rested, TookPart};
+ghost use Rattle.page_workers.specs.Rounds.{DrewRound, MayDraw, Rested};
+ghost use Rattle.page_workers.specs.Claims.{HasRoom, Kept, MayTakePart, TookPart};
 
 use crate::Bench;
-use crate::worker::{PageResult, Worker};
+use crate::claiming::{Round, join_at_counter, seat_at_counter};
+use crate::drawing::take_part;
+use crate::worker::Worker;
 use font_decode::Desk;
 use outside::FontSource;
-use page_draw::{Sheet, draw};
+use page_counter::PageCounter;
+use page_draw::Sheet;
 use page_index::Index;
 use std::alloc::{AllocError as NoMemory, Global};
 use std::sync::Wait;
+use std::thread;
 use std::thread::Threads;
-use std::{mem, thread};
 
 /// The most workers of a run. Each of so many gets a thread of its own.
 pub const MOST_WORKERS: usize = 32;
 
-// Takes room for one result and one page more.
-fn reserve<F: FontSource>(worker: &mut Worker<F>) -> Result<(), NoMemory>
-    ensures rested { Rested worker.old worker.new }
-    ensures room { OnOk result (HasRoom worker.new) }
+// Takes room for so many results and pages more.
+fn reserve<F: FontSource>(worker: &mut Worker<F>, count: usize) -> Result<(), NoMemory>
+    ensures kept { Kept worker.old worker.new }
+    ensures room { OnOk result (HasRoom count worker.new) }
 {
-    worker.results.reserve(1)?;
-    worker.pages.reserve(1)?;
+    worker.results.reserve(count)?;
+    worker.pages.reserve(count)?;
     Ok(())
 }
 
-// Draws a page. The results and pages are kept out of the worker in the meantime, since drawing
-// tells nothing of them.
-fn draw_page<R: Wait, F: FontSource>(
-    rt: &R,
-    alloc: Global,
-    worker: &mut Worker<F>,
-    bench: &Bench,
-    index: &Index,
-    sheet: &Sheet,
-    page: usize,
-)
-    requires page { page < pages_begun index.now.reading }
-    requires sheet { IsDrawable sheet.now }
-    requires units { document_units index.now.res index.now.reading ≡ Some bench.now.units }
-    requires ready { MayDraw F.library bench.now worker.old }
-    requires space { HasRoom worker.old }
-    ensures { Drew F.library F.faults F.loads bench.now index.now sheet.now page
-        worker.old worker.new }
-{
-    let mut results = mem::replace(&mut worker.results, Vec::new(alloc));
-    let mut pages = mem::replace(&mut worker.pages, Vec::new(alloc));
-    let outcome = draw(rt, alloc, worker, bench, index, page, sheet);
-    results.push_reserved(PageResult { page, outcome });
-    pages.push_reserved(page);
-    worker.results = results;
-    worker.pages = pages;
-}
-
-// Draws the page of the round that is this worker's, where there is one.
-fn take_part<R: Wait, F: FontSource>(
-    rt: &R,
-    alloc: Global,
-    worker: &mut Worker<F>,
-    bench: &Bench,
-    index: &Index,
-    sheet: &Sheet,
-    first: usize,
-    j: usize,
-)
-    requires first { first < pages_begun index.now.reading }
-    requires sheet { IsDrawable sheet.now }
-    requires units { document_units index.now.res index.now.reading ≡ Some bench.now.units }
-    requires ready { MayDraw F.library bench.now worker.old }
-    requires space { HasRoom worker.old }
-    ensures { TookPart F.library F.faults F.loads bench.now index.now sheet.now (first + j)
-        worker.old worker.new }
-{
-    if j < index.pages() - first {
-        draw_page(rt, alloc, worker, bench, index, sheet, first + j);
-    }
-}
-
-// Takes room for one result and one page more of each worker.
-fn reserve_all<F: FontSource>(workers: &mut [Worker<F>]) -> Result<(), NoMemory>
-    ensures rested { (j : ℕ) (d : _) → j < length workers.old
-        → Rested (slice_index_or workers.old j d) (slice_index_or workers.new j d) }
-    ensures room { OnOk result ((j : ℕ) (d : _) → j < length workers.old
-        → HasRoom (slice_index_or workers.new j d)) }
+// Takes room for so many results and pages more of each worker.
+fn reserve_all<F: FontSource>(workers: &mut [Worker<F>], count: usize) -> Result<(), NoMemory>
+    ensures kept { (k : ℕ) (d : _) → k < length workers.old
+        → Kept (slice_index_or workers.old k d) (slice_index_or workers.new k d) }
+    ensures room { OnOk result ((k : ℕ) (d : _) → k < length workers.old
+        → HasRoom count (slice_index_or workers.new k d)) }
 {
     for j in 0..workers.len() {
-        reserve(&mut workers[j])?;
+        reserve(&mut workers[j], count)?;
     }
     Ok(())
 }
 
-/// Draws the pages from `first` on, counted from 0: worker j draws the page `first + j` where there
-/// is one, in a thread of its own where one can be made. Each worker that drew has then that one
-/// result, and its `pages` grew by that page; the others are as they were. What stopped a page is in
-/// its result: a fault of the page or of its source, or that memory ran out. `NoMemory` of the call
-/// itself comes before any page is begun, and changes no worker but in capacity.
+/// Draws a round: `count` pages from `first` on, counted from 0, and fewer only where one of them
+/// has no bitmap. Each worker, in a thread of its own where one can be made, claims the next page,
+/// draws it and claims again, until the round has no further page or one of its own has no bitmap.
+/// So each page that was drawn was drawn by one worker, once. The worker has its results in the
+/// order of their pages, and its `pages` grew by these. What stopped a page is in its result: a
+/// fault of the page or of its source, or that memory ran out. `NoMemory` of the call itself comes
+/// before any page is begun, and changes no worker but in capacity.
 pub fn draw_round<R: Threads + Wait + Sync, F: FontSource + Send>(
     rt: &R,
     alloc: Global,
@@ -107,30 +61,48 @@ pub fn draw_round<R: Threads + Wait + Sync, F: FontSource + Send>(
     index: &Index,
     sheet: &Sheet,
     first: usize,
+    count: usize,
 ) -> Result<(), NoMemory>
-    requires first { first < pages_begun index.now.reading }
+    requires some_worker { 1 ≤ length workers.old }
+    requires few_workers { length workers.old ≤ 32 }
+    requires some_page { 1 ≤ count }
+    requires few_pages { count ≤ 32 }
+    requires inside { first + count ≤ pages_begun index.now.reading }
     requires sheet { IsDrawable sheet.now }
     requires units { document_units index.now.res index.now.reading ≡ Some bench.now.units }
-    requires ready { (j : ℕ) (d : _) → j < length workers.old
-        → MayDraw F.library bench.now (slice_index_or workers.old j d) }
-    ensures drawn { OnOk result ((j : ℕ) (d : _) → j < length workers.old
-        → TookPart F.library F.faults F.loads bench.now index.now sheet.now (first + j)
-        (slice_index_or workers.old j d) (slice_index_or workers.new j d)) }
-    ensures refused { OnErr result ((j : ℕ) (d : _) → j < length workers.old
-        → Rested (slice_index_or workers.old j d) (slice_index_or workers.new j d)) }
+    requires ready { (k : ℕ) (d : _) → k < length workers.old
+        → MayDraw F.library bench.now count (slice_index_or workers.old k d) }
+    ensures drawn { OnOk result (DrewRound F.library F.faults F.loads bench.now index.now sheet.now
+        first count workers.old workers.new) }
+    ensures refused { OnErr result ((k : ℕ) (d : _) → k < length workers.old
+        → Rested (slice_index_or workers.old k d) (slice_index_or workers.new k d)) }
+    ensures no_counter { (k : ℕ) (d : _) → k < length workers.old
+        → (slice_index_or workers.new k d).counter ≡ None }
 {
-    reserve_all(workers)?;
+    prove!(count <= index.pages() - first);
+    reserve_all(workers, count)?;
+    let (counter, mut seat) = PageCounter::make(alloc)?;
+    let round = Round {
+        counter,
+        first,
+        count,
+    };
+    seat_at_counter(&round.counter, &mut seat, workers);
     thread::for_each_mut(
         rt,
         workers,
         MOST_WORKERS,
-        &|j, worker: &mut Worker<F>|
-            requires { (first < pages_begun index.now.reading) × IsDrawable sheet.now
+        &|_, worker: &mut Worker<F>|
+            requires { (round.first + round.count ≤ pages_begun index.now.reading)
+                × (round.count ≤ 32) × IsDrawable sheet.now
                 × (document_units index.now.res index.now.reading ≡ Some bench.now.units)
-                × MayDraw F.library bench.now worker.old × HasRoom worker.old }
+                × MayTakePart F.library bench.now round.counter round.count worker.old }
             ensures { TookPart F.library F.faults F.loads bench.entry.now index.entry.now
-                sheet.entry.now (first + j) worker.old worker.new }
-        { take_part(rt, alloc, worker, bench, index, sheet, first, j) },
+                sheet.entry.now round.counter round.first round.count worker.old worker.new }
+        { take_part(rt, alloc, worker, bench, index, sheet, &round) },
     );
+    let Round { counter, .. } = round;
+    join_at_counter(&counter, &mut seat, workers);
+    counter.close(seat);
     Ok(())
 }

@@ -14,6 +14,7 @@ use cache_core::Look;
 use font_cache::CacheSeat;
 use font_decode::{Decoded, Desk, DeskStop};
 use outside::{FontKey, FontSource};
+use page_counter::CounterSeat;
 use page_draw::PageStop;
 use raster_page::Page;
 use std::alloc::Global;
@@ -32,22 +33,26 @@ pub struct Worker<F: FontSource> {
     pub source: F,
     /// Its seat, while a run lasts.
     pub seat: Option<CacheSeat<Decoded>>,
-    /// The result of the page of this round, until it is written.
+    /// The results of the pages of this round, in the order in which it drew them, until they are
+    /// written.
     pub results: Vec<PageResult>,
     /// How many loads the worker asked of its source.
     pub loads: u64,
     /// The pages that the worker drew, counted from 0, in the order in which it drew them.
     pub pages: Vec<usize>,
+    /// Its seat at the counter of a round, while it draws the round's pages.
+    pub counter: Option<CounterSeat>,
 }
 
 impl<F: FontSource> Worker<F> {
-    /// A worker without seat, results and pages, and with no loads. It takes no memory.
+    /// A worker without seats, results and pages, and with no loads. It takes no memory.
     pub fn new(alloc: Global, source: F) -> Worker<F>
         ensures source { result.source ≡ source }
         ensures seat { result.seat ≡ None }
         ensures results { result.results.items ≡ [] }
         ensures loads { result.loads ≡ 0 }
         ensures pages { result.pages.items ≡ [] }
+        ensures counter { result.counter ≡ None }
     {
         Worker {
             source,
@@ -55,6 +60,7 @@ impl<F: FontSource> Worker<F> {
             results: Vec::new(alloc),
             loads: 0,
             pages: Vec::new(alloc),
+            counter: None,
         }
     }
 }

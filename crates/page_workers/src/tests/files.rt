@@ -1,4 +1,4 @@
-//! The bytes of a document, and of the files of two fonts.
+//! The bytes of a document, and of the files of three fonts.
 use outside::{FileName, Library};
 use std::alloc::Global;
 use std::sync::Arc;
@@ -19,22 +19,25 @@ static DOT_PK: [u8; 32] = [
     0xe0, 9, 0x41, 1, 0, 0, 4, 2, 2, 0, 1, 0xf0, 0xf5,
 ];
 
-/// `dot` and `bar`, as fonts 0 and 1, 128 DVI units large.
-pub static FONTS: [u8; 38] = [
+/// `dot`, `bar` and `thin`, as fonts 0, 1 and 2, 128 DVI units large.
+pub static FONTS: [u8; 58] = [
     0xf3, 0, 0, 0, 0, 0, 0, 0, 0, 128, 0, 0, 0, 128, 0, 3, 0x64, 0x6f, 0x74, //
-    0xf3, 1, 0, 0, 0, 0, 0, 0, 0, 128, 0, 0, 0, 128, 0, 3, 0x62, 0x61, 0x72,
+    0xf3, 1, 0, 0, 0, 0, 0, 0, 0, 128, 0, 0, 0, 128, 0, 3, 0x62, 0x61, 0x72, //
+    0xf3, 2, 0, 0, 0, 0, 0, 0, 0, 128, 0, 0, 0, 128, 0, 4, 0x74, 0x68, 0x69, 0x6e,
 ];
 
 // The numbers of the preamble: half a dot for a unit at 300 dots for an inch.
 static SCALE: [u8; 12] = [0, 0, 4, 0xf6, 0, 0, 0, 3, 0, 0, 3, 0xe8];
 
-/// The files of both fonts.
+/// The files of all fonts, a TFM file and a PK file each.
 pub fn library(alloc: Global) -> Result<Arc<Library>, Fail> {
-    let files: [(&[u8], &[u8]); 4] = [
+    let files: [(&[u8], &[u8]); 6] = [
         (b"dot.tfm", &DOT_TFM),
         (b"dot.300pk", &DOT_PK),
         (b"bar.tfm", &DOT_TFM),
         (b"bar.300pk", &DOT_PK),
+        (b"thin.tfm", &DOT_TFM),
+        (b"thin.300pk", &DOT_PK),
     ];
     let mut library = Library::new(alloc);
     for (name, bytes) in files {

@@ -1,9 +1,9 @@
-//! Two workers whose first loads overlap.
+//! Two workers whose loads overlap.
 ghost use Rattle.std.specs.Prelude.{◌≡◌, ◌<◌, ◌^◌, All, IfOk, length};
 ghost use Rattle.page_workers.specs.Seating.{IsUnused};
 
 use super::files::library;
-use super::{counts_of, one_round, outcome_of};
+use super::{counts_of, one_round, outcome_at};
 use crate::Worker;
 use outside::{FileName, FontSource, Library, LoadStop};
 use std::alloc::Global;
@@ -87,8 +87,9 @@ fn two_loads_meet(rt: HostRuntime) -> Result<(), Fail> {
     let mut workers = two_workers(alloc)?;
     let pages: [&[u8]; 2] = [&[0xab, 0x41], &[0xac, 0x41]];
     let history = one_round(&rt, alloc, &mut workers, 4, &pages)?;
-    assert_eq!(rt; outcome_of(&workers[0]), (0, 0xc0, 'w'));
-    assert_eq!(rt; outcome_of(&workers[1]), (1, 0xc0, 'w'));
+    assert_eq!(rt; outcome_at(&workers, 0), (1, 0xc0, 'w'));
+    assert_eq!(rt; outcome_at(&workers, 1), (1, 0xc0, 'w'));
+    assert_eq!(rt; (workers[0].pages.len(), workers[1].pages.len()), (1, 1));
     assert_eq!(rt; counts_of(&history), [0, 2, 0, 2, 0, 0]);
     Ok(())
 }
@@ -99,8 +100,8 @@ fn busy_loads_itself(rt: HostRuntime) -> Result<(), Fail> {
     let mut workers = two_workers(alloc)?;
     let pages: [&[u8]; 2] = [&[0xab, 0x41], &[0xab, 0x41]];
     let history = one_round(&rt, alloc, &mut workers, 4, &pages)?;
-    assert_eq!(rt; outcome_of(&workers[0]), (0, 0xc0, 'w'));
-    assert_eq!(rt; outcome_of(&workers[1]), (1, 0xc0, 'w'));
+    assert_eq!(rt; outcome_at(&workers, 0), (1, 0xc0, 'w'));
+    assert_eq!(rt; outcome_at(&workers, 1), (1, 0xc0, 'w'));
     assert_eq!(rt; counts_of(&history), [0, 1, 1, 1, 0, 0]);
     assert_eq!(rt; (workers[0].loads, workers[1].loads), (3, 3));
     Ok(())

@@ -1,4 +1,4 @@
-use Rattle.std.proofs.Common.{◌≡◌, ◌+◌, ◌<◌, ℕ, length, get_or, refl, sym, subst, ap, rules}
+use Rattle.std.proofs.Common.{◌≡◌, ◌+◌, ◌<◌, ◌≤◌, ℕ, length, get_or, subst, rules}
 use Rattle.std.proofs.lemmas.List.Elements.{All-get_or}
 use Rattle.page_workers.specs.declared.bench.Bench.{Bench}
 use Rattle.page_workers.specs.Seating.{IsUnused, numbers}
@@ -12,9 +12,10 @@ draw_round-requires-clause-ready g c κs within =
     let ws = c.seat_all.new.workers in
     let long : length ws ≡ length xs = search rules in
     let bench : Bench = record { cache = c.in_ok-cache.cache; units = c.units-units.result } in
+    let few : c.pages-count.result ≤ 32 = search rules in
     λ j d lt.
     let below : j < length xs = subst (λ (n : ℕ). j < n) long lt in
-    seated_may_draw g.F.FontSource.library bench c.in_ok-cache.first.view.part (j + 1) (get_or xs j d) (get_or ws j d)
+    seated_may_draw g.F.FontSource.library bench c.in_ok-cache.first.view.part (j + 1) c.pages-count.result (get_or xs j d) (get_or ws j d) few
     (record { units = search rules; sound = search rules; tells = search rules }) (All-get_or IsUnused xs j d below c.requires.unused) (c.seat_all.ensures.seated j d below)
 
 pub join_all-requires-clause-leave : goal.join_all-requires-clause-leave
@@ -27,8 +28,9 @@ join_all-requires-clause-leave g c =
     λ k d lt.
     let there : k < length ws = subst (λ (n : ℕ). k < n) same lt in
     let below : k < length xs = subst (λ (n : ℕ). k < n) long there in
-    drawn_may_leave g.F.FontSource.library g.F.FontSource.faults g.F.FontSource.loads (record { cache = c.in_ok-cache.cache; units = c.units-units.result }) c.in_ok-cache.first.view.part _ _ _ (k + 1)
-    (get_or xs k d) (get_or ws k d) (get_or now k d) (c.seat_all.ensures.seated k d below) (c.in_ok-draw_round.ensures.drawn k d there)
+    let round = c.in_ok-draw_round.ensures.drawn in
+    drawn_may_leave g.F.FontSource.library g.F.FontSource.faults g.F.FontSource.loads (record { cache = c.in_ok-cache.cache; units = c.units-units.result }) c.in_ok-cache.first.view.part _ _ (k + 1) (round.drawn k)
+    (get_or xs k d) (get_or ws k d) (get_or now k d) (c.seat_all.ensures.seated k d below) (round.each k d there)
 
 pub close-requires-clause-joined : goal.close-requires-clause-joined
 close-requires-clause-joined g c =

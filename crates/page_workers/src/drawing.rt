@@ -1,0 +1,77 @@
+//! A worker's part of a round: the pages that it claims, one after another.
+ghost use Rattle.std.specs.Prelude.{◌≡◌, ◌+◌, ◌^◌, ◌<◌, ◌≤◌, Some};
+ghost use Rattle.page_index.specs.Document.{pages_begun};
+ghost use Rattle.page_index.specs.Pages.{document_units};
+ghost use Rattle.page_draw.specs.Sheets.{IsDrawable};
+ghost use Rattle.page_workers.specs.Seats.{Fits, room_at};
+ghost use Rattle.page_workers.specs.Claims.{DrewNext, HasRoom, MayTakePart, TookPart};
+
+use crate::Bench;
+use crate::claiming::{Round, claim_page};
+use crate::worker::{PageResult, Worker};
+use font_decode::Desk;
+use outside::FontSource;
+use page_draw::{Sheet, draw};
+use page_index::Index;
+use std::alloc::Global;
+use std::mem;
+use std::sync::Wait;
+
+// Draws a page, and answers whether it has a bitmap. The results, the pages and the seat at the
+// round's counter are kept out of the worker in the meantime, since drawing tells nothing of them.
+fn draw_page<R: Wait, F: FontSource>(
+    rt: &R,
+    alloc: Global,
+    worker: &mut Worker<F>,
+    bench: &Bench,
+    index: &Index,
+    sheet: &Sheet,
+    page: usize,
+) -> bool
+    requires page { page < pages_begun index.now.reading }
+    requires sheet { IsDrawable sheet.now }
+    requires units { document_units index.now.res index.now.reading ≡ Some bench.now.units }
+    requires fits { Fits (F.library worker.old.source) bench.now worker.old.seat }
+    requires look_ups { 2 ^ 24 ≤ room_at worker.old.loads worker.old.seat }
+    requires space { HasRoom 1 worker.old }
+    ensures { DrewNext F.library F.faults F.loads bench.now index.now sheet.now page result
+        worker.old worker.new }
+{
+    let counter = worker.counter.take();
+    let mut results = mem::replace(&mut worker.results, Vec::new(alloc));
+    let mut pages = mem::replace(&mut worker.pages, Vec::new(alloc));
+    let outcome = draw(rt, alloc, worker, bench, index, page, sheet);
+    let has_bitmap = outcome.is_ok();
+    results.push_reserved(PageResult { page, outcome });
+    pages.push_reserved(page);
+    worker.results = results;
+    worker.pages = pages;
+    worker.counter = counter;
+    has_bitmap
+}
+
+/// Draws the pages that the worker claims, until the round has no further page or one of its own
+/// has no bitmap.
+pub fn take_part<R: Wait, F: FontSource>(
+    rt: &R,
+    alloc: Global,
+    worker: &mut Worker<F>,
+    bench: &Bench,
+    index: &Index,
+    sheet: &Sheet,
+    round: &Round,
+)
+    requires inside { round.now.first + round.now.count ≤ pages_begun index.now.reading }
+    requires few { round.now.count ≤ 32 }
+    requires sheet { IsDrawable sheet.now }
+    requires units { document_units index.now.res index.now.reading ≡ Some bench.now.units }
+    requires ready { MayTakePart F.library bench.now round.now.counter round.now.count worker.old }
+    ensures { TookPart F.library F.faults F.loads bench.now index.now sheet.now round.now.counter
+        round.now.first round.now.count worker.old worker.new }
+{
+    while let Some(page) = claim_page(worker, round) {
+        if !draw_page(rt, alloc, worker, bench, index, sheet, page) {
+            return;
+        }
+    }
+}
