@@ -13,7 +13,7 @@ use Rattle.page_draw.specs.Values.{PageValue, PlacedFault}
 use Rattle.pbm_output.specs.Pbm.{page_text}
 use Rattle.command_line.specs.Settings.{default_settings}
 use Rattle.dvi_run.specs.Arguments.{run_settings}
-use Rattle.dvi_run.specs.Shares.{EachPageHasOneWorker}
+use Rattle.dvi_run.specs.Shares.{AreShared, EachPageIsDrawnOnce}
 use Rattle.dvi_run.specs.Endings.{OfRun, Stopped, Wrote}
 use Rattle.dvi_run.specs.Pages.{FailingPage, Given, IsRun, IsWholeRun, failing_page, run_fault, run_text}
 
@@ -102,6 +102,6 @@ NoArgumentsAskForTheDefaults = (workers : ℕ) → 1 ≤ workers → run_setting
 
 -- ---- workers
 
--- the pages that some workers draw in some rounds are the first pages, and each is drawn by one worker, once
+-- pages that workers share are the numbers from 0 to one less than their count, each once
 abbrev pub PagesAreShared : Type 0
-PagesAreShared = (total n rounds page : ℕ) → EachPageHasOneWorker total n rounds page
+PagesAreShared = (total n : ℕ) (pages : ℕ → List ℕ) → AreShared total n pages → EachPageIsDrawnOnce total n pages

@@ -7,7 +7,7 @@
 
 mod arguments;
 mod at_once;
-mod clearing;
+mod collecting;
 mod ending;
 pub mod laws;
 mod note;
