@@ -126,6 +126,7 @@ module _ {F : Type 0} (library : F → Option Files) (faults loads : F → ℕ) 
   worked_8 k was now w = record {
     seat = w.seat;
     none = w.none;
+    counter = w.counter;
     tells = w.tells;
     count = w.count;
     keys = w.keys;
@@ -179,7 +180,7 @@ module _ {F : Type 0} (g : Given) (counted : Bool) (old new : Option (List ℕ))
         (
           run.3.0,
           tallied_8 counted old new tally run.1 run.3.1,
-          record { drew = run.3.2.drew; begun = run.3.2.begun },
+          record { drawn = run.3.2.drawn; few = run.3.2.few; shares = run.3.2.shares; reach = run.3.2.reach; written = run.3.2.written },
           λ k d lt. answered_8 run.0 k (get_or after k d) (run.3.3 k d lt),
         ),
       )

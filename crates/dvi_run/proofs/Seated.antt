@@ -48,6 +48,7 @@ module _ {F : Type 0} (s : Site F) (part : Common) (told : part.library ≡ s.gi
     library = at_seat library_at ∙ ap (λ (p : Common). p.library) seated.new.part ∙ told;
     units = at_seat units_at ∙ ap (λ (p : Common). Some p.units) seated.new.part ∙ ap Some same_units ∙ sym of_document;
     none = seated.same.results ∙ fresh.none;
+    counter = seated.same.counter ∙ fresh.counter;
     pages = seated.same.pages ∙ fresh.pages;
     keys = at_seat keys_of ∙ no_keys;
     room =
@@ -95,7 +96,7 @@ module _ {F : Type 0} (s : Site F) (part : Common) (told : part.library ≡ s.gi
         ap keys_of is ∙ cc there
 
     module _ (history : List Call) (after : Worker F) (left : own k history ≡ own_calls t) (none : after.seat ≡ None) (source : after.source ≡ now.source) (loads : after.loads ≡ now.loads)
-        (pages : after.pages.items ≡ now.pages.items) (cleared : after.results.items ≡ []) where
+        (pages : after.pages.items ≡ now.pages.items) (results : after.results.items ≡ now.results.items) (counter : after.counter ≡ now.counter) where
       own_here : own k history ≡ went.went.calls
       own_here = left ∙ calls_are
 
@@ -115,7 +116,8 @@ module _ {F : Type 0} (s : Site F) (part : Common) (told : part.library ≡ s.gi
           → (Whole → WholeLooks (finding s.given s.reading) (indexed_of s.given s.reading) s.given.sheet now.pages.items (keys_of now.seat)) → Ran Whole s.library s.faults s.loads s.given s.reading history k w after
       ran Whole settled through = record {
         seat = none;
-        none = cleared;
+        none = results ∙ ended.none;
+        counter = counter ∙ ended.counter;
         tells = still_tells;
         faults_rose = subst (λ (x : F). s.faults x ≤ s.faults after.source) seated.same.source (subst (λ (x : F). s.faults start.source ≤ s.faults x) (sym source) ended.kept.faults);
         keys = went.keys;
@@ -148,6 +150,7 @@ pub unused : {F : Type 0} (library : F → Option Files) (faults loads : F → �
 unused library faults loads g reading number w fresh none Whole = record {
   seat = none;
   none = fresh.none;
+  counter = fresh.counter;
   tells = fresh.tells;
   faults_rose = omega arith;
   keys = [];

@@ -1,99 +1,99 @@
--- The pages of each worker through the rounds.
-use Rattle.std.proofs.Common.{length, get_or, set, ◌≡◌, inl, inr, ℕ, suc, ◌+◌, ◌*◌, ◌<◌, ◌≤◌, List, [], ◌∷◌, ◌++◌, sym, ap, subst, ◌∙◌, append-nil, arith}
-use Rattle.std.specs.Prelude.{nat_lt}
+-- Pages that workers share, and those of one round more.
+use Rattle.std.proofs.Common.{◌≡◌, ◌⊎◌, inl, inr, ℕ, suc, ◌+◌, ◌-◌, ◌<◌, ◌≤◌, List, [], ◌∷◌, ◌++◌, length, get_or, Contains, refl, sym, ap, subst, ◌∙◌, arith}
+use Rattle.std.specs.List.Sorted.{IsStrictlyIncreasing}
 use Rattle.std.proofs.lemmas.Bool.{cases_lt}
-use Rattle.page_draw.specs.declared.sheet.Sheet.{Sheet}
-use Rattle.page_index.specs.Document.{pages_begun}
-use Rattle.page_index.specs.Pages.{Indexed}
-use Rattle.outside.specs.Library.{Files}
-use Rattle.std.specs.Prelude.{Option}
-use Rattle.page_workers.specs.declared.bench.Bench.{Bench}
-use Rattle.page_workers.specs.declared.worker.Worker.{Worker}
-use Rattle.page_workers.specs.Rounds.{TookPart}
-use Rattle.dvi_run.specs.Rounds.{SameBut}
-use Rattle.page_draw.specs.declared.stop.PageStop.TheVariants as draw
-use Rattle.dvi_run.specs.Endings.{EndingSeen, ending_at}
-use Rattle.dvi_run.specs.Shares.{AreBegun, AreShares, DrewShares, if_there, share_of}
-use Rattle.dvi_run.specs.declared.pages.WriteStop.{WriteStop}
-use Rattle.dvi_run.specs.declared.pages.WriteStop.TheVariants as stop
-use Rattle.dvi_run.proofs.OneWorker.{there_above, there_below}
-use Rattle.dvi_run.proofs.Standing.{set_each}
+use Rattle.std.proofs.lemmas.List.{get_or_append_left, get_or-append-add, length-append}
+use Rattle.std.proofs.lemmas.List.Elements.{Contains-get_or, Contains-append_left, Contains-append_right, Contains-append_cases}
+use Rattle.dvi_run.specs.Shares.{AreShared}
 
--- one round more
-share_more : (total n k r i : ℕ) (old new : List ℕ) → i ≡ r * n → old ≡ share_of total n k r
-    → (i + k < total → new ≡ old ++ (i + k) ∷ []) → (total ≤ i + k → new ≡ old) → new ≡ share_of total n k (suc r)
-share_more total n k r i old new at so_far drew rested =
-    let page : k + r * n ≡ i + k = omega arith in
-    elim (cases_lt (i + k) total) [
-      | inl below ↦
-          let there : if_there (nat_lt (k + r * n) total) (k + r * n) ≡ (i + k) ∷ [] =
-          ap (λ p. if_there (nat_lt p total) p) page ∙ there_below (i + k) total below in
-          drew below ∙ ap (λ l. l ++ (i + k) ∷ []) so_far ∙ ap (λ l. share_of total n k r ++ l) (sym there)
-      | inr above ↦
-          let none : if_there (nat_lt (k + r * n) total) (k + r * n) ≡ [] =
-          ap (λ p. if_there (nat_lt p total) p) page ∙ there_above (i + k) total above in
-          rested above ∙ so_far ∙ sym (append-nil (share_of total n k r)) ∙ ap (λ l. share_of total n k r ++ l) (sym none)
+-- numbers that rise, and then others above them
+pub rising_more : (xs ys : List ℕ) (mid : ℕ) → IsStrictlyIncreasing xs → IsStrictlyIncreasing ys → ((p : ℕ) → Contains xs p → p < mid) → ((p : ℕ) → Contains ys p → mid ≤ p)
+    → IsStrictlyIncreasing (xs ++ ys)
+rising_more xs ys mid rx ry low high k lt =
+    let long : length (xs ++ ys) ≡ length xs + length ys = length-append xs ys in
+    elim (cases_lt (k + 1) (length xs)) [
+      | inl inside ↦
+          let here : get_or (xs ++ ys) k 0 ≡ get_or xs k 0 = get_or_append_left xs ys 0 k (omega arith) in
+          let next : get_or (xs ++ ys) (k + 1) 0 ≡ get_or xs (k + 1) 0 = get_or_append_left xs ys 0 (k + 1) inside in
+          let rises : get_or xs k 0 < get_or xs (k + 1) 0 = rx k inside in
+          omega (arith, here, next, rises)
+      | inr above ↦ elim (cases_lt k (length xs)) [
+        | inl last ↦
+            let here : get_or (xs ++ ys) k 0 ≡ get_or xs k 0 = get_or_append_left xs ys 0 k last in
+            let at : length xs + 0 ≡ k + 1 = omega arith in
+            let next : get_or (xs ++ ys) (k + 1) 0 ≡ get_or ys 0 0 = subst (λ (n : ℕ). get_or (xs ++ ys) n 0 ≡ get_or ys 0 0) at (get_or-append-add xs ys 0 0) in
+            let below : get_or xs k 0 < mid = low (get_or xs k 0) (Contains-get_or xs k 0 last) in
+            let from : mid ≤ get_or ys 0 0 = high (get_or ys 0 0) (Contains-get_or ys 0 0 (omega arith)) in
+            omega (arith, here, next, below, from)
+        | inr out ↦
+            let i = k - length xs in
+            let at : length xs + i ≡ k = omega arith in
+            let after : length xs + (i + 1) ≡ k + 1 = omega arith in
+            let here : get_or (xs ++ ys) k 0 ≡ get_or ys i 0 = subst (λ (n : ℕ). get_or (xs ++ ys) n 0 ≡ get_or ys i 0) at (get_or-append-add xs ys i 0) in
+            let next : get_or (xs ++ ys) (k + 1) 0 ≡ get_or ys (i + 1) 0 = subst (λ (n : ℕ). get_or (xs ++ ys) n 0 ≡ get_or ys (i + 1) 0) after (get_or-append-add xs ys (i + 1) 0) in
+            let rises : get_or ys i 0 < get_or ys (i + 1) 0 = ry i (omega arith) in
+            omega (arith, here, next, rises)
+      ]
     ]
 
--- the round of a page that isn't written is the last one begun
-pub begun_at : (total n rounds page : ℕ) (why : WriteStop) → page ≤ rounds * n → rounds * n < page + n → AreBegun total n rounds (ending_at page why)
-begun_at total n rounds page (stop.Draw (draw.Fault fault at)) low high = (low, high)
-begun_at total n rounds page (stop.Draw draw.SourceFault) low high = (low, high)
-begun_at total n rounds page (stop.Draw draw.NoMemory) low high = tt
-begun_at total n rounds page stop.Output low high = (low, high)
+-- none were drawn yet
+pub none_shared : (n : ℕ) (pages : ℕ → List ℕ) → ((k : ℕ) → k < n → pages k ≡ []) → AreShared 0 n pages
+none_shared n pages none = record {
+  rising = λ k lt. subst IsStrictlyIncreasing (sym (none k lt)) (λ i more. absurd (omega arith));
+  inside = λ k page lt h. let has : Contains [] page = subst (λ (l : List ℕ). Contains l page) (none k lt) h in let less : has.0 < 0 = has.1 in absurd (omega arith);
+  shared = λ page below. absurd (omega arith);
+}
 
-module _ {F : Type 0} (total n : ℕ) where
-  -- the rounds before page `next` were begun
-  pub record InRounds (next : ℕ) (ws : List (Worker F)) : Type 0 where
-    pub drew : AreShares total n ws
-    pub begun : next ≡ drew.rounds * n
+-- the same pages
+pub shared_as : (total n : ℕ) (old new : ℕ → List ℕ) → ((k : ℕ) → k < n → new k ≡ old k) → AreShared total n old → AreShared total n new
+shared_as total n old new same s = record {
+  rising = λ k lt. subst IsStrictlyIncreasing (sym (same k lt)) (s.rising k lt);
+  inside = λ k page lt h. s.inside k page lt (subst (λ (l : List ℕ). Contains l page) (same k lt) h);
+  shared = λ page below.
+      let one = s.shared page below in
+      (one.0, one.1, subst (λ (l : List ℕ). Contains l page) (sym (same one.0 one.1)) one.2, λ j lt h. one.3 j lt (subst (λ (l : List ℕ). Contains l page) (same j lt) h));
+}
 
-  pub none_begun : (ws : List (Worker F)) → ((k : ℕ) (d : Worker F) → k < n → (get_or ws k d).pages.items ≡ []) → InRounds 0 ws
-  none_begun ws none = record { drew = record { rounds = 0; shared = none }; begun = omega arith }
+-- a round more, of m pages
+module _ (total m n : ℕ) (old new drawn : ℕ → List ℕ) (grew : (k : ℕ) → k < n → new k ≡ old k ++ drawn k) (s : AreShared total n old) (rising : (k : ℕ) → k < n → IsStrictlyIncreasing (drawn k))
+    (inside : (k page : ℕ) → k < n → Contains (drawn k) page → (total ≤ page) × (page < total + m))
+    (shared : (i : ℕ) → i < m → (k : ℕ) × (k < n) × Contains (drawn k) (total + i) × ((j : ℕ) → j < n → Contains (drawn j) (total + i) → j ≡ k)) where
+  in_new : (k page : ℕ) → k < n → Contains (new k) page → Contains (old k) page ⊎ Contains (drawn k) page
+  in_new k page lt h = Contains-append_cases (old k) (drawn k) page (subst (λ (l : List ℕ). Contains l page) (grew k lt) h)
 
-  -- nothing was drawn
-  pub shares_rest : (ws now : List (Worker F)) → AreShares total n ws
-      → ((k : ℕ) (d : Worker F) → k < n → (get_or now k d).pages.items ≡ (get_or ws k d).pages.items) → AreShares total n now
-  shares_rest ws now shares same = record { rounds = shares.rounds; shared = λ k d lt. same k d lt ∙ shares.shared k d lt }
+  abbrev IsOnes : ℕ → Type 0
+  IsOnes page = (k : ℕ) × (k < n) × Contains (new k) page × ((j : ℕ) → j < n → Contains (new j) page → j ≡ k)
 
-  pub drew_rest : (e : EndingSeen) (ws now : List (Worker F)) → DrewShares total n e ws
-      → ((k : ℕ) (d : Worker F) → k < n → (get_or now k d).pages.items ≡ (get_or ws k d).pages.items) → DrewShares total n e now
-  drew_rest e ws now shares same =
-      record { drew = record { rounds = shares.drew.rounds; shared = λ k d lt. same k d lt ∙ shares.drew.shared k d lt }; begun = shares.begun }
+  shared_old : (page : ℕ) → page < total → IsOnes page
+  shared_old page below =
+      let one = s.shared page below in (
+        one.0,
+        one.1,
+        subst (λ (l : List ℕ). Contains l page) (sym (grew one.0 one.1)) (Contains-append_left (old one.0) (drawn one.0) page one.2),
+        λ j lt h. elim (in_new j page lt h) [ inl was ↦ one.3 j lt was | inr now ↦ absurd (let low = (inside j page lt now).0 in omega arith) ],
+      )
 
-  -- one worker's results alone changed
-  pub shares_set : (next : ℕ) (now : List (Worker F)) (j : ℕ) (r v : Worker F) → InRounds next now → j < length now → j < n → SameBut (get_or now j r) v → InRounds next (set now j v)
-  shares_set next now j r v in_rounds inside below same = record {
-    drew = record {
-      rounds = in_rounds.drew.rounds;
-      shared =
-          set_each (λ (k : ℕ) (a b : Worker F). b.pages.items ≡ share_of total n k in_rounds.drew.rounds) now now n j v inside
-          (λ d. same.pages ∙ in_rounds.drew.shared j r below) (λ k d other lt. in_rounds.drew.shared k d lt);
-    };
-    begun = in_rounds.begun;
+  shared_new : (i : ℕ) → i < m → IsOnes (total + i)
+  shared_new i below =
+      let one = shared i below in (
+        one.0,
+        one.1,
+        subst (λ (l : List ℕ). Contains l (total + i)) (sym (grew one.0 one.1)) (Contains-append_right (old one.0) (drawn one.0) (total + i) one.2),
+        λ j lt h. elim (in_new j (total + i) lt h) [ inl was ↦ absurd (let low = s.inside j (total + i) lt was in omega arith) | inr now ↦ one.3 j lt now ],
+      )
+
+  pub shared_more : AreShared (total + m) n new
+  shared_more = record {
+    rising = λ k lt. subst IsStrictlyIncreasing (sym (grew k lt))
+        (rising_more (old k) (drawn k) total (s.rising k lt) (rising k lt) (λ p h. s.inside k p lt h) (λ p h. (inside k p lt h).0));
+    inside = λ k page lt h. elim (in_new k page lt h) [
+      | inl was ↦ let low = s.inside k page lt was in omega arith
+      | inr now ↦ (inside k page lt now).1
+    ];
+    shared = λ page below. elim (cases_lt page total) [
+      | inl low ↦ shared_old page low
+      | inr high ↦
+          let at : total + (page - total) ≡ page = omega arith in
+          subst (λ (p : ℕ). IsOnes p) at (shared_new (page - total) (omega arith))
+    ];
   }
-
-module _ {F : Type 0} (library : F → Option Files) (faults loads : F → ℕ) (bench : Bench) (indexed : Indexed) (sheet : Sheet) (n : ℕ) where
-  pub shares_begin : (next later i : ℕ) (ws now : List (Worker F)) → i ≤ next → InRounds (pages_begun indexed.reading) n next ws
-      → (i < next → (later ≡ next) × (now ≡ ws))
-      → (next ≤ i → (later ≡ i + n) × ((k : ℕ) (d : Worker F) → k < n → TookPart library faults loads bench indexed sheet (i + k) (get_or ws k d) (get_or now k d)))
-      → InRounds (pages_begun indexed.reading) n later now
-  shares_begin next later i ws now begun in_rounds same drawn = elim (cases_lt i next) [
-    | inl lt ↦
-        let e = same lt in
-        subst (λ (m : ℕ). InRounds (pages_begun indexed.reading) n m now) (sym e.0) (subst (λ (l : List (Worker F)). InRounds (pages_begun indexed.reading) n next l) (sym e.1) in_rounds)
-    | inr due ↦
-        let e = drawn due in
-        let here : i ≡ in_rounds.drew.rounds * n = let at = in_rounds.begun in omega arith in
-        let there : i + n ≡ suc in_rounds.drew.rounds * n = let at = in_rounds.begun in omega arith in
-        record {
-          drew = record {
-            rounds = suc in_rounds.drew.rounds;
-            shared = λ k d lt.
-                let part = e.1 k d lt in
-                share_more (pages_begun indexed.reading) n k in_rounds.drew.rounds i (get_or ws k d).pages.items (get_or now k d).pages.items here (in_rounds.drew.shared k d lt)
-                (λ below. (part.drew below).pages) (λ above. (part.rested above).pages);
-          };
-          begun = e.0 ∙ there;
-        }
-  ]

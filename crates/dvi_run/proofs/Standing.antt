@@ -1,6 +1,7 @@
 -- Workers through the rounds.
-use Rattle.std.proofs.Common.{length, get_or, set, ◌≡◌, ◌≢◌, ◌⊎◌, inl, inr, ℕ, ◌+◌, ◌-◌, ◌<◌, ◌≤◌, Bool, List, [], ◌∷◌, ◌++◌, Option, Some, Result, Ok, Err, refl, sym, ap, subst, ◌∙◌, arith}
-use Rattle.std.specs.Prelude.{IsErrOf}
+use Rattle.std.proofs.Common.{length, get_or, set, ◌≡◌, ◌≢◌, ◌⊎◌, inl, inr, ℕ, zero, suc, ◌+◌, ◌-◌, ◌<◌, ◌≤◌, Bool, List, [], ◌∷◌, ◌++◌, Option, Some, Result, Ok, Err, refl, sym, ap, subst, ◌∙◌, arith}
+use Rattle.std.specs.Prelude.{◌^◌, ◌*◌, Contains, IsErrOf, IsOk, None}
+use Rattle.std.proofs.lemmas.List.Elements.{Contains-append_cases, Contains-append_right}
 use mathlib.Core.Logic.{dite}
 use Rattle.std.proofs.lemmas.Bool.{cases_lt}
 use Rattle.std.proofs.lemmas.List.{get_or-set_same, get_or-set_other}
@@ -16,7 +17,9 @@ use Rattle.pixel_round.specs.declared.units.Units.{Units}
 use Rattle.packed_rows.specs.Bitmap.{Bitmap}
 use Rattle.page_index.specs.Document.{Reading, pages_begun}
 use Rattle.turn_lock.specs.Seats.{SeatView}
+use Rattle.page_index.specs.Pages.{Indexed}
 use Rattle.font_decode.specs.Decoding.{IsFontOf}
+use Rattle.page_draw.specs.Members.{Finding}
 use Rattle.font_decode.specs.Desks.{TrailGrew}
 use Rattle.font_decode.proofs.Trails.{trail_none, trail_more, trail_as}
 use Rattle.page_draw.specs.Drawn.{IsWhole}
@@ -25,11 +28,12 @@ use Rattle.page_draw.specs.declared.stop.PageStop.TheVariants as draw
 use Rattle.page_workers.specs.declared.worker.PageResult.{PageResult}
 use Rattle.page_workers.specs.declared.worker.Worker.{Worker}
 use Rattle.page_workers.specs.Seats.{Fits, asked_at, library_at, units_at, room_at, trail_at}
-use Rattle.page_workers.specs.Rounds.{Drew, IsOutcome, MayDraw, Rested, TookPart, trail_of}
+use Rattle.page_workers.specs.Rounds.{BitmapsToLast, Drew, DrewPage, HasBitmap, IsOutcome, Rested, trail_of}
+use Rattle.page_workers.proofs.Drawn.{drew_pages, drew_results}
 use Rattle.dvi_run.specs.Pages.{Given, IsValueOf, finding}
 use Rattle.dvi_run.specs.Endings.{IsWriteStop, Source, ending_at}
 use Rattle.dvi_run.specs.Looked.{WholeLooks, BrokenLooks, IsAllWritten, IsUnbroken}
-use Rattle.dvi_run.specs.Rounds.{Site, Kept, Trails, Settled, Pending, Stands, Ended, MayBegin, SameBut, FailedAt, IsOutcomeOf, LooksTo, WroteOutcome, black_of, keys_of, indexed_of}
+use Rattle.dvi_run.specs.Rounds.{Site, Kept, Trails, Settled, Ended, MayBegin, SameBut, WasCleared, FailedAt, IsOutcomeOf, WroteOutcome, black_of, keys_of, indexed_of}
 use Rattle.dvi_run.specs.declared.pages.WriteStop.{WriteStop}
 use Rattle.dvi_run.specs.declared.pages.WriteStop.TheVariants as stop
 use Rattle.dvi_run.proofs.Looks.{whole_more, broken_more, keys_are, keys_grew, broken_keys}
@@ -42,6 +46,13 @@ value_of g reading i (Ok page) old new o = (o.0, o.1)
 value_of g reading i (Err (draw.Fault fault at)) old new o = (o.0, o.1)
 value_of g reading i (Err draw.SourceFault) old new o = tt
 value_of g reading i (Err draw.NoMemory) old new o = tt
+
+-- the keys that were looked up for these pages, of which the last had this outcome
+abbrev LooksTo : Result Bitmap PageStop → Finding → Indexed → Given → List ℕ → List FontKey → Type 0
+LooksTo (Ok page) Finds indexed g pages keys = WholeLooks Finds indexed g.sheet pages keys
+LooksTo (Err (draw.Fault fault at)) Finds indexed g pages keys = WholeLooks Finds indexed g.sheet pages keys
+LooksTo (Err draw.SourceFault) Finds indexed g pages keys = BrokenLooks Finds indexed g.sheet pages keys
+LooksTo (Err draw.NoMemory) Finds indexed g pages keys = BrokenLooks Finds indexed g.sheet pages keys
 
 looks_to : (g : Given) (reading : Reading) (i : ℕ) (outcome : Result Bitmap PageStop) (old new : Option SeatView) (before after : List ℕ) → asked_at old ≡ Some (keys_of old)
     → asked_at new ≡ Some (keys_of new) → IsOutcome (finding g reading) (indexed_of g reading) g.sheet i outcome (asked_at old) (asked_at new)
@@ -72,10 +83,10 @@ looks_to g reading i (Err draw.NoMemory) old new before after e h o w is =
 
 -- why a page isn't written, by what came of it
 module _ (counted : Bool) (before after : Option (List ℕ)) (OutputFails SourceFails : Type 0) (g : Given) (reading : Reading) (i : ℕ) where
-  abbrev Why : WriteStop → Type 0
+  abbrev pub Why : WriteStop → Type 0
   Why why = IsWriteStop before after OutputFails SourceFails (IsValueOf g reading i) (Unit {0}) why
 
-  why_stops : (outcome : Result Bitmap PageStop) (why : WriteStop) → IsOutcomeOf g reading i outcome → (IsErrOf outcome draw.SourceFault → SourceFails)
+  pub why_stops : (outcome : Result Bitmap PageStop) (why : WriteStop) → IsOutcomeOf g reading i outcome → (IsErrOf outcome draw.SourceFault → SourceFails)
       → WroteOutcome counted before after OutputFails outcome (Err why) → Why why
   why_stops (Ok page) (stop.Draw reason) value rose wrote = absurd wrote
   why_stops (Ok page) stop.Output value rose wrote = (page, value, wrote.0, wrote.1)
@@ -87,7 +98,7 @@ module _ (counted : Bool) (before after : Option (List ℕ)) (OutputFails Source
   why_stops (Err draw.NoMemory) stop.Output value rose wrote = absurd wrote
 
 -- a run that ends with a failed source ends at a page of which a source failed
-source_failed : (counted : Bool) (before after : Option (List ℕ)) (OutputFails : Type 0) (page i : ℕ) (outcome : Result Bitmap PageStop) (why : WriteStop) → WroteOutcome counted before after OutputFails outcome (Err why)
+pub source_failed : (counted : Bool) (before after : Option (List ℕ)) (OutputFails : Type 0) (page i : ℕ) (outcome : Result Bitmap PageStop) (why : WriteStop) → WroteOutcome counted before after OutputFails outcome (Err why)
     → ending_at (i + 1) why ≡ Source page → (outcome ≡ Err draw.SourceFault) × (page ≡ i + 1)
 source_failed counted before after OutputFails page i (Ok p) (stop.Draw reason) wrote e = absurd wrote
 source_failed counted before after OutputFails page i (Ok p) stop.Output wrote e = absurd cc
@@ -104,7 +115,7 @@ never_written page (stop.Draw draw.NoMemory) all = all
 never_written page stop.Output all = all
 
 -- nothing was broken off for a page that isn't written, where the run wasn't
-whole_outcome : (counted : Bool) (before after : Option (List ℕ)) (OutputFails : Type 0) (page : ℕ) (outcome : Result Bitmap PageStop) (why : WriteStop) → WroteOutcome counted before after OutputFails outcome (Err why)
+pub whole_outcome : (counted : Bool) (before after : Option (List ℕ)) (OutputFails : Type 0) (page : ℕ) (outcome : Result Bitmap PageStop) (why : WriteStop) → WroteOutcome counted before after OutputFails outcome (Err why)
     → IsUnbroken (ending_at page why) → IsWhole outcome
 whole_outcome counted before after OutputFails page (Ok p) why wrote u = tt
 whole_outcome counted before after OutputFails page (Err (draw.Fault fault at)) why wrote u = tt
@@ -118,7 +129,7 @@ whole_outcome counted before after OutputFails page (Err draw.NoMemory) (stop.Dr
 whole_outcome counted before after OutputFails page (Err draw.NoMemory) stop.Output wrote u = absurd wrote
 
 -- a page that was written
-wrote_it : (counted : Bool) (before after : Option (List ℕ)) (OutputFails : Type 0) (g : Given) (reading : Reading) (i : ℕ) (done : ℕ) (outcome : Result Bitmap PageStop) → IsOutcomeOf g reading i outcome
+pub wrote_it : (counted : Bool) (before after : Option (List ℕ)) (OutputFails : Type 0) (g : Given) (reading : Reading) (i : ℕ) (done : ℕ) (outcome : Result Bitmap PageStop) → IsOutcomeOf g reading i outcome
     → WroteOutcome counted before after OutputFails outcome (Ok done) → (page : Bitmap) × IsValueOf g reading i (Ok page) × Appends before after (page_text page) × (done ≡ black_of counted page)
 wrote_it counted before after OutputFails g reading i done (Ok page) value wrote = (page, value, wrote.0, wrote.1)
 wrote_it counted before after OutputFails g reading i done (Err reason) value wrote = absurd wrote
@@ -129,6 +140,29 @@ pub set_each : {A : Type 0} (P : ℕ → A → A → Type 0) (xs ws : List A) (n
 set_each P xs ws n j v inside new others k d lt = dite (ℕ_discrete k j)
     (λ e. subst (λ (m : ℕ). P m (get_or xs m d) (get_or (set ws j v) m d)) (sym e) (subst (λ x. P j (get_or xs j d) x) (sym (get_or-set_same ws j v d inside)) (new d)))
     (λ other. subst (λ x. P k (get_or xs k d) x) (sym (get_or-set_other ws j k v d other)) (others k d other lt))
+
+pub only : {A : Type 0} (x y : A) (k : ℕ) → k < length (x ∷ []) → get_or (x ∷ []) k y ≡ y → x ≡ y
+only x y zero lt e = e
+only x y (suc k) lt e = absurd (omega arith)
+
+-- of a list with a first member
+pub cons_cases : {A : Type 0} (x : A) (xs : List A) (y : A) → Contains (x ∷ xs) y → (x ≡ y) ⊎ Contains xs y
+cons_cases x xs y h = elim (Contains-append_cases (x ∷ []) xs y h) [
+  | inl one ↦ inl (only x y one.0 one.1 one.2)
+  | inr rest ↦ inr rest
+]
+
+-- none of these was broken off
+abbrev pub AreWhole : List PageResult → Type 0
+AreWhole results = (r : PageResult) → Contains results r → IsWhole r.outcome
+
+pub bitmap_whole : (outcome : Result Bitmap PageStop) → IsOk outcome → IsWhole outcome
+bitmap_whole (Ok page) ok = tt
+bitmap_whole (Err stop) ok = absurd cc
+
+bitmap_sound : (outcome : Result Bitmap PageStop) → IsOk outcome → IsErrOf outcome draw.SourceFault → ⊥
+bitmap_sound (Ok page) ok failed = cc
+bitmap_sound (Err stop) ok failed = absurd cc
 
 module _ {F : Type 0} (s : Site F) where
   -- ---- a worker whose results alone change
@@ -148,142 +182,70 @@ module _ {F : Type 0} (s : Site F) where
       (subst (λ (n : ℕ). TrailGrew W (asked_at start.seat) (asked_at b.seat) (trail_of s.loads start) (trail_at (s.loads a.source) n b.seat)) (sym loads)
       (subst (λ (o : Option SeatView). TrailGrew W (asked_at start.seat) (asked_at o) (trail_of s.loads start) (trail_at (s.loads a.source) a.loads o)) (sym seat) t))
 
-  -- ---- the beginning
-
-  pub begins : (n k : ℕ) (w : Worker F) → k < n → MayBegin s w → Stands s n 0 0 k w w
-  begins n k w lt m = record {
-    room = omega arith;
-    pending = λ low high. absurd (omega arith);
-    settled = λ either. record {
-      kept = record { fits = m.fits; library = refl; units = refl; faults = omega arith };
-      none = m.none;
-      trail = trail_none (Unit {0}) (asked_at w.seat) (trail_of s.loads w);
-      looked = subst (λ (ps : List ℕ). WholeLooks (finding s.given s.reading) (indexed_of s.given s.reading) s.given.sheet ps (keys_of w.seat)) (sym m.pages) m.keys;
-    };
-  }
-
-  -- ---- a round that begins
-
-  pub may_draw : (n next i k : ℕ) (start now : Worker F) → next ≤ i → k < n → i < 1000000 → MayBegin s start → Stands s n next i k start now → MayDraw s.library s.bench now
-  may_draw n next i k start now due lt few m st =
-      let settled = st.settled (inl (omega arith)) in
-      record { fits = settled.kept.fits; no_result = settled.none; room = omega (arith, st.room, m.room) }
-
-  drew_on : (start old new : Worker F) (i : ℕ) → MayBegin s start → Settled s start old
-      → Drew s.library s.faults s.loads s.bench (indexed_of s.given s.reading) s.given.sheet i old new → Pending s i start new
-  drew_on start old new i m st d =
-      let kept = st.kept in
-      let finds : IsOutcome (finding s.given s.reading) (indexed_of s.given s.reading) s.given.sheet i d.outcome (asked_at old.seat) (asked_at new.seat) =
-      subst (λ (u : Option Units). IsOutcome (IsFontOf s.given.library u) (indexed_of s.given s.reading) s.given.sheet i d.outcome (asked_at old.seat) (asked_at new.seat)) (kept.units ∙ m.units)
-      (subst (λ (l : Option Files). IsOutcome (IsFontOf l (units_at old.seat)) (indexed_of s.given s.reading) s.given.sheet i d.outcome (asked_at old.seat) (asked_at new.seat))
-      (kept.library ∙ m.library) d.value) in
-      let e = keys_are (s.library old.source) s.bench old.seat kept.fits in
-      let h = keys_are (s.library new.source) s.bench new.seat d.fits in
-      record {
-        kept = record {
-          fits = d.fits;
-          library = d.same_library ∙ kept.library;
-          units = d.same_units ∙ kept.units;
-          faults = omega (arith, kept.faults, d.cause.never_falls);
-        };
-        outcome = d.outcome;
-        result = d.result;
-        drew = (old.pages.items, d.pages);
-        value = value_of s.given s.reading i d.outcome (asked_at old.seat) (asked_at new.seat) finds;
-        rose = λ failed. rose_later (s.faults start.source) (s.faults old.source) (s.faults new.source) kept.faults (d.cause.rose failed) d.cause.never_falls;
-        trail = trail_more (IsWhole d.outcome) (asked_at start.seat) (asked_at old.seat) (asked_at new.seat) (trail_of s.loads start) (trail_of s.loads old) (trail_of s.loads new) st.trail d.trail;
-        looked = looks_to s.given s.reading i d.outcome old.seat new.seat old.pages.items new.pages.items e h finds st.looked d.pages;
-      }
-
-  rested_on : (start old new : Worker F) → Settled s start old → Rested old new → Settled s start new
-  rested_on start old new st r = record {
-    kept = kept_on start old new r.source r.seat st.kept;
-    none = r.results ∙ st.none;
-    trail = trails_on (Unit {0}) start old new r.source r.seat r.loads st.trail;
-    looked = subst (λ (ps : List ℕ). WholeLooks (finding s.given s.reading) (indexed_of s.given s.reading) s.given.sheet ps (keys_of new.seat)) (sym r.pages)
-        (subst (λ (o : Option SeatView). WholeLooks (finding s.given s.reading) (indexed_of s.given s.reading) s.given.sheet old.pages.items (keys_of o)) (sym r.seat) st.looked);
-  }
-
-  pub round_on : (n next i k : ℕ) (start old new : Worker F) → next ≤ i → k < n → MayBegin s start → Stands s n next i k start old
-      → TookPart s.library s.faults s.loads s.bench (indexed_of s.given s.reading) s.given.sheet (i + k) old new → Stands s n (i + n) i k start new
-  round_on n next i k start old new due lt m st part =
-      let settled = st.settled (inl (omega arith)) in
-      let drawn : i + k < pages_begun s.reading → Pending s (i + k) start new = λ below. drew_on start old new (i + k) m settled (part.drew below) in
-      let left : pages_begun s.reading ≤ i + k → Settled s start new = λ above. rested_on start old new settled (part.rested above) in
-      record {
-        room = elim (cases_lt (i + k) (pages_begun s.reading)) [
-          | inl below ↦ omega (arith, st.room, (part.drew below).room)
-          | inr above ↦
-              let r = part.rested above in
-              let same : room_at new.loads new.seat ≡ room_at old.loads old.seat = ap (λ (c : ℕ). room_at c new.seat) r.loads ∙ ap (room_at old.loads) r.seat in
-              omega (arith, st.room, same)
-        ];
-        pending = λ low high.
-            let page : i + k ≡ (i + n) + k - n = omega arith in
-            subst (λ (p : ℕ). Pending s p start new) page (drawn (omega arith));
-        settled = λ either. left (elim either [ inl low ↦ absurd (omega arith) | inr high ↦ omega arith ]);
-      }
-
-  -- ---- a result that is written
-
-  pub now_pending : (n next i k : ℕ) (start now : Worker F) → next + k ≡ i + n → i < pages_begun s.reading → Stands s n next i k start now → Pending s i start now
-  now_pending n next i k start now at below st =
-      let page : next + k - n ≡ i = omega arith in
-      subst (λ (p : ℕ). Pending s p start now) page (st.pending (omega arith) (omega arith))
-
-  pub other_on : (n next i k j : ℕ) (start now : Worker F) → next + j ≡ i + n → k ≢ j → Stands s n next i k start now → Stands s n next (i + 1) k start now
-  other_on n next i k j start now at other st = record {
-    room = st.room;
-    pending = λ low high. st.pending (omega arith) high;
-    settled = λ either. st.settled (elim either [ inl low ↦ inl (omega arith) | inr high ↦ inr high ]);
-  }
-
-  settles : (outcome : Result Bitmap PageStop) (counted : Bool) (old new : Option (List ℕ)) (OutputFails : Type 0) (done : ℕ) → WroteOutcome counted old new OutputFails outcome (Ok done)
-      → (page : Bitmap) × (outcome ≡ Ok page)
-  settles (Ok page) counted old new OutputFails done w = (page, refl)
-  settles (Err reason) counted old new OutputFails done w = absurd w
-
-  -- a page that wasn't broken off has all its look-ups
-  whole_looked : (outcome : Result Bitmap PageStop) (pages : List ℕ) (keys : List FontKey) → IsWhole outcome → LooksTo outcome (finding s.given s.reading) (indexed_of s.given s.reading) s.given pages keys
-      → WholeLooks (finding s.given s.reading) (indexed_of s.given s.reading) s.given.sheet pages keys
-  whole_looked (Ok page) pages keys w l = l
-  whole_looked (Err (draw.Fault fault at)) pages keys w l = l
-  whole_looked (Err draw.SourceFault) pages keys w l = absurd w
-  whole_looked (Err draw.NoMemory) pages keys w l = absurd w
-
-  -- a worker whose page was drawn to its end, and which has no result any more
-  pub settled_on : (i : ℕ) (start old new : Worker F) (p : Pending s i start old) → IsWhole p.outcome → SameBut old new → new.results.items ≡ [] → Settled s start new
-  settled_on i start old new p drawn same none =
-      let Finds = finding s.given s.reading in
-      let ix = indexed_of s.given s.reading in
-      let whole : Trails s (Unit {0}) start old = trail_as (Unit {0}) (IsWhole p.outcome) (asked_at start.seat) (asked_at old.seat) (trail_of s.loads start) (trail_of s.loads old)
-      (λ u. drawn) p.trail in
-      let looked : WholeLooks Finds ix s.given.sheet old.pages.items (keys_of old.seat) = whole_looked p.outcome old.pages.items (keys_of old.seat) drawn p.looked in
-      record {
-        kept = kept_on start old new same.source same.seat p.kept;
-        none = none;
-        trail = trails_on (Unit {0}) start old new same.source same.seat same.loads whole;
-        looked = subst (λ (ps : List ℕ). WholeLooks Finds ix s.given.sheet ps (keys_of new.seat)) (sym same.pages)
-            (subst (λ (o : Option SeatView). WholeLooks Finds ix s.given.sheet old.pages.items (keys_of o)) (sym same.seat) looked);
-      }
-
-  -- a worker whose page was written has no result, and may draw on
-  pub wrote_on : (n next i k : ℕ) (start old new : Worker F) (counted : Bool) (before after : Option (List ℕ)) (OutputFails : Type 0) (done : ℕ) → next + k ≡ i + n
-      → i < pages_begun s.reading → Stands s n next i k start old → (p : Pending s i start old) → WroteOutcome counted before after OutputFails p.outcome (Ok done) → SameBut old new → new.results.items ≡ []
-      → Stands s n next (i + 1) k start new
-  wrote_on n next i k start old new counted before after OutputFails done at below st p wrote same none =
-      let good = settles p.outcome counted before after OutputFails done wrote in
-      record {
-        room = let room : room_at new.loads new.seat ≡ room_at old.loads old.seat = ap (λ (c : ℕ). room_at c new.seat) same.loads ∙ ap (room_at old.loads) same.seat in omega (arith, st.room, room);
-        pending = λ low high. absurd (omega arith);
-        settled = λ either. settled_on i start old new p (subst (λ (o : Result Bitmap PageStop). IsWhole o) (sym good.1) tt) same none;
-      }
-
-  -- ---- the end
+  abbrev Whole : Worker F → Type 0
+  Whole w = WholeLooks (finding s.given s.reading) (indexed_of s.given s.reading) s.given.sheet w.pages.items (keys_of w.seat)
 
   abbrev EndsLooked : Worker F → Type 0
-  EndsLooked w = WholeLooks (finding s.given s.reading) (indexed_of s.given s.reading) s.given.sheet w.pages.items (keys_of w.seat)
-      ⊎ BrokenLooks (finding s.given s.reading) (indexed_of s.given s.reading) s.given.sheet w.pages.items (keys_of w.seat)
+  EndsLooked w = Whole w ⊎ BrokenLooks (finding s.given s.reading) (indexed_of s.given s.reading) s.given.sheet w.pages.items (keys_of w.seat)
+
+  whole_on : (a b : Worker F) → b.seat ≡ a.seat → b.pages.items ≡ a.pages.items → Whole a → Whole b
+  whole_on a b seat pages w = subst (λ (ps : List ℕ). WholeLooks (finding s.given s.reading) (indexed_of s.given s.reading) s.given.sheet ps (keys_of b.seat)) (sym pages)
+      (subst (λ (o : Option SeatView). WholeLooks (finding s.given s.reading) (indexed_of s.given s.reading) s.given.sheet a.pages.items (keys_of o)) (sym seat) w)
+
+  looked_on : (a b : Worker F) → b.seat ≡ a.seat → b.pages.items ≡ a.pages.items → EndsLooked a → EndsLooked b
+  looked_on a b seat pages looked = elim looked [
+    | inl w ↦ inl (whole_on a b seat pages w)
+    | inr w ↦ inr (subst (λ (ps : List ℕ). BrokenLooks (finding s.given s.reading) (indexed_of s.given s.reading) s.given.sheet ps (keys_of b.seat)) (sym pages)
+        (subst (λ (o : Option SeatView). BrokenLooks (finding s.given s.reading) (indexed_of s.given s.reading) s.given.sheet a.pages.items (keys_of o)) (sym seat) w))
+  ]
+
+  -- ---- a worker that drew some pages, none of which was broken off if W
+
+  pub record Drawn (W : Type 0) (start now : Worker F) : Type 0 where
+    pub kept : Kept s start now
+    pub trail : Trails s W start now
+    pub looked : EndsLooked now
+    pub through : W → Whole now
+
+  drawn_on : (W : Type 0) (start a b : Worker F) → b.source ≡ a.source → b.seat ≡ a.seat → b.loads ≡ a.loads → b.pages.items ≡ a.pages.items → Drawn W start a → Drawn W start b
+  drawn_on W start a b source seat loads pages d = record {
+    kept = kept_on start a b source seat d.kept;
+    trail = trails_on W start a b source seat loads d.trail;
+    looked = looked_on a b seat pages d.looked;
+    through = λ w. whole_on a b seat pages (d.through w);
+  }
+
+  drawn_as : (V W : Type 0) (start now : Worker F) → (V → W) → Drawn W start now → Drawn V start now
+  drawn_as V W start now f d = record {
+    kept = d.kept;
+    trail = trail_as V W (asked_at start.seat) (asked_at now.seat) (trail_of s.loads start) (trail_of s.loads now) f d.trail;
+    looked = d.looked;
+    through = λ v. d.through (f v);
+  }
+
+  -- what holds of a result of the worker
+  pub record Came (start now : Worker F) (r : PageResult) : Type 0 where
+    pub value : IsOutcomeOf s.given s.reading r.page r.outcome
+    pub failed : IsErrOf r.outcome draw.SourceFault → FailedAt s.faults (r.page + 1) start now
+
+  failed_on : (page : ℕ) (start a b : Worker F) → b.source ≡ a.source → b.pages.items ≡ a.pages.items → FailedAt s.faults page start a → FailedAt s.faults page start b
+  failed_on page start a b source pages f = record {
+    rose = subst (λ (x : F). Rose (s.faults start.source) (s.faults x)) (sym source) f.rose;
+    number = f.number;
+    is = f.is;
+    drew = (f.drew.0, pages ∙ f.drew.1);
+  }
+
+  came_on : (start a b : Worker F) (r : PageResult) → b.source ≡ a.source → b.pages.items ≡ a.pages.items → Came start a r → Came start b r
+  came_on start a b r source pages c = record { value = c.value; failed = λ f. failed_on (r.page + 1) start a b source pages (c.failed f) }
+
+  -- ---- one page
+
+  whole_looked : (outcome : Result Bitmap PageStop) (w : Worker F) → IsWhole outcome → LooksTo outcome (finding s.given s.reading) (indexed_of s.given s.reading) s.given w.pages.items (keys_of w.seat) → Whole w
+  whole_looked (Ok page) w whole l = l
+  whole_looked (Err (draw.Fault fault at)) w whole l = l
+  whole_looked (Err draw.SourceFault) w whole l = absurd whole
+  whole_looked (Err draw.NoMemory) w whole l = absurd whole
 
   either_looked : (outcome : Result Bitmap PageStop) (w : Worker F) → LooksTo outcome (finding s.given s.reading) (indexed_of s.given s.reading) s.given w.pages.items (keys_of w.seat) → EndsLooked w
   either_looked (Ok page) w l = inl l
@@ -291,138 +253,152 @@ module _ {F : Type 0} (s : Site F) where
   either_looked (Err draw.SourceFault) w l = inr l
   either_looked (Err draw.NoMemory) w l = inr l
 
-  pub pending_ends : (page : ℕ) (start now : Worker F) → Pending s page start now → Ended s start now
-  pending_ends page start now p = record {
-    kept = p.kept;
-    trail = trail_as ⊥ (IsWhole p.outcome) (asked_at start.seat) (asked_at now.seat) (trail_of s.loads start) (trail_of s.loads now) (λ w. absurd w) p.trail;
-    looked = either_looked p.outcome now p.looked;
+  module _ (start : Worker F) (m : MayBegin s start) where
+    module _ (old new : Worker F) (r : PageResult) (st : Drawn (Unit {0}) start old) (d : DrewPage s.library s.faults s.loads s.bench (indexed_of s.given s.reading) s.given.sheet r old new) where
+      finds : IsOutcome (finding s.given s.reading) (indexed_of s.given s.reading) s.given.sheet r.page r.outcome (asked_at old.seat) (asked_at new.seat)
+      finds =
+          subst (λ (u : Option Units). IsOutcome (IsFontOf s.given.library u) (indexed_of s.given s.reading) s.given.sheet r.page r.outcome (asked_at old.seat) (asked_at new.seat)) (st.kept.units ∙ m.units)
+          (subst (λ (l : Option Files). IsOutcome (IsFontOf l (units_at old.seat)) (indexed_of s.given s.reading) s.given.sheet r.page r.outcome (asked_at old.seat) (asked_at new.seat))
+          (st.kept.library ∙ m.library) d.value)
+
+      looked_so : LooksTo r.outcome (finding s.given s.reading) (indexed_of s.given s.reading) s.given new.pages.items (keys_of new.seat)
+      looked_so =
+          let e = keys_are (s.library old.source) s.bench old.seat st.kept.fits in
+          let h = keys_are (s.library new.source) s.bench new.seat d.fits in
+          looks_to s.given s.reading r.page r.outcome old.seat new.seat old.pages.items new.pages.items e h finds (st.through tt) d.pages
+
+      page_drawn : Drawn (IsWhole r.outcome) start new
+      page_drawn = record {
+        kept = record {
+          fits = d.fits;
+          library = d.same_library ∙ st.kept.library;
+          units = d.same_units ∙ st.kept.units;
+          faults = omega (arith, st.kept.faults, d.cause.never_falls);
+        };
+        trail = trail_more (IsWhole r.outcome) (asked_at start.seat) (asked_at old.seat) (asked_at new.seat) (trail_of s.loads start) (trail_of s.loads old) (trail_of s.loads new) st.trail d.trail;
+        looked = either_looked r.outcome new looked_so;
+        through = λ whole. whole_looked r.outcome new whole looked_so;
+      }
+
+      page_came : Came start new r
+      page_came = record {
+        value = value_of s.given s.reading r.page r.outcome (asked_at old.seat) (asked_at new.seat) finds;
+        failed = λ failed. record {
+          rose = rose_later (s.faults start.source) (s.faults old.source) (s.faults new.source) st.kept.faults (d.cause.rose failed) d.cause.never_falls;
+          number = r.page;
+          is = refl;
+          drew = (old.pages.items, d.pages);
+        };
+      }
+
+    -- ---- some pages, one after another
+
+    abbrev Goes : List PageResult → Worker F → Worker F → Type 0
+    Goes rs old new = Drew s.library s.faults s.loads s.bench (indexed_of s.given s.reading) s.given.sheet rs old new
+
+    pub drawn_through : (rs : List PageResult) (old new : Worker F) → Drawn (Unit {0}) start old → Goes rs old new → BitmapsToLast rs
+        → Drawn (AreWhole rs) start new × ((r : PageResult) → Contains rs r → Came start new r)
+    drawn_through [] old new st d stopped = (
+      drawn_as (AreWhole []) (Unit {0}) start new (λ all. tt) (drawn_on (Unit {0}) start old new d.source d.seat d.loads d.pages st),
+      λ r h. let less : h.0 < 0 = h.1 in absurd (omega arith),
+    )
+    drawn_through (r ∷ rs) old new st d (inl last) =
+        let between = d.0 in
+        let rest : Rested between new = subst (λ (l : List PageResult). Goes l between new) last d.2 in
+        let here = page_drawn old between r st d.1 in (
+          drawn_as (AreWhole (r ∷ rs)) (IsWhole r.outcome) start new (λ all. all r (0, omega arith, refl)) (drawn_on (IsWhole r.outcome) start between new rest.source rest.seat rest.loads rest.pages here),
+          λ q h. elim (cons_cases r rs q h) [
+            | inl same ↦ subst (λ (x : PageResult). Came start new x) same (came_on start between new r rest.source rest.pages (page_came old between r st d.1))
+            | inr other ↦ let has : Contains [] q = subst (λ (l : List PageResult). Contains l q) last other in let less : has.0 < 0 = has.1 in absurd (omega arith)
+          ],
+        )
+    drawn_through (r ∷ rs) old new st d (inr more) =
+        let between = d.0 in
+        let whole = bitmap_whole r.outcome more.0 in
+        let here = drawn_as (Unit {0}) (IsWhole r.outcome) start between (λ u. whole) (page_drawn old between r st d.1) in
+        let rest = drawn_through rs between new here d.2 more.1 in (
+          drawn_as (AreWhole (r ∷ rs)) (AreWhole rs) start new (λ all q h. all q (Contains-append_right (r ∷ []) rs q h)) rest.0,
+          λ q h. elim (cons_cases r rs q h) [
+            | inl same ↦ subst (λ (x : PageResult). Came start new x) same (record { value = (page_came old between r st d.1).value; failed = λ failed. absurd (bitmap_sound r.outcome more.0 failed) })
+            | inr other ↦ rest.1 q other
+          ],
+        )
+
+    pub room_through : (rs : List PageResult) (old new : Worker F) → Goes rs old new → room_at old.loads old.seat ≤ room_at new.loads new.seat + length rs * 2 ^ 24
+    room_through [] old new d =
+        let same : room_at new.loads new.seat ≡ room_at old.loads old.seat = ap (λ (c : ℕ). room_at c new.seat) d.loads ∙ ap (room_at old.loads) d.seat in omega (arith, same)
+    room_through (r ∷ rs) old new d = let here = d.1.room in let rest = room_through rs d.0 new d.2 in omega (arith, here, rest)
+
+  -- ---- between rounds
+
+  -- none of the worker's pages was broken off if W; it has no result any more
+  pub record Stood (W : Type 0) (start now : Worker F) : Type 0 where
+    pub drawn : Drawn W start now
+    pub none : now.results.items ≡ []
+    pub counter : now.counter ≡ None
+
+  pub begins : (w : Worker F) → MayBegin s w → Stood (Unit {0}) w w
+  begins w m =
+      let whole : Whole w = subst (λ (ps : List ℕ). WholeLooks (finding s.given s.reading) (indexed_of s.given s.reading) s.given.sheet ps (keys_of w.seat)) (sym m.pages) m.keys in
+      record {
+        drawn = record {
+          kept = record { fits = m.fits; library = refl; units = refl; faults = omega arith };
+          trail = trail_none (Unit {0}) (asked_at w.seat) (trail_of s.loads w);
+          looked = inl whole;
+          through = λ u. whole;
+        };
+        none = m.none;
+        counter = m.counter;
+      }
+
+  pub stood_as : (V W : Type 0) (start now : Worker F) → (V → W) → Stood W start now → Stood V start now
+  stood_as V W start now f st = record { drawn = drawn_as V W start now f st.drawn; none = st.none; counter = st.counter }
+
+  pub stood_rest : (W : Type 0) (start old new : Worker F) → Rested old new → new.counter ≡ None → Stood W start old → Stood W start new
+  stood_rest W start old new r counter st = record {
+    drawn = drawn_on W start old new r.source r.seat r.loads r.pages st.drawn;
+    none = r.results ∙ st.none;
+    counter = counter;
   }
 
-  pub settled_ends : (start now : Worker F) → Settled s start now → Ended s start now
-  settled_ends start now p = record {
-    kept = p.kept;
-    trail = trail_as ⊥ (Unit {0}) (asked_at start.seat) (asked_at now.seat) (trail_of s.loads start) (trail_of s.loads now) (λ w. absurd w) p.trail;
-    looked = inl p.looked;
+  pub settles : (W : Type 0) (start now : Worker F) → W → Stood W start now → Settled s start now
+  settles W start now w st = record {
+    kept = st.drawn.kept;
+    none = st.none;
+    counter = st.counter;
+    trail = trail_as (Unit {0}) W (asked_at start.seat) (asked_at now.seat) (trail_of s.loads start) (trail_of s.loads now) (λ u. w) st.drawn.trail;
+    looked = st.drawn.through w;
   }
 
-  pub stands_ends : (n next from k : ℕ) (start now : Worker F) → Stands s n next from k start now → Ended s start now
-  stands_ends n next from k start now st =
-      elim (cases_lt (next + k) (from + n)) [
-        | inl low ↦ settled_ends start now (st.settled (inl low))
-        | inr high ↦ elim (cases_lt (next + k) (pages_begun s.reading + n)) [
-          | inl below ↦ pending_ends (next + k - n) start now (st.pending high below)
-          | inr above ↦ settled_ends start now (st.settled (inr above))
-        ]
-      ]
-
-  -- behind the last page
-  pub all_settled : (n next from k : ℕ) (start now : Worker F) → from ≡ pages_begun s.reading → Stands s n next from k start now → Settled s start now
-  all_settled n next from k start now last st =
-      st.settled (elim (cases_lt (next + k) (from + n)) [ inl low ↦ inl low | inr high ↦ inr (omega arith) ])
-
-  -- the end is that of a worker of which nothing but its results changes
-  pub ended_on : (start a b : Worker F) → b.source ≡ a.source → b.seat ≡ a.seat → b.loads ≡ a.loads → b.pages.items ≡ a.pages.items → Ended s start a → Ended s start b
-  ended_on start a b source seat loads pages e = record {
-    kept = kept_on start a b source seat e.kept;
-    trail = trails_on ⊥ start a b source seat loads e.trail;
-    looked = elim e.looked [
-      | inl w ↦ inl (subst (λ (ps : List ℕ). WholeLooks (finding s.given s.reading) (indexed_of s.given s.reading) s.given.sheet ps (keys_of b.seat)) (sym pages)
-          (subst (λ (o : Option SeatView). WholeLooks (finding s.given s.reading) (indexed_of s.given s.reading) s.given.sheet a.pages.items (keys_of o)) (sym seat) w))
-      | inr w ↦ inr (subst (λ (ps : List ℕ). BrokenLooks (finding s.given s.reading) (indexed_of s.given s.reading) s.given.sheet ps (keys_of b.seat)) (sym pages)
-          (subst (λ (o : Option SeatView). BrokenLooks (finding s.given s.reading) (indexed_of s.given s.reading) s.given.sheet a.pages.items (keys_of o)) (sym seat) w))
-    ];
+  pub ends : (W : Type 0) (start now : Worker F) → Stood W start now → Ended s start now
+  ends W start now st = record {
+    kept = st.drawn.kept;
+    none = st.none;
+    counter = st.counter;
+    trail = trail_as ⊥ W (asked_at start.seat) (asked_at now.seat) (trail_of s.loads start) (trail_of s.loads now) (λ w. absurd w) st.drawn.trail;
+    looked = st.drawn.looked;
   }
 
-  -- ---- why a page isn't written
+  -- a round more, whose results were taken out
+  module _ (start old mid new : Worker F) (m : MayBegin s start) (rs : List PageResult) (went : Goes start m rs old mid) (stopped : BitmapsToLast rs) (cleared : WasCleared mid new) where
+    pub stood_on : (W : Type 0) → W → new.counter ≡ None → Stood W start old → Stood (AreWhole rs) start new
+    stood_on W w counter st =
+        let before = drawn_as (Unit {0}) W start old (λ u. w) st.drawn in
+        let through = drawn_through start m rs old mid before went stopped in
+        record {
+          drawn = drawn_on (AreWhole rs) start mid new cleared.same.source cleared.same.seat cleared.same.loads cleared.same.pages through.0;
+          none = cleared.none;
+          counter = counter;
+        }
 
-  pub stops : (i : ℕ) (start now : Worker F) (counted : Bool) (before after : Option (List ℕ)) (OutputFails : Type 0) (why : WriteStop) → (p : Pending s i start now)
-      → WroteOutcome counted before after OutputFails p.outcome (Err why) → IsWriteStop before after OutputFails (Rose (s.faults start.source) (s.faults now.source)) (IsValueOf s.given s.reading i) (Unit {0}) why
-  stops i start now counted before after OutputFails why p wrote = why_stops counted before after OutputFails (Rose (s.faults start.source) (s.faults now.source)) s.given s.reading i p.outcome why p.value p.rose wrote
+    pub came_so : (W : Type 0) → W → Stood W start old → (r : PageResult) → Contains rs r → Came start new r
+    came_so W w st r h =
+        let before = drawn_as (Unit {0}) W start old (λ u. w) st.drawn in
+        let through = drawn_through start m rs old mid before went stopped in
+        came_on start mid new r cleared.same.source cleared.same.pages (through.1 r h)
 
-  pub wrote_page : (i : ℕ) (start now : Worker F) (counted : Bool) (before after : Option (List ℕ)) (OutputFails : Type 0) (done : ℕ) → (p : Pending s i start now)
-      → WroteOutcome counted before after OutputFails p.outcome (Ok done) → (page : Bitmap) × IsValueOf s.given s.reading i (Ok page) × Appends before after (page_text page) × (done ≡ black_of counted page)
-  wrote_page i start now counted before after OutputFails done p wrote = wrote_it counted before after OutputFails s.given s.reading i done p.outcome p.value wrote
-
-  -- ---- all workers
-
-  module _ (n i : ℕ) (some : 1 ≤ n) (xs : List (Worker F)) (ready : (k : ℕ) (d : Worker F) → k < n → MayBegin s (get_or xs k d)) where
-    -- all workers stand so
-    abbrev All : ℕ → ℕ → List (Worker F) → Type 0
-    All next from ws = (k : ℕ) (d : Worker F) → k < n → Stands s n next from k (get_or xs k d) (get_or ws k d)
-
-    pub after_begin : (next later : ℕ) (ws now : List (Worker F)) → i ≤ next → next ≤ i + n → All next i ws → (i < next → (later ≡ next) × (now ≡ ws))
-        → (next ≤ i → (later ≡ i + n) × ((k : ℕ) (d : Worker F) → k < n
-        → TookPart s.library s.faults s.loads s.bench (indexed_of s.given s.reading) s.given.sheet (i + k) (get_or ws k d) (get_or now k d)))
-        → (i < later) × (later ≤ i + n) × All later i now
-    after_begin next later ws now begun round all same drawn = elim (cases_lt i next) [
-      | inl lt ↦
-          let e = same lt in
-          let l : later ≡ next = e.0 in (
-            omega arith,
-            omega arith,
-            subst (λ (m : ℕ). All m i now) (sym e.0) (subst (λ (l : List (Worker F)). All next i l) (sym e.1) all),
-          )
-      | inr due ↦
-          let e = drawn due in
-          let l : later ≡ i + n = e.0 in (
-            omega arith,
-            omega arith,
-            subst (λ (m : ℕ). All m i now) (sym e.0) (λ k d lt. round_on n next i k (get_or xs k d) (get_or ws k d) (get_or now k d) due lt (ready k d lt) (all k d lt) (e.1 k d lt)),
-          )
-    ]
-
-    module _ (later j : ℕ) (now : List (Worker F)) (stand : All later i now) (at : later + j ≡ i + n) (below : i < pages_begun s.reading) (inside : j < n) (long : length now ≡ n) (r v : Worker F)
-        (counted : Bool) (before after : Option (List ℕ)) (OutputFails : Type 0) (same : SameBut (get_or now j r) v) where
-      pub pending_at : (d : Worker F) → Pending s i (get_or xs j d) (get_or now j d)
-      pending_at d = now_pending n later i j (get_or xs j d) (get_or now j d) at below (stand j d inside)
-
-      same_at : (d : Worker F) → SameBut (get_or now j d) v
-      same_at d = subst (λ (w : Worker F). SameBut w v) (same_default now j r d (omega arith)) same
-
-      pub after_write : (done : ℕ) → ((q : PageResult) → (get_or now j r).results.items ≡ q ∷ [] → WroteOutcome counted before after OutputFails q.outcome (Ok done)) → v.results.items ≡ []
-          → (k : ℕ) (d : Worker F) → k < n
-          → Stands s n later (i + 1) k (get_or xs k d) (get_or (set now j v) k d)
-      after_write done wrote none =
-          set_each (λ k a b. Stands s n later (i + 1) k a b) xs now n j v (omega arith)
-          (λ d. wrote_on n later i j (get_or xs j d) (get_or now j d) v counted before after OutputFails done at below (stand j d inside) (pending_at d)
-          (wrote (record { page = i; outcome = (pending_at d).outcome })
-          (subst (λ (w : Worker F). w.results.items ≡ record { page = i; outcome = (pending_at d).outcome } ∷ []) (same_default now j d r (omega arith)) (pending_at d).result)) (same_at d) none)
-          (λ k d other lt. other_on n later i k j (get_or xs k d) (get_or now k d) at other (stand k d lt))
-
-      pub after_stop : (k : ℕ) (d : Worker F) → k < n → Ended s (get_or xs k d) (get_or (set now j v) k d)
-      after_stop =
-          set_each (λ k a b. Ended s a b) xs now n j v (omega arith)
-          (λ d. let b = same_at d in ended_on (get_or xs j d) (get_or now j d) v b.source b.seat b.loads b.pages (pending_ends i (get_or xs j d) (get_or now j d) (pending_at d)))
-          (λ k d other lt. stands_ends n later i k (get_or xs k d) (get_or now k d) (stand k d lt))
-
-      -- where there is one worker, and nothing was broken off
-      pub after_whole : (why : WriteStop) → ((q : PageResult) → (get_or now j r).results.items ≡ q ∷ [] → WroteOutcome counted before after OutputFails q.outcome (Err why)) → v.results.items ≡ [] → n ≡ 1
-          → IsUnbroken (ending_at (i + 1) why) → (k : ℕ) (d : Worker F) → k < n → Settled s (get_or xs k d) (get_or (set now j v) k d)
-      after_whole why wrote none one unbroken k d lt =
-          let here : k ≡ j = omega arith in
-          let p = pending_at d in
-          let q = subst (λ (w : Worker F). w.results.items ≡ record { page = i; outcome = p.outcome } ∷ []) (same_default now j d r (omega arith)) p.result in
-          let whole = whole_outcome counted before after OutputFails (i + 1) p.outcome why (wrote (record { page = i; outcome = p.outcome }) q) unbroken in
-          subst (λ (m : ℕ). Settled s (get_or xs m d) (get_or (set now j v) m d)) (sym here)
-          (subst (λ (w : Worker F). Settled s (get_or xs j d) w) (sym (get_or-set_same now j v d (omega arith)))
-          (settled_on i (get_or xs j d) (get_or now j d) v p whole (same_at d) none))
-
-      pub caused : (why : WriteStop) (page : ℕ) → ((q : PageResult) → (get_or now j r).results.items ≡ q ∷ [] → WroteOutcome counted before after OutputFails q.outcome (Err why)) → ending_at (i + 1) why ≡ Source page
-          → (m : ℕ) × (m < n) × ((d : Worker F) → FailedAt s.faults page (get_or xs m d) (get_or (set now j v) m d))
-      caused why page wrote e = (
-        j,
-        inside,
-        λ d.
-            let p = pending_at d in
-            let q = subst (λ (w : Worker F). w.results.items ≡ record { page = i; outcome = p.outcome } ∷ []) (same_default now j d r (omega arith)) p.result in
-            let f = source_failed counted before after OutputFails page i p.outcome why (wrote (record { page = i; outcome = p.outcome }) q) e in
-            let same = same_at d in
-            let here : get_or (set now j v) j d ≡ v = get_or-set_same now j v d (omega arith) in
-            subst (λ (w : Worker F). FailedAt s.faults page (get_or xs j d) w) (sym here) (record {
-              rose = subst (λ (x : F). Rose (s.faults (get_or xs j d).source) (s.faults x)) (sym same.source)
-                  (p.rose (subst (λ (o : Result Bitmap PageStop). IsErrOf o draw.SourceFault) (sym f.0) refl));
-              number = i;
-              is = f.1;
-              drew = (p.drew.0, same.pages ∙ p.drew.1);
-            }),
-      )
+    pub room_so : room_at old.loads old.seat ≤ room_at new.loads new.seat + length rs * 2 ^ 24
+    room_so =
+        let mid_room = room_through start m rs old mid went in
+        let same : room_at new.loads new.seat ≡ room_at mid.loads mid.seat = ap (λ (c : ℕ). room_at c new.seat) cleared.same.loads ∙ ap (room_at mid.loads) cleared.same.seat in
+        omega (arith, mid_room, same)

@@ -28,6 +28,7 @@ use Rattle.dvi_run.specs.declared.tally.Tally.{Tally}
 use Rattle.dvi_run.specs.Rounds.{FailedAt, IsFresh, Ran}
 use Rattle.dvi_run.proofs.Clauses.{AtPage, at_page, ends_late}
 use Rattle.page_workers.specs.Seating.{IsUnused}
+use Rattle.dvi_run.proofs.Shares.{none_shared, shared_as}
 use Rattle.dvi_run.specs.Together.{Answered, AreDone, DrewPages, DrewTogether, EachUsed, IsDrawnThroughBy, IsOneHistory, IsReady, RestIsKept, SomeUsed, SourceRose, Worked}
 
 -- ---- whose source failed
@@ -153,6 +154,7 @@ module _ {F : Type 0} (library : F → Option Files) (faults loads : F → ℕ) 
   worked = record {
     seat = ran.seat;
     none = ran.none;
+    counter = ran.counter;
     tells = ran.tells;
     count = ran.faults_rose;
     keys = ran.keys;
@@ -214,7 +216,7 @@ module _ {F : Type 0} (library : F → Option Files) (faults loads : F → ℕ) 
     failed = drew.failed;
     one = drew.one;
     worked = λ k d lt. worked library faults loads g reading n e history k (get_or before k d) (get_or after k d) (drew.ran k d lt);
-    shares = (pages_begun reading, drew.shares.drew);
+    shares = (drew.shares.drawn, drew.shares.shares);
     rest = rest;
   }
 
@@ -248,7 +250,7 @@ ended_at faults told settings e tally left old new notes_old notes_new notes_bef
 
 -- a worker as it was made is ready for a run that is told no library
 pub ready_untold : {F : Type 0} (library : F → Option Files) (w : Worker F) → IsUnused w → IsReady library None w
-ready_untold library w unused = record { fresh = record { tells = tt; none = unused.none; loads = unused.loads; pages = unused.pages }; seat = unused.seat }
+ready_untold library w unused = record { fresh = record { tells = tt; none = unused.none; counter = unused.counter; loads = unused.loads; pages = unused.pages }; seat = unused.seat }
 
 -- what is so of each element of a list, and of one more that is added, is so of all then
 pub more_each : {A : Type 0} (P : A → Type 0) (n : ℕ) (xs : List A) (x : A) → length xs ≡ n → P x → ((k : ℕ) (d : A) → k < n → P (get_or xs k d)) → (k : ℕ) (d : A) → k < n + 1 → P (get_or (xs ++ x ∷ []) k d)
@@ -277,6 +279,7 @@ idle_worked : {F : Type 0} (library : F → Option Files) (faults loads : F → 
 idle_worked library faults loads told sample n status k w ready = record {
   seat = ready.seat;
   none = ready.fresh.none;
+  counter = ready.fresh.counter;
   tells = ready.fresh.tells;
   count = omega arith;
   keys = [];
@@ -297,7 +300,7 @@ idle_done library faults loads told sample capacity n status e history ws ready 
       failed = λ page is. absurd (not_source e idle page is);
       one = record { legal = refl; made = tt; none_of_first = refl; few_claims = λ k. omega arith; kept = λ is. tt; idle = λ among. refl };
       worked = λ k d lt. idle_worked library faults loads told sample n status k (get_or ws k d) (ready k d lt);
-      shares = (0, record { rounds = 0; shared = λ k d lt. (ready k d lt).fresh.pages });
+      shares = (0, λ d. none_shared n (λ k. (get_or ws k d).pages.items) (λ k lt. (ready k d lt).fresh.pages));
       rest = λ k d le. refl;
     })
 
@@ -324,8 +327,11 @@ module _ {F : Type 0} (library : F → Option Files) (faults loads : F → ℕ) 
         let f = d.failed page at in
         (f.0, f.1, λ w. subst (λ (x : Worker F). FailedAt faults page x (get_or (front ++ rest) f.0 w)) (was f.0 w f.1) (subst (λ (x : Worker F). FailedAt faults page (get_or (take n before) f.0 w) x) (is f.0 w f.1) (f.2 w)));
     shares = record {
-      drew = record { rounds = d.shares.drew.rounds; shared = λ k w lt. sym (ap (λ (x : Worker F). x.pages.items) (is k w lt)) ∙ d.shares.drew.shared k w lt };
-      begun = d.shares.begun;
+      drawn = d.shares.drawn;
+      few = d.shares.few;
+      shares = λ w. shared_as d.shares.drawn n (λ k. (get_or front k w).pages.items) (λ k. (get_or (front ++ rest) k w).pages.items) (λ k lt. sym (ap (λ (x : Worker F). x.pages.items) (is k w lt))) (d.shares.shares w);
+      reach = d.shares.reach;
+      written = d.shares.written;
     };
     one = d.one;
     ran = λ k w lt.

@@ -13,7 +13,7 @@ use Rattle.page_draw.specs.Values.{PageValue, PlacedFault}
 use Rattle.pbm_output.specs.Pbm.{page_text}
 use Rattle.sample_maker.specs.Sample.{sample_document}
 use Rattle.dvi_run.specs.Reading.{read_of}
-use Rattle.dvi_run.specs.Shares.{EachPageHasOneWorker}
+use Rattle.dvi_run.specs.Shares.{AreShared, EachPageIsDrawnOnce}
 use Rattle.dvi_run.specs.Endings.{OfRun, Stopped, Wrote}
 use Rattle.dvi_run.specs.Pages.{FailingPage, Given, IsRun, IsWholeRun, failing_page, run_fault, run_text}
 
@@ -103,6 +103,6 @@ SamplesAreReadWhole = (pages : ℕ) → pages ≤ 1000
 
 -- ---- workers
 
--- the pages that some workers draw in some rounds are the first pages, and each is drawn by one worker, once
+-- pages that workers share are the numbers from 0 to one less than their count, each once
 abbrev pub PagesAreShared : Type 0
-PagesAreShared = (total n rounds page : ℕ) → EachPageHasOneWorker total n rounds page
+PagesAreShared = (total n : ℕ) (pages : ℕ → List ℕ) → AreShared total n pages → EachPageIsDrawnOnce total n pages

@@ -10,6 +10,7 @@ pub mod Names
 pub mod Laws
 pub mod Looked
 pub mod Rounds
+pub mod Stacks
 pub mod Shares
 pub mod Tally
 pub mod Report

@@ -57,13 +57,6 @@ IsOutcomeOf g reading i (Err (draw.Fault fault at)) = IsValueOf g reading i (fau
 IsOutcomeOf g reading i (Err draw.SourceFault) = Unit {0}
 IsOutcomeOf g reading i (Err draw.NoMemory) = Unit {0}
 
--- the keys that were looked up for these pages, of which the last had this outcome
-abbrev pub LooksTo : Result Bitmap PageStop → Finding → Indexed → Given → List ℕ → List FontKey → Type 0
-LooksTo (Ok page) Finds indexed g pages keys = WholeLooks Finds indexed g.sheet pages keys
-LooksTo (Err (draw.Fault fault at)) Finds indexed g pages keys = WholeLooks Finds indexed g.sheet pages keys
-LooksTo (Err draw.SourceFault) Finds indexed g pages keys = BrokenLooks Finds indexed g.sheet pages keys
-LooksTo (Err draw.NoMemory) Finds indexed g pages keys = BrokenLooks Finds indexed g.sheet pages keys
-
 module _ {F : Type 0} (s : Site F) where
   -- what holds of a worker throughout
   pub record Kept (start now : Worker F) : Type 0 where
@@ -79,29 +72,15 @@ module _ {F : Type 0} (s : Site F) where
   pub record Settled (start now : Worker F) : Type 0 where
     pub kept : Kept start now
     pub none : now.results.items ≡ []
+    pub counter : now.counter ≡ None
     pub trail : Trails (Unit {0}) start now
     pub looked : WholeLooks (finding s.given s.reading) (indexed_of s.given s.reading) s.given.sheet now.pages.items (keys_of now.seat)
-
-  -- the worker has the result of this page, and each page before it had a bitmap
-  pub record Pending (page : ℕ) (start now : Worker F) : Type 0 where
-    pub kept : Kept start now
-    pub outcome : Result Bitmap PageStop
-    pub result : now.results.items ≡ record { page = page; outcome = outcome } ∷ []
-    pub drew : (before : List ℕ) × (now.pages.items ≡ before ++ page ∷ [])
-    pub value : IsOutcomeOf s.given s.reading page outcome
-    pub rose : IsErrOf outcome draw.SourceFault → Rose (s.faults start.source) (s.faults now.source)
-    pub trail : Trails (IsWhole outcome) start now
-    pub looked : LooksTo outcome (finding s.given s.reading) (indexed_of s.given s.reading) s.given now.pages.items (keys_of now.seat)
-
-  -- worker k of n, where the rounds before page `next` were begun, and the pages before page `from` were written
-  pub record Stands (n next from k : ℕ) (start now : Worker F) : Type 0 where
-    pub room : room_at start.loads start.seat ≤ room_at now.loads now.seat + next * 2 ^ 24
-    pub pending : from + n ≤ next + k → next + k < pages_begun s.reading + n → Pending (next + k - n) start now
-    pub settled : (next + k < from + n) ⊎ (pages_begun s.reading + n ≤ next + k) → Settled start now
 
   -- what is so of a worker when the rounds are over
   pub record Ended (start now : Worker F) : Type 0 where
     pub kept : Kept start now
+    pub none : now.results.items ≡ []
+    pub counter : now.counter ≡ None
     pub trail : Trails ⊥ start now
     pub looked : WholeLooks (finding s.given s.reading) (indexed_of s.given s.reading) s.given.sheet now.pages.items (keys_of now.seat)
         ⊎ BrokenLooks (finding s.given s.reading) (indexed_of s.given s.reading) s.given.sheet now.pages.items (keys_of now.seat)
@@ -112,6 +91,7 @@ pub record MayBegin {F : Type 0} (s : Site F) (w : Worker F) : Type 0 where
   pub library : library_at w.seat ≡ s.given.library
   pub units : units_at w.seat ≡ document_units s.given.res s.reading
   pub none : w.results.items ≡ []
+  pub counter : w.counter ≡ None
   pub pages : w.pages.items ≡ []
   pub keys : keys_of w.seat ≡ []
   pub room : 1000000 * 2 ^ 24 ≤ room_at w.loads w.seat
@@ -136,6 +116,7 @@ pub record SameBut {F : Type 0} (before after : Worker F) : Type 0 where
   pub seat : after.seat ≡ before.seat
   pub loads : after.loads ≡ before.loads
   pub pages : after.pages.items ≡ before.pages.items
+  pub counter : after.counter ≡ before.counter
 
 -- and it has no result any more
 pub record WasCleared {F : Type 0} (before after : Worker F) : Type 0 where
@@ -155,6 +136,7 @@ pub record FailedAt {F : Type 0} (faults : F → ℕ) (page : ℕ) (start now : 
 pub record IsFresh {F : Type 0} (library : F → Option Files) (told : Option Files) (w : Worker F) : Type 0 where
   pub tells : IfSome told (λ l. library w.source ≡ Some l)
   pub none : w.results.items ≡ []
+  pub counter : w.counter ≡ None
   pub loads : w.loads ≡ 0
   pub pages : w.pages.items ≡ []
 
@@ -165,6 +147,7 @@ pub record IsFresh {F : Type 0} (library : F → Option Files) (told : Option Fi
 pub record Ran {F : Type 0} (Whole : Type 0) (library : F → Option Files) (faults loads : F → ℕ) (g : Given) (reading : Reading) (history : List Call) (number : ℕ) (before after : Worker F) : Type 0 where
   pub seat : after.seat ≡ None
   pub none : after.results.items ≡ []
+  pub counter : after.counter ≡ None
   pub tells : IfSome g.library (λ l. library after.source ≡ Some l)
   pub faults_rose : faults before.source ≤ faults after.source
   pub keys : List FontKey

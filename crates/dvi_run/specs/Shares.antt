@@ -1,50 +1,66 @@
--- Which pages each of some workers draws, round by round.
-use Rattle.std.specs.Prelude.{◌≡◌, ◌⊎◌, ℕ, zero, suc, ◌+◌, ◌*◌, ◌<◌, ◌≤◌, ◌++◌, ◌==◌, Bool, true, false, List, [], ◌∷◌, nat_lt, count_by, slice_index_or}
+-- Which pages each of some workers draws.
+use Rattle.std.specs.Prelude.{◌≡◌, ℕ, zero, suc, ◌+◌, ◌*◌, ◌/◌, ◌<◌, ◌≤◌, ◌++◌, ◌==◌, List, [], Contains, IfSome, Option, cond, count_by, length, nat_lt, slice_index_or}
+use Rattle.std.specs.List.Sorted.{IsStrictlyIncreasing}
 use Rattle.page_workers.specs.declared.worker.Worker.{Worker}
 use Rattle.dvi_run.specs.Endings.{EndingSeen, Written, Page, Source, Output, Notes}
+use Rattle.dvi_run.specs.declared.tally.Tally.{Tally}
 
--- the page with this number, from 0, where there is one
-abbrev pub if_there : Bool → ℕ → List ℕ
-if_there true page = page ∷ []
-if_there false page = []
+-- lists of pages, one for each of n workers, have the numbers below `total` together, each once
+pub record AreShared (total n : ℕ) (pages : ℕ → List ℕ) : Type 0 where
+  -- those of a worker rise, so that it has none twice
+  pub rising : (k : ℕ) → k < n → IsStrictlyIncreasing (pages k)
+  pub inside : (k page : ℕ) → k < n → Contains (pages k) page → page < total
+  -- and no two workers have the same one
+  pub shared : (page : ℕ) → page < total → (k : ℕ) × (k < n) × Contains (pages k) page
+      × ((j : ℕ) → j < n → Contains (pages j) page → j ≡ k)
 
--- the pages of worker k of n, both from 0, in so many rounds over a document of `total` pages: k, k + n,
--- k + 2n and so on
-abbrev pub share_of : (total n k rounds : ℕ) → List ℕ
-share_of total n k zero = []
-share_of total n k (suc r) = share_of total n k r ++ if_there (nat_lt (k + r * n) total) (k + r * n)
+-- n workers drew so many pages, counted from 0, each page once and by one of them, which drew its own in rising order
+abbrev pub AreShares : {F : Type 0} (total n : ℕ) (workers : List (Worker F)) → Type 0
+AreShares {F} total n workers = (d : Worker F) → AreShared total n (λ k. (slice_index_or workers k d).pages.items)
 
--- each of these n workers drew its share of some rounds, the same for all
-pub record AreShares {F : Type 0} (total n : ℕ) (workers : List (Worker F)) : Type 0 where
-  pub rounds : ℕ
-  pub shared : (k : ℕ) (d : Worker F) → k < n → (slice_index_or workers k d).pages.items ≡ share_of total n k rounds
+-- Pages are drawn in rounds: of one page where there is one worker, and else of 32. With which page the round of a
+-- page ends, both counted from 1, where the document is so long
+abbrev pub round_end : (n page : ℕ) → ℕ
+round_end n page = cond (nat_lt 1 n) ((page + 31) / 32 * 32) page
 
--- so many rounds of n pages were begun in a run that ended so: the last one has the page named, or where all were written the last of
--- all, both counted from 1
-abbrev pub AreBegun : (total n rounds : ℕ) → EndingSeen → Type 0
-AreBegun total n rounds Written = (total ≤ rounds * n) × (rounds * n < total + n)
-AreBegun total n rounds (Page page) = (page.page ≤ rounds * n) × (rounds * n < page.page + n)
-AreBegun total n rounds (Source page) = (page ≤ rounds * n) × (rounds * n < page + n)
-AreBegun total n rounds (Output page) = (page ≤ rounds * n) × (rounds * n < page + n)
-AreBegun total n rounds Notes = (total ≤ rounds * n) × (rounds * n < total + n)
-AreBegun total n rounds _ = Unit {0}
+-- and the next round, which several workers draw while the pages of this one are written
+abbrev pub next_end : (n page : ℕ) → ℕ
+next_end n page = cond (nat_lt 1 n) ((page + 31) / 32 * 32 + 32) page
 
--- and each of the n workers drew its share of these rounds
-pub record DrewShares {F : Type 0} (total n : ℕ) (e : EndingSeen) (workers : List (Worker F)) : Type 0 where
-  pub drew : AreShares total n workers
-  pub begun : AreBegun total n drew.rounds e
+-- So many pages of a document were drawn in a run that ended so: all of them where all were written. Else the page named is one of
+-- them, and they are none after its round, nor where its write failed after the next one.
+abbrev pub ReachTo : (pages n drawn : ℕ) → EndingSeen → Type 0
+ReachTo pages n drawn Written = drawn ≡ pages
+ReachTo pages n drawn (Page page) = (page.page ≤ drawn) × (drawn ≤ round_end n page.page)
+ReachTo pages n drawn (Source page) = (page ≤ drawn) × (drawn ≤ round_end n page)
+ReachTo pages n drawn (Output page) = (page ≤ drawn) × (drawn ≤ next_end n page)
+ReachTo pages n drawn Notes = drawn ≡ pages
+ReachTo pages n drawn _ = Unit {0}
 
--- the shares of the first k workers, one after another
-abbrev pub shares_of : (total n rounds k : ℕ) → List ℕ
-shares_of total n rounds zero = []
-shares_of total n rounds (suc k) = shares_of total n rounds k ++ share_of total n k rounds
+-- what n workers drew of a document in a run that ended so, and wrote so many pages
+pub record DrewShares {F : Type 0} (pages n : ℕ) (e : EndingSeen) (tally : Option Tally)
+    (workers : List (Worker F)) : Type 0 where
+  -- how many pages
+  pub drawn : ℕ
+  pub few : drawn ≤ pages
+  pub shares : AreShares drawn n workers
+  pub reach : ReachTo pages n drawn e
+  -- those that were written are among them
+  pub written : IfSome tally (λ t. t.pages ≤ drawn)
 
--- how often a page is in the shares of the first k workers
-abbrev pub times_drawn : (total n rounds k page : ℕ) → ℕ
-times_drawn total n rounds k page = count_by (λ p. p == page) (shares_of total n rounds k)
+-- ---- how often
 
--- The shares of all workers together have each of the first pages once, as many as there are and the rounds
--- come to, and no other.
-pub record EachPageHasOneWorker (total n rounds page : ℕ) : Type 0 where
-  pub once : page < rounds * n → page < total → times_drawn total n rounds n page ≡ 1
-  pub never : (rounds * n ≤ page) ⊎ (total ≤ page) → times_drawn total n rounds n page ≡ 0
+-- the lists of the first k workers, one after another
+abbrev pub joined : (k : ℕ) (pages : ℕ → List ℕ) → List ℕ
+joined zero pages = []
+joined (suc k) pages = joined k pages ++ pages k
+
+-- how often a page is in them
+abbrev pub times_drawn : (k : ℕ) (pages : ℕ → List ℕ) (page : ℕ) → ℕ
+times_drawn k pages page = count_by (λ p. p == page) (joined k pages)
+
+-- all lists together have each of the first pages once, as many as there are numbers in them, and no other
+pub record EachPageIsDrawnOnce (total n : ℕ) (pages : ℕ → List ℕ) : Type 0 where
+  pub count : length (joined n pages) ≡ total
+  pub once : (page : ℕ) → page < total → times_drawn n pages page ≡ 1
+  pub never : (page : ℕ) → total ≤ page → times_drawn n pages page ≡ 0

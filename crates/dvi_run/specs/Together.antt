@@ -74,6 +74,7 @@ pub record Worked {F : Type 0} (library : F → Option Files) (faults loads : F 
   -- it has neither a seat nor a result any more
   pub seat : after.seat ≡ None
   pub none : after.results.items ≡ []
+  pub counter : after.counter ≡ None
   -- its source tells what the run was told, and its count of faults didn't fall
   pub tells : IfSome told (λ l. library after.source ≡ Some l)
   pub count : faults before.source ≤ faults after.source
@@ -100,13 +101,14 @@ module _ {F : Type 0} (g : Given) (reading : Reading) where
 
 -- What was drawn of these bytes in a run that ended so: nothing where no cache was made. Else they are a document, whose pages have the
 -- values that say what was written, each font being what the library has for its key; the used workers drew its first pages, each page
--- once, to the end of the round of the page named; the calls of each answer what its pages looked up; and the tally is that of the pages
+-- once, among them all that were written and the one named, and none that is not of its round, or of the next one where its write
+-- failed; the calls of each answer what its pages looked up; and the tally is that of the pages
 -- written whole, with their black pixels where they were counted.
 abbrev pub DrewTogether : {F : Type 0} → Given → (counted : Bool) → (old new : Option (List ℕ)) → (capacity n status : ℕ) → EndingSeen → Option Tally → List Call → (before after : List (Worker F)) → List ℕ → Type 0
 DrewTogether g counted old new capacity n status e tally history before after bytes =
     (IsIdle e × (tally ≡ None) × (history ≡ []) × (after ≡ before))
     ⊎ OfRun g bytes (λ reading values. EndsPages old new (Unit {0}) (Unit {0}) e reading values × Tallied counted old new tally e values
-    × DrewShares (pages_begun reading) n e after × EachUsed n before after (λ k _ now. Answered g reading capacity n status history k now))
+    × DrewShares (pages_begun reading) n e tally after × EachUsed n before after (λ k _ now. Answered g reading capacity n status history k now))
 
 -- ---- the parts of a run
 
@@ -114,7 +116,7 @@ DrewTogether g counted old new capacity n status e tally history before after by
 pub record DrewPages {F : Type 0} (library : F → Option Files) (faults loads : F → ℕ) (g : Given) (counted : Bool) (reading : Reading) (capacity n : ℕ) (old new : Option (List ℕ)) (OutputFailed : Type 0) (e : EndingSeen) (tally : Option Tally) (history : List Call) (before after : List (Worker F)) : Type 0 where
   pub ends : (values : List PageValue) × AreValues g reading values × EndsPages old new OutputFailed (Unit {0}) e reading values × Tallied counted old new tally e values
   pub failed : (page : ℕ) → e ≡ Source page → SomeUsed n before after (FailedAt faults page)
-  pub shares : DrewShares (pages_begun reading) n e after
+  pub shares : DrewShares (pages_begun reading) n e tally after
   pub one : IsOneHistory capacity n (status_of e) history
   pub ran : EachUsed n before after (λ k was now. Ran (IsDrawnThrough n e) library faults loads g reading history (k + 1) was now)
 

@@ -36,7 +36,8 @@ pub fn whole_runs()
     page_draw::laws::values();
 }
 
-/// Workers that draw in rounds, one page each, draw the first pages, and each page is drawn by one worker.
+/// Pages that workers share, as `run_with` leaves them, are together the numbers from 0 to one less than their
+/// count, and each is there once.
 pub fn shares()
     ensures { PagesAreShared }
 {}

@@ -6,7 +6,7 @@
 #![tactic(auto)]
 
 mod at_once;
-mod clearing;
+mod collecting;
 mod ending;
 mod handing;
 pub mod laws;

@@ -1,9 +1,16 @@
-//! Why a page is not written, and how the run then ends.
-ghost use Rattle.std.specs.Prelude.{◌≡◌, ◌<◌, ◌+◌};
+//! Pages that are written, and how the run ends where one isn't.
+ghost use Rattle.std.specs.Prelude.{◌≡◌, ◌<◌, ◌≤◌, ◌+◌, ◌*◌, All, IfErr, IfOk, OnOk, length, reverse};
+ghost use Rattle.outside.specs.Counts.{Rose};
 ghost use Rattle.dvi_run.specs.Endings.{ending_at, seen_ending};
+ghost use Rattle.dvi_run.specs.Rounds.{WroteOutcome};
+ghost use Rattle.dvi_run.specs.Stacks.{HasFewDots, WroteUpTo, WroteWhole};
 
 use crate::ending::Ending;
+use crate::tally::Tally;
+use outside::Output;
 use page_draw::PageStop;
+use page_workers::PageResult;
+use pbm_output::{WriteFault, write_page};
 
 /// Why a page was not written.
 #[derive(Drop)]
@@ -26,4 +33,45 @@ pub(crate) fn stopped(i: usize, stop: WriteStop) -> Ending
         WriteStop::Draw(PageStop::NoMemory) => Ending::Memory,
         WriteStop::Output => Ending::Output(page),
     }
+}
+
+// Writes a page, which is then dropped, and answers how many of its pixels are black, where they are counted.
+fn write_one<O: Output>(drawn: PageResult, out: &mut O, counted: bool) -> Result<u64, WriteStop>
+    ensures wrote { WroteOutcome counted (O.written out.old) (O.written out.new)
+        (Rose (O.faults out.old) (O.faults out.new)) drawn.outcome result }
+    ensures output { O.faults out.old ≤ O.faults out.new }
+{
+    let page = match drawn.outcome {
+        Ok(page) => page,
+        Err(stop) => return Err(WriteStop::Draw(stop)),
+    };
+    match write_page(out, &page) {
+        Ok(()) => Ok(if counted { page.count() } else { 0 }),
+        Err(WriteFault) => Err(WriteStop::Output),
+    }
+}
+
+/// Writes the pages of a stack from its top on, up to the first that can't be, and drops each as soon as it is
+/// written. The tally grows by those written whole, with their black pixels where they are counted.
+pub fn write_stack<O: Output>(
+    stack: &mut Vec<PageResult>,
+    out: &mut O,
+    tally: &mut Tally,
+    counted: bool,
+) -> Result<(), WriteStop>
+    requires dots { All HasFewDots stack.old.items }
+    requires few { tally.old.pages + length stack.old.items ≤ 1000000 }
+    requires black { tally.old.black ≤ tally.old.pages * (20000 * 20000) }
+    ensures written { OnOk result (WroteWhole counted (O.written out.old) (O.written out.new)
+        (reverse stack.old.items) tally.old tally.new) }
+    ensures stopped { IfErr result (λ why. WroteUpTo counted (O.written out.old) (O.written out.new)
+        (Rose (O.faults out.old) (O.faults out.new)) (reverse stack.old.items) tally.old tally.new why) }
+    ensures black { tally.new.black ≤ tally.new.pages * (20000 * 20000) }
+    ensures output { O.faults out.old ≤ O.faults out.new }
+{
+    while let Some(drawn) = stack.pop() {
+        tally.black += write_one(drawn, out, counted)?;
+        tally.pages += 1;
+    }
+    Ok(())
 }

@@ -1,92 +1,168 @@
-//! Draws the pages of a document in rounds of as many as there are workers, and writes them in their order.
-ghost use Rattle.std.specs.Prelude.{Bool, ◌≡◌, ◌+◌, ◌<◌, ◌≤◌, ◌∷◌, [], ℕ, List, Option, Ok, Some, IfOk, OnErr, IsErrOf, length, slice_index_or};
+//! Draws the pages of a document in rounds, and writes them in their order.
+ghost use Rattle.std.specs.Prelude.{◌≡◌, ◌↔◌, ℕ, ◌+◌, ◌*◌, ◌<◌, ◌≤◌, List, Option, Some, All, IfErr, IfOk, IsTrue, OnErr, OnOk, length, reverse, slice_index_or};
 ghost use Rattle.outside.specs.Counts.{Rose};
 ghost use Rattle.outside.specs.Library.{Files};
 ghost use Rattle.page_index.specs.Document.{pages_begun};
 ghost use Rattle.page_index.specs.Pages.{document_units};
 ghost use Rattle.page_draw.specs.Sheets.{IsDrawable};
 ghost use Rattle.page_draw.specs.Values.{PageValue};
-ghost use Rattle.page_workers.specs.Rounds.{MayDraw, Rested, TookPart};
+ghost use Rattle.page_workers.specs.Rounds.{HasBitmap};
 ghost use Rattle.dvi_run.specs.Pages.{AreValues};
 ghost use Rattle.dvi_run.specs.Endings.{EndsPages, Source, seen_ending};
 ghost use Rattle.dvi_run.specs.Looked.{IsDrawnThrough};
 ghost use Rattle.dvi_run.specs.Shares.{DrewShares};
+ghost use Rattle.dvi_run.specs.Stacks.{AllRested, DrewStack, HasFewDots, MayDrawRound, NoCounters, StoppedAhead, WroteUpTo, WroteWhole};
 ghost use Rattle.dvi_run.specs.Tally.{IsTally};
-ghost use Rattle.dvi_run.specs.Rounds.{Ended, FailedAt, MayBegin, SameBut, Settled, WroteOutcome, site};
+ghost use Rattle.dvi_run.specs.Rounds.{Ended, FailedAt, MayBegin, Settled, site};
 
+use crate::collecting::collect;
 use crate::ending::Ending;
-use crate::pages::{WriteStop, stopped};
+use crate::pages::{WriteStop, stopped, write_stack};
 use crate::tally::Tally;
 use outside::{FontSource, Output};
-use page_draw::Sheet;
+use page_draw::{PageStop, Sheet};
 use page_index::Index;
 use page_workers::{Bench, PageResult, Worker, draw_round};
-use pbm_output::{WriteFault, write_page};
 use std::alloc::{AllocError as NoMemory, Global};
 use std::sync::Wait;
+use std::thread;
 use std::thread::Threads;
 
-// Writes the one result of a worker, which is then dropped, and answers how many of its pixels are black, where they
-// are counted.
-fn write_result<F: FontSource, O: Output>(
-    worker: &mut Worker<F>,
-    out: &mut O,
-    counted: bool,
-) -> Result<u64, WriteStop>
-    requires one { (r : PageResult) × (worker.old.results.items ≡ r ∷ []) }
-    ensures same { SameBut worker.old worker.new }
-    ensures none { worker.new.results.items ≡ [] }
-    ensures wrote { (r : PageResult) → worker.old.results.items ≡ r ∷ []
-        → WroteOutcome counted (O.written out.old) (O.written out.new) (Rose (O.faults out.old) (O.faults out.new)) r.outcome result }
-    ensures output { O.faults out.old ≤ O.faults out.new }
+/// How many pages a round of several workers has.
+const ROUND: usize = 32;
+
+// How many pages a round has: one where there is one worker, whose pages are written as soon as they are drawn.
+fn round_size(workers: usize) -> usize
+    ensures alone { workers ≡ 1 → result ≡ 1 }
+    ensures several { 2 ≤ workers → result ≡ 32 }
+    ensures some { 1 ≤ result }
+    ensures few { result ≤ 32 }
 {
-    let Some(PageResult { page: _, outcome }) = worker.results.pop() else {
-        unreachable!()
-    };
-    let page = match outcome {
-        Ok(page) => page,
-        Err(stop) => return Err(WriteStop::Draw(stop)),
-    };
-    match write_page(out, &page) {
-        Ok(()) => Ok(if counted { page.count() } else { 0 }),
-        Err(WriteFault) => Err(WriteStop::Output),
-    }
+    if workers == 1 { 1 } else { ROUND }
 }
 
-// Begins a round at page i, where the one before it is over. Answers where the next one begins.
-fn begin<R: Threads + Wait + Sync, F: FontSource + Send>(
+// Draws a round, and answers its results on a stack, the first page on top. Room for them is taken before.
+fn draw_stack<R: Threads + Wait + Sync, F: FontSource + Send>(
     rt: &R,
     alloc: Global,
     workers: &mut [Worker<F>],
     bench: &Bench,
     index: &Index,
     sheet: &Sheet,
-    next: usize,
-    i: usize,
-) -> Result<usize, NoMemory>
-    requires page { i < pages_begun index.now.reading }
-    requires few { length workers.old ≤ 32 }
-    requires sheet { IsDrawable sheet.now }
-    requires units { document_units index.now.res index.now.reading ≡ Some bench.now.units }
-    requires ready { next ≤ i → (k : ℕ) (d : _) → k < length workers.old → MayDraw F.library bench.now (slice_index_or workers.old k d) }
-    ensures same { i < next → (result ≡ Ok next) × (workers.new ≡ workers.old) }
-    ensures drawn { next ≤ i → IfOk result (λ m. (m ≡ i + length workers.old)
-        × ((k : ℕ) (d : _) → k < length workers.old → TookPart F.library F.faults F.loads bench.now index.now sheet.now (i + k)
-        (slice_index_or workers.old k d) (slice_index_or workers.new k d))) }
-    ensures refused { OnErr result ((k : ℕ) (d : _) → k < length workers.old
-        → Rested (slice_index_or workers.old k d) (slice_index_or workers.new k d)) }
+    first: usize,
+    count: usize,
+) -> Result<Vec<PageResult>, NoMemory>
+    requires { MayDrawRound F.library bench.now index.now sheet.now first count workers.old }
+    ensures drawn { IfOk result (λ stack. DrewStack F.library F.faults F.loads bench.now index.now sheet.now
+        first count workers.old workers.new stack.items) }
+    ensures refused { OnErr result (AllRested workers.old workers.new) }
+    ensures no_counter { NoCounters workers.new }
 {
-    if i < next {
-        return Ok(next);
-    }
     let _few = index.pages();
-    draw_round(rt, alloc, workers, bench, index, sheet, i)?;
-    Ok(i + workers.len())
+    let mut stack = Vec::with_capacity(alloc, count)?;
+    draw_round(rt, alloc, workers, bench, index, sheet, first, count)?;
+    collect(workers, first, count, &mut stack);
+    Ok(stack)
 }
 
-/// Draws the pages of a document in rounds, page after page one of each worker in their order, and writes them in the
-/// order of the file, up to the first that can't be. The tally is of those written whole, with their black pixels where
-/// they are counted.
+// Draws a round, and writes the pages of another one in the meantime.
+fn draw_beside<R: Threads + Wait + Sync, F: FontSource + Send, O: Output>(
+    rt: &R,
+    alloc: Global,
+    workers: &mut [Worker<F>],
+    bench: &Bench,
+    index: &Index,
+    sheet: &Sheet,
+    first: usize,
+    count: usize,
+    stack: &mut Vec<PageResult>,
+    out: &mut O,
+    tally: &mut Tally,
+    counted: bool,
+) -> (Result<Vec<PageResult>, NoMemory>, Result<(), WriteStop>)
+    requires ready { MayDrawRound F.library bench.now index.now sheet.now first count workers.old }
+    requires dots { All HasFewDots stack.old.items }
+    requires few { tally.old.pages + length stack.old.items ≤ 1000000 }
+    requires black { tally.old.black ≤ tally.old.pages * (20000 * 20000) }
+    ensures drawn { IfOk result.0 (λ later. DrewStack F.library F.faults F.loads bench.now index.now
+        sheet.now first count workers.old workers.new later.items) }
+    ensures refused { OnErr result.0 (AllRested workers.old workers.new) }
+    ensures no_counter { NoCounters workers.new }
+    ensures written { OnOk result.1 (WroteWhole counted (O.written out.old) (O.written out.new)
+        (reverse stack.old.items) tally.old tally.new) }
+    ensures stopped { IfErr result.1 (λ why. WroteUpTo counted (O.written out.old) (O.written out.new)
+        (Rose (O.faults out.old) (O.faults out.new)) (reverse stack.old.items) tally.old tally.new why) }
+    ensures black { tally.new.black ≤ tally.new.pages * (20000 * 20000) }
+    ensures output { O.faults out.old ≤ O.faults out.new }
+{
+    thread::join_mut(
+        rt,
+        &mut ||
+            requires { MayDrawRound F.library bench.now index.now sheet.now first count workers.now }
+            ensures drawn { IfOk result (λ later. DrewStack F.library F.faults F.loads bench.entry.now
+                index.entry.now sheet.entry.now first count workers.entry.now workers.exit.now later.items) }
+            ensures refused { OnErr result (AllRested workers.entry.now workers.exit.now) }
+            ensures no_counter { NoCounters workers.exit.now }
+        { draw_stack(rt, alloc, workers, bench, index, sheet, first, count) },
+        &mut || write_stack(stack, out, tally, counted),
+    )
+}
+
+// Writes the pages at hand, and draws the next round: at the same time where there are several workers, so that
+// the output doesn't make them wait. What the writing came to decides first.
+fn write_and_draw<R: Threads + Wait + Sync, F: FontSource + Send, O: Output>(
+    rt: &R,
+    alloc: Global,
+    workers: &mut [Worker<F>],
+    bench: &Bench,
+    index: &Index,
+    sheet: &Sheet,
+    first: usize,
+    count: usize,
+    stack: &mut Vec<PageResult>,
+    out: &mut O,
+    tally: &mut Tally,
+    counted: bool,
+) -> Result<Vec<PageResult>, WriteStop>
+    requires ready { MayDrawRound F.library bench.now index.now sheet.now first count workers.old }
+    requires dots { All HasFewDots stack.old.items }
+    requires few { tally.old.pages + length stack.old.items ≤ 1000000 }
+    requires black { tally.old.black ≤ tally.old.pages * (20000 * 20000) }
+    ensures written { OnOk result (WroteWhole counted (O.written out.old) (O.written out.new)
+        (reverse stack.old.items) tally.old tally.new) }
+    ensures drawn { IfOk result (λ later. DrewStack F.library F.faults F.loads bench.now index.now
+        sheet.now first count workers.old workers.new later.items) }
+    ensures stopped { IfErr result (λ why. StoppedAhead
+        (DrewStack F.library F.faults F.loads bench.now index.now sheet.now first count workers.old workers.new)
+        counted (O.written out.old) (O.written out.new) (Rose (O.faults out.old) (O.faults out.new))
+        (reverse stack.old.items) tally.old tally.new workers.old workers.new why) }
+    ensures no_counter { NoCounters workers.new }
+    ensures black { tally.new.black ≤ tally.new.pages * (20000 * 20000) }
+    ensures output { O.faults out.old ≤ O.faults out.new }
+{
+    if workers.len() == 1 {
+        write_stack(stack, out, tally, counted)?;
+        return draw_stack(rt, alloc, workers, bench, index, sheet, first, count).map_err(
+            |_| WriteStop::Draw(PageStop::NoMemory),
+        );
+    }
+    let (drawn, written) = draw_beside(
+        rt, alloc, workers, bench, index, sheet, first, count, stack, out, tally, counted,
+    );
+    written?;
+    drawn.map_err(|_| WriteStop::Draw(PageStop::NoMemory))
+}
+
+// Whether each page of a stack has a bitmap.
+fn have_bitmaps(stack: &[PageResult]) -> bool
+    ensures { IsTrue result ↔ All HasBitmap stack.now }
+{
+    stack.iter().all(|drawn| drawn.outcome.is_ok())
+}
+
+/// Draws the pages of a document in rounds, and writes them in the order of the file, up to the first that can't be.
+/// Each round is written while the next one is drawn, which is begun only where each page before it has a bitmap.
+/// The tally is of the pages written whole, with their black pixels where they are counted.
 pub fn write_rounds<R: Threads + Wait + Sync, F: FontSource + Send, O: Output>(
     rt: &R,
     alloc: Global,
@@ -113,24 +189,29 @@ pub fn write_rounds<R: Threads + Wait + Sync, F: FontSource + Send, O: Output>(
         → Settled (site F.library F.faults F.loads bench.now told index.now sheet.now) (slice_index_or workers.old k d) (slice_index_or workers.new k d) }
     ensures cause { (page : ℕ) → seen_ending result.0 ≡ Source page → (k : ℕ) × (k < length workers.old)
         × ((d : _) → FailedAt F.faults page (slice_index_or workers.old k d) (slice_index_or workers.new k d)) }
-    ensures shares { DrewShares (pages_begun index.now.reading) (length workers.old) (seen_ending result.0) workers.new }
+    ensures shares { DrewShares (pages_begun index.now.reading) (length workers.old) (seen_ending result.0) (Some result.1) workers.new }
     ensures workers { (k : ℕ) (d : _) → k < length workers.old
         → Ended (site F.library F.faults F.loads bench.now told index.now sheet.now) (slice_index_or workers.old k d) (slice_index_or workers.new k d) }
     ensures output { O.faults out.old ≤ O.faults out.new }
 {
-    let count = workers.len();
     let pages = index.pages();
+    let most = round_size(workers.len());
+    let mut tally = Tally { pages: 0, black: 0 };
+    let mut stack = Vec::new(alloc);
     let mut next = 0;
-    let mut black = 0;
-    for i in 0..pages {
-        let Ok(later) = begin(rt, alloc, workers, bench, index, sheet, next, i) else {
-            return (Ending::Memory, Tally { pages: i, black });
-        };
-        next = later;
-        match write_result(&mut workers[i + count - next], out, counted) {
-            Ok(more) => black += more,
-            Err(stop) => return (stopped(i, stop), Tally { pages: i, black }),
+    while next < pages && have_bitmaps(&stack) {
+        let count = most.min(pages - next);
+        match write_and_draw(
+            rt, alloc, workers, bench, index, sheet, next, count, &mut stack, out, &mut tally,
+            counted,
+        ) {
+            Ok(later) => stack = later,
+            Err(stop) => return (stopped(tally.pages, stop), tally),
         }
+        next += count;
     }
-    (Ending::Written, Tally { pages, black })
+    match write_stack(&mut stack, out, &mut tally, counted) {
+        Ok(()) => (Ending::Written, tally),
+        Err(stop) => (stopped(tally.pages, stop), tally),
+    }
 }

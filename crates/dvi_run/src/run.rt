@@ -33,16 +33,18 @@ use std::thread::Threads;
 ///
 /// The input is read to its end or, where it is longer than a document may be (67,108,864 bytes),
 /// to one byte more; it may fail (6). What is no document has a first fault, which the line names
-/// with its byte (2). Then the pages are drawn in rounds of one page for each worker, and written.
-/// The first that has no bitmap ends the run, whatever came of the pages after it: with 4 where a
-/// font that it uses is at fault, whose name, size and design size the line gives with what is
-/// wrong with its files; with 3 where a font isn't defined, none is current, or a character isn't
-/// in its font, where a page has more than 2^24 commands, or where one of its commands leads the
-/// pen too far, restores registers where none are saved, or saves them where 1000 are, or its end
-/// finds some saved. The line names the page, counted from 1, and the command's position in the
-/// file. A source that fails to load a font ends the run too (5), and so does a failed write (7),
-/// before which the output took the pages before whole, and a prefix of the page that the line
-/// names. Memory may run out in place of any answer (9); no page is then written in part.
+/// with its byte (2). Then the pages are drawn in rounds, of one page where one worker is used and
+/// else of 32, and a round is written while the next one is drawn, which is begun only where each
+/// page before it has a bitmap. The first that has none ends the run, whatever came of the pages
+/// after it: with 4 where a font that it uses is at fault, whose name, size and design size the
+/// line gives with what is wrong with its files; with 3 where a font isn't defined, none is
+/// current, or a character isn't in its font, where a page has more than 2^24 commands, or where
+/// one of its commands leads the pen too far, restores registers where none are saved, or saves
+/// them where 1000 are, or its end finds some saved. The line names the page, counted from 1, and
+/// the command's position in the file. A source that fails to load a font ends the run too (5), and
+/// so does a failed write (7), before which the output took the pages before whole, and a prefix of
+/// the page that the line names. Memory may run out in place of any answer (9); no page is then
+/// written in part.
 ///
 /// At the end the notes are told, piece by piece: with `trace` a line for each call of the cache,
 /// in their order; with `summary` nine lines of counts, of the pages written whole, the calls of
@@ -51,11 +53,11 @@ use std::thread::Threads;
 /// Notes that fail decide only between 0 and 8: all pages were written, and the notes took all of
 /// this, or they failed and took a prefix of it.
 ///
-/// `history` is empty when handed in, and is then the list of the cache's calls, in order: of
-/// worker k of n, both counted from 1, they bear the number k, and it draws the pages k, k + n, k +
-/// 2n and so on of the rounds begun, which its `pages` count from 0. The list stays empty where no
-/// page was begun. A worker that is used has neither a seat nor results when handed in, and its
-/// counts are those of no work.
+/// `history` is empty when handed in, and is then the list of the cache's calls, in order: those of
+/// worker k, counted from 1, bear the number k. The list stays empty where no page was begun. Any
+/// worker may draw any page: its `pages`, which count from 0, are those that it drew, in rising
+/// order, and all used workers' together are the first so many, each once. A worker that is used
+/// has neither a seat nor results when handed in, and its counts are those of no work.
 ///
 /// With `sample` the run makes the document and its font files itself, as `sample_maker::sample`
 /// says, and draws them over workers of its own, as many as are used: `input` isn't read, and no
@@ -122,7 +124,7 @@ pub fn run_with<R: Threads + Wait + Sync, I: Input, F: FontSource + Send, O: Out
         (document_to settings.now (I.left input.old)) (O.written out.old) (O.written out.new)
         (out.new ≡ out.old) }
 
-    // The pages that were drawn, each by one worker.
+    // The pages that were drawn, the first so many, each once and by one worker.
     ensures shares { (total : ℕ) × AreShares total settings.now.workers workers.new }
     ensures rest { RestIsKept settings.now.workers workers.old workers.new }
 
@@ -216,7 +218,7 @@ pub fn dvipbm_run<R: Threads + Wait + Sync, I: Input, F: FontSource + Send, O: O
         → IsCutShort (given_to told s) result (document_to s (I.left input.old)) (O.written out.old)
         (O.written out.new) (out.new ≡ out.old) }
 
-    // The pages that were drawn, each by one worker.
+    // The pages that were drawn, the first so many, each once and by one worker.
     ensures shares { (s : Settings)
         → settings_of (length workers.old) (map string_bytes words.now) ≡ Some s
         → (total : ℕ) × AreShares total s.workers workers.new }

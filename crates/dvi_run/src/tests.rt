@@ -5,6 +5,7 @@ ghost use Rattle.command_line.specs.Settings.{AreSettings};
 
 mod alone;
 mod characters;
+mod crews;
 mod desks;
 mod drawing;
 mod entries;

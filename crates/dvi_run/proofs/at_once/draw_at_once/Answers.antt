@@ -1,4 +1,4 @@
-use Rattle.std.proofs.Common.{◌≡◌, ◌+◌, ℕ, Option, length, get_or, refl, sym, subst, ap, ◌∙◌, rules}
+use Rattle.std.proofs.Common.{◌≡◌, ◌+◌, ℕ, Option, length, get_or, refl, sym, subst, ap, ◌∙◌, arith, rules}
 use Rattle.outside.specs.Library.{Files}
 use Rattle.pixel_round.specs.declared.units.Units.{Units}
 use Rattle.turn_lock.specs.declared.view.View.{View}
@@ -9,6 +9,7 @@ use Rattle.dvi_run.specs.Endings.{Memory}
 use Rattle.dvi_run.specs.Looked.{IsDrawnThrough}
 use Rattle.dvi_run.specs.Rounds.{Ran}
 use Rattle.dvi_run.proofs.Seated.{unused}
+use Rattle.dvi_run.proofs.Shares.{none_shared}
 use Rattle.dvi_run.proofs.at_once.draw_at_once.Goals as goal
 
 opening_is : (v : View) (capacity : ℕ) (u w : Units) (l : Option Files) → v ≡ opening_view (record { capacity = capacity; units = u; library = l }) → w ≡ u
@@ -68,7 +69,14 @@ draw_over-ending-requires g c κs within =
 pub returns-in_default-clause-shares : goal.returns-in_default-clause-shares
 returns-in_default-clause-shares g c =
     let q = c.requires.1.1.1.1.1 in
-    record { drew = record { rounds = 0; shared = λ k d lt. (q.1.1.1.1.1.1.0 k d lt).pages }; begun = tt }
+    let xs = c.args.workers.now in
+    record {
+      drawn = 0;
+      few = omega arith;
+      shares = λ d. none_shared (length xs) (λ k. (get_or xs k d).pages.items) (λ k lt. (q.1.1.1.1.1.1.0 k d lt).pages);
+      reach = tt;
+      written = tt;
+    }
 
 pub returns-in_default-clause-first : goal.returns-in_default-clause-first
 returns-in_default-clause-first g c = let q = c.requires.1.1.1.1.1 in ap (λ h. own 0 (calls_of h)) q.1.1.1.1.1.0

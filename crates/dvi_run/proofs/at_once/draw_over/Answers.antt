@@ -1,4 +1,4 @@
-use Rattle.std.proofs.Common.{◌≡◌, ◌<◌, ◌+◌, ℕ, length, get_or, sym, subst, ap, ◌∙◌, rules}
+use Rattle.std.proofs.Common.{◌≡◌, ◌<◌, ◌+◌, ℕ, length, get_or, sym, subst, ap, ◌∙◌, rules, Some}
 use Rattle.outside.specs.Counts.{Rose}
 use Rattle.cache_core.specs.Histories.{own}
 use Rattle.page_workers.specs.Seating.{numbers}
@@ -9,7 +9,7 @@ use Rattle.dvi_run.specs.Rounds.{site}
 use Rattle.dvi_run.proofs.Seated.{may_begin, may_leave, none_released, ran}
 use Rattle.page_index.specs.Document.{pages_begun}
 use Rattle.dvi_run.specs.Shares.{DrewShares}
-use Rattle.dvi_run.proofs.Shares.{drew_rest}
+use Rattle.dvi_run.proofs.Shares.{shared_as}
 use Rattle.dvi_run.proofs.at_once.draw_over.Goals as goal
 
 pub write_rounds-ending-requires : goal.write_rounds-ending-requires
@@ -93,11 +93,10 @@ returns-clause-workers g c =
     let there : k < length ws = subst (λ (n : ℕ). k < n) (sym long) lt in
     let here : k < length now = subst (λ (n : ℕ). k < n) (sym same) there in
     let left = c.join_all.ensures.left k d here in
-    let cleared = c.clear_all.ensures k d (subst (λ (n : ℕ). k < n) (sym joined) here) in
     ran s part (ap (λ v. v.part.library) opens) (ap (λ v. v.part.units) opens) q.1.1.1.0 q.1.1.1.1.0 (k + 1) (get_or xs k d) (get_or ws k d) (q.1.1.1.1.1.1.1 k d lt)
-    (c.seat_all.ensures.seated k d lt) (get_or now k d) (c.write_rounds-ending.ensures.workers k d there) left.seat left.is _ (get_or c.clear_all.new.workers k d)
-    (ap (own (k + 1)) c.close.ensures.history ∙ left.own) (cleared.same.seat ∙ left.none) (cleared.same.source ∙ left.same.source) (cleared.same.loads ∙ left.same.loads)
-    (cleared.same.pages ∙ left.same.pages) cleared.none
+    (c.seat_all.ensures.seated k d lt) (get_or now k d) (c.write_rounds-ending.ensures.workers k d there) left.seat left.is _ (get_or c.join_all.new.workers k d)
+    (ap (own (k + 1)) c.close.ensures.history ∙ left.own) left.none left.same.source left.same.loads
+    left.same.pages left.same.results left.same.counter
     _
     (λ h. none_released s part (ap (λ v. v.part.library) opens) (ap (λ v. v.part.units) opens) q.1.1.1.0 q.1.1.1.1.0 (k + 1) (get_or xs k d) (get_or ws k d) (q.1.1.1.1.1.1.1 k d lt)
     (c.seat_all.ensures.seated k d lt) (get_or now k d)
@@ -132,15 +131,14 @@ returns-clause-cause g c =
       λ d.
           let f = cause.2 d in
           let left = c.join_all.ensures.left k d here in
-          let cleared = c.clear_all.ensures k d (subst (λ (n : ℕ). k < n) (sym joined) here) in
-          let source = cleared.same.source ∙ left.same.source in
+          let source = left.same.source in
           let seated = c.seat_all.ensures.seated k d below in
           record {
-            rose = subst (λ x. Rose (g.F.FontSource.faults x) (g.F.FontSource.faults (get_or c.clear_all.new.workers k d).source)) seated.same.source
+            rose = subst (λ x. Rose (g.F.FontSource.faults x) (g.F.FontSource.faults (get_or c.join_all.new.workers k d).source)) seated.same.source
                 (subst (λ x. Rose (g.F.FontSource.faults (get_or ws k d).source) (g.F.FontSource.faults x)) (sym source) f.rose);
             number = f.number;
             is = f.is;
-            drew = (f.drew.0, cleared.same.pages ∙ left.same.pages ∙ f.drew.1);
+            drew = (f.drew.0, left.same.pages ∙ f.drew.1);
           },
     )
 
@@ -149,14 +147,20 @@ returns-clause-shares g c =
     let xs = c.args.workers.now in
     let ws = c.seat_all.new.workers in
     let now = c.write_rounds-ending.new.workers in
+    let after = c.join_all.new.workers in
     let reading = c.args.index.now.reading in
     let long : length ws ≡ length xs = search rules in
     let same : length now ≡ length ws = search rules in
-    let joined : length c.join_all.new.workers ≡ length now = search rules in
     let e = seen_ending c.write_rounds-ending.result.0 in
-    let shares : DrewShares (pages_begun reading) (length xs) e now =
-    subst (λ (n : ℕ). DrewShares (pages_begun reading) n e now) long c.write_rounds-ending.ensures.shares in
-    drew_rest (pages_begun reading) (length xs) e now c.clear_all.new.workers shares
-    (λ k d lt.
-    let here : k < length now = subst (λ (n : ℕ). k < n) (sym (same ∙ long)) lt in
-    (c.clear_all.ensures k d (subst (λ (n : ℕ). k < n) (sym joined) here)).same.pages ∙ (c.join_all.ensures.left k d here).same.pages)
+    let tally = Some c.write_rounds-ending.result.1 in
+    let shares : DrewShares (pages_begun reading) (length xs) e tally now =
+    subst (λ (n : ℕ). DrewShares (pages_begun reading) n e tally now) long c.write_rounds-ending.ensures.shares in
+    record {
+      drawn = shares.drawn;
+      few = shares.few;
+      shares = λ d.
+          shared_as shares.drawn (length xs) (λ k. (get_or now k d).pages.items) (λ k. (get_or after k d).pages.items)
+          (λ k lt. (c.join_all.ensures.left k d (subst (λ (n : ℕ). k < n) (sym (same ∙ long)) lt)).same.pages) (shares.shares d);
+      reach = shares.reach;
+      written = shares.written;
+    }

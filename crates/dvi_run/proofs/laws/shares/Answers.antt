@@ -1,5 +1,5 @@
-use Rattle.dvi_run.proofs.OneWorker.{each_page_has_one_worker}
+use Rattle.dvi_run.proofs.Counted.{each_page_is_drawn_once}
 use Rattle.dvi_run.proofs.laws.shares.Goals as goal
 
 pub returns : goal.returns
-returns c = each_page_has_one_worker
+returns c = each_page_is_drawn_once

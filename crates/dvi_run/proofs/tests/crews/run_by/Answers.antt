@@ -3,14 +3,12 @@ use Rattle.std.proofs.Common.{◌≡◌, ◌<◌, ◌≤◌, length, get_or, ap,
 use Rattle.outside.proofs.mem_fonts.MemFonts.TheSendSync.{the_send}
 use Rattle.page_workers.specs.Seating.{IsUnused}
 use Rattle.dvi_run.proofs.Together.{ready_untold}
-use Rattle.dvi_run.proofs.tests.workers.run_of.Goals as goal
+use Rattle.dvi_run.proofs.tests.crews.run_by.Goals as goal
 
 pub run_with-status-requires : goal.run_with-status-requires
 run_with-status-requires g c κs within =
-    let made = c.in_ok-workers.ensures in
-    let ws = c.deref_mut.result.now in
-    let same : ws ≡ c.in_ok-workers.workers.items = c.deref_mut.ensures.value in
-    let long : length ws ≡ length c.in_ok-workers.workers.items = ap length same in (
+    let q = c.requires.1.1.1.1.1 in
+    let ws = c.args.workers.now in (
       search rules fits 100000 depth 60,
       (
         search rules fits 100000 depth 60,
@@ -21,12 +19,12 @@ run_with-status-requires g c κs within =
             (
               search rules fits 100000 depth 60,
               (
-                search (sendable, rules, the_send) fits 100000 depth 60,
+                search (sendable, rules) fits 100000 depth 60,
                 (
                   search rules fits 100000 depth 60,
                   (
-                    record { resolution = search rules; sheet = search rules; workers = (omega arith, omega arith); cache = search rules; sample = tt },
-                    (omega (arith, long, made.count), (λ k d lt. ready_untold _ (get_or ws k d) (subst (λ xs. IsUnused (get_or xs k d)) (sym same) (made.unused k d lt)), search rules)),
+                    record { resolution = search rules; sheet = search rules; workers = ?; cache = search rules; sample = tt },
+                    (?, (λ k d lt. ready_untold _ (get_or ws k d) ?, search rules)),
                   ),
                 ),
               ),

@@ -1,5 +1,5 @@
 use Rattle.std.proofs.Common.{None}
-use Rattle.dvi_run.proofs.tests.workers.run_of.Given as goal
+use Rattle.dvi_run.proofs.tests.crews.run_by.Given as goal
 
 abbrev pub ghost-run_with : goal.ghost-run_with
 ghost-run_with g a = None
