@@ -19,6 +19,8 @@ use Rattle.dvi_run.specs.Sampled.{SourcesAreKept, WasHanded}
 use Rattle.dvi_run.specs.Tally.{CountsTo}
 use Rattle.dvi_run.specs.Together.{Answered, AreDone, DrewTogether, IsReady, RestIsKept, SomeUsed, SourceRose, Worked}
 use Rattle.dvi_run.specs.declared.tally.Tally.{Tally}
+use Rattle.dvi_run.specs.Shares.{AreShares}
+use Rattle.dvi_run.proofs.Shares.{shared_as}
 use Rattle.dvi_run.proofs.Together.{one_of, some_rose}
 
 -- two lists with the same elements are one
@@ -40,6 +42,7 @@ module _ {F G : Type 0} (mine : Worker G) (was now : Worker F) (h : WasHanded mi
   worked_handed glibrary gfaults gloads gtold library faults loads told pages n status history k first none ready w = record {
     seat = h.seat ∙ ready.seat;
     none = ap (λ v. v.items) h.results ∙ ready.fresh.none;
+    counter = h.counter ∙ ready.fresh.counter;
     tells = subst (λ (s : F). IfSome told (λ l. library s ≡ Some l)) (sym h.source) ready.fresh.tells;
     count = subst (λ (s : F). faults was.source ≤ faults s) (sym h.source) (omega arith);
     keys = w.keys;
@@ -93,10 +96,16 @@ module _ {F G : Type 0} (n : ℕ) (first last : List (Worker G)) (before after :
             | inr le ↦ sym (rest k d le)
           ]))
 
-      pub drew_handed : (g : Given) (counted : Bool) (old new : Option (List ℕ)) (capacity status : ℕ) (e : EndingSeen) (tally : Option Tally) (history : List Call) (bytes : List ℕ) → length before ≡ length after
+      -- what the run's own workers shared is shared by the others
+      shares_handed : 0 < n → (total : ℕ) → AreShares total n last → AreShares total n after
+      shares_handed some total shared d =
+          let e = at_last 0 some in
+          shared_as total n (λ k. (get_or last k e).pages.items) (λ k. (get_or after k d).pages.items) (λ k lt. (handed k e d lt).pages) (shared e)
+
+      pub drew_handed : 0 < n → (g : Given) (counted : Bool) (old new : Option (List ℕ)) (capacity status : ℕ) (e : EndingSeen) (tally : Option Tally) (history : List Call) (bytes : List ℕ) → length before ≡ length after
           → DrewTogether g counted old new capacity n status e tally history first last bytes → DrewTogether g counted old new capacity n status e tally history before after bytes
-      drew_handed g counted old new capacity status e tally history bytes sizes (inl idle) = inl (idle.0, idle.1, idle.2, same_workers sizes idle.3)
-      drew_handed g counted old new capacity status e tally history bytes sizes (inr run) =
+      drew_handed some g counted old new capacity status e tally history bytes sizes (inl idle) = inl (idle.0, idle.1, idle.2, same_workers sizes idle.3)
+      drew_handed some g counted old new capacity status e tally history bytes sizes (inr run) =
           inr (
             run.0,
             run.1,
@@ -105,22 +114,25 @@ module _ {F G : Type 0} (n : ℕ) (first last : List (Worker G)) (before after :
               run.3.0,
               run.3.1,
               record {
-                drew = record { rounds = run.3.2.drew.rounds; shared = λ k d lt. (handed k (at_last k lt) d lt).pages ∙ run.3.2.drew.shared k (at_last k lt) lt };
-                begun = run.3.2.begun;
+                drawn = run.3.2.drawn;
+                few = run.3.2.few;
+                shares = shares_handed some run.3.2.drawn run.3.2.shares;
+                reach = run.3.2.reach;
+                written = run.3.2.written;
               },
               λ k d lt. answered_handed (get_or last k (at_last k lt)) (get_or before k d) (get_or after k d) (handed k (at_last k lt) d lt) g run.0 capacity n status history k (run.3.3 k (at_last k lt) lt),
             ),
           )
 
-      pub done_handed : (gfaults gloads : G → ℕ) (faults loads : F → ℕ) (pages capacity status : ℕ) (e : EndingSeen) (tally : Option Tally) (history : List Call) → ((s : G) → gfaults s ≡ 0)
+      pub done_handed : 0 < n → (gfaults gloads : G → ℕ) (faults loads : F → ℕ) (pages capacity status : ℕ) (e : EndingSeen) (tally : Option Tally) (history : List Call) → ((s : G) → gfaults s ≡ 0)
           → AreDone glibrary gfaults gloads gtold None capacity n status e tally history first last → AreDone library faults loads told (Some pages) capacity n status e tally history before after
-      done_handed gfaults gloads faults loads pages capacity status e tally history sure done = record {
+      done_handed some gfaults gloads faults loads pages capacity status e tally history sure done = record {
         counts = done.counts;
         failed = λ page is. absurd (none_rose gfaults sure (some_rose gfaults n first last page (done.failed page is)));
         one = done.one;
         worked = λ k d lt.
             worked_handed (get_or last k (at_last k lt)) (get_or before k d) (get_or after k d) (handed k (at_last k lt) d lt) glibrary gfaults gloads gtold library faults loads told pages n status history k
             (get_or first k (at_last k lt)) (own_ready k (at_last k lt) lt).fresh.loads (ready k d lt) (done.worked k (at_last k lt) lt);
-        shares = (done.shares.0, record { rounds = done.shares.1.rounds; shared = λ k d lt. (handed k (at_last k lt) d lt).pages ∙ done.shares.1.shared k (at_last k lt) lt });
+        shares = (done.shares.0, shares_handed some done.shares.0 done.shares.1);
         rest = rest;
       }

@@ -75,6 +75,7 @@ pub record WasHanded {F G : Type 0} (own : Worker G) (before after : Worker F) :
   pub source : after.source ≡ before.source
   pub seat : after.seat ≡ before.seat
   pub results : after.results ≡ before.results
+  pub counter : after.counter ≡ before.counter
   pub loads : after.loads ≡ own.loads
   pub pages : after.pages.items ≡ own.pages.items
   pub same : own.pages.items ≡ [] → own.loads ≡ before.loads → after ≡ before

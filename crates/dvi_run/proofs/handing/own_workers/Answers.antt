@@ -29,5 +29,5 @@ loop-k-preserved c =
       count = omega (arith, longer, more, inv.count);
       ready = λ k d lt.
           subst (λ xs. Ready files (get_or xs k d)) (sym grew)
-          (more_each (Ready files) c.loop-k._k ws w inv.count (record { fresh = record { tells = told; none = made.results; loads = made.loads; pages = made.pages }; seat = made.seat }) inv.ready k d lt);
+          (more_each (Ready files) c.loop-k._k ws w inv.count (record { fresh = record { tells = told; none = made.results; counter = made.counter; loads = made.loads; pages = made.pages }; seat = made.seat }) inv.ready k d lt);
     }

@@ -96,7 +96,7 @@ returns-clause-done g c =
     let handed : (k : ℕ) (e : _) (d : _) → k < n → WasHanded (get_or last k e) (get_or before k d) (get_or after k d) = λ k e d lt. c.hand_all.ensures.handed k e d (omega (arith, lt, long_last)) in
     let rest : RestIsKept n before after = subst (λ (m : ℕ). RestIsKept m before after) long_last c.hand_all.ensures.rest in
     λ pages.
-    done_handed n first last before after long long_last handed rest g.F.FontSource.library g.told q.1.1.1.1.1.1.1.0 g.G.FontSource.library (Some sample_files) q.1.1.1.1.0 g.G.FontSource.faults g.G.FontSource.loads g.F.FontSource.faults g.F.FontSource.loads
+    done_handed n first last before after long long_last handed rest g.F.FontSource.library g.told q.1.1.1.1.1.1.1.0 g.G.FontSource.library (Some sample_files) q.1.1.1.1.0 (omega (arith, q.0.workers.0)) g.G.FontSource.faults g.G.FontSource.loads g.F.FontSource.faults g.F.FontSource.loads
     pages c.args.settings.now.cache _ _ _ _ sure c.draw_document-drawn.ensures.done
 
 pub returns-clause-drew : goal.returns-clause-drew
@@ -123,5 +123,5 @@ returns-clause-drew g c =
     let cache = c.args.settings.now.cache in
     let sizes : length before ≡ length after = search rules in
     of_read (DrewTogether given counted old new cache n (status_of e) e tally history before after) (Some text) (Some []) text (all_taken text q.1.0)
-    (drew_handed n first last before after long long_last handed rest g.F.FontSource.library g.told q.1.1.1.1.1.1.1.0 g.G.FontSource.library (Some sample_files) q.1.1.1.1.0 given counted old new cache (status_of e) e tally history text sizes
+    (drew_handed n first last before after long long_last handed rest g.F.FontSource.library g.told q.1.1.1.1.1.1.1.0 g.G.FontSource.library (Some sample_files) q.1.1.1.1.0 (omega (arith, q.0.workers.0)) given counted old new cache (status_of e) e tally history text sizes
     c.draw_document-drawn.ensures.drew)
