@@ -142,8 +142,9 @@ pub record HasEnded {F : Type 0} (faults : F → ℕ) (told : Option Files) (set
   pub failed : (page : ℕ) → e ≡ Source page → SomeUsed settings.workers before after (FailedAt faults page)
   -- nothing was drawn where no cache was made. Else each look-up found what the files told have for its
   -- key: the pages have the values that this gives them, which say what was written; the workers drew
-  -- the first pages, each page once, to the end of the round of the page named at most, or of the next
-  -- one where its write failed; the calls of each worker answer what its pages looked up; and the tally is that of the pages written whole, with their black pixels if the summary is asked for
+  -- the first pages, each page once, to the end of the round of the page named at most, or of the
+  -- next one where its write failed; the calls of each worker answer what its pages looked up; and
+  -- the tally is that of the pages written whole, with their black pixels if the summary is asked for
   pub drew : OfRead left (DrewTogether (given_by told settings) settings.summary old new settings.cache settings.workers status e tally history before after)
 
 -- A run whose words give no settings: nothing was read, written, loaded, drawn or asked of a cache.

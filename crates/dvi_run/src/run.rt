@@ -34,9 +34,10 @@ use std::thread::Threads;
 ///
 /// The input is read to its end or, where it is longer than a document may be (67,108,864 bytes), to one
 /// byte more; it may fail (6). What is no document has a first fault, which the line names with its byte
-/// (2). Then the pages are drawn in rounds, of one page where one worker is used and else of 32, and a round is
-/// written while the next one is drawn, which is begun only where each page before it has a bitmap. The first
-/// that has none ends the run, whatever came of the pages after it: with 4 where a font that it uses is at fault,
+/// (2). Then the pages are drawn in rounds, of one page where one worker is used and else of 32, and
+/// a round is written while the next one is drawn, which is begun only where each page before it has
+/// a bitmap. The first that has none ends the run, whatever came of the pages after it: with 4 where
+/// a font that it uses is at fault,
 /// whose name, size and design size the line gives with what is wrong with its files; with 3 where a font
 /// isn't defined, none is current, or a character isn't in its font, where a page has more than 2^24
 /// commands, or where one of its commands leads the pen too far, restores registers where none are saved,
@@ -51,11 +52,11 @@ use std::thread::Threads;
 /// which stands alone where the run ended before a cache was made. Notes that fail decide only between 0 and
 /// 8: all pages were written, and the notes took all of this, or they failed and took a prefix of it.
 ///
-/// `history` is empty when handed in, and is then the list of the cache's calls, in order: those of worker k,
-/// counted from 1, bear the number k. The list stays empty where no page was begun. Any worker may draw any
-/// page: its `pages`, which count from 0, are those that it drew, in rising order, and all used workers' together
-/// are the first so many, each once. A worker that is used has neither a seat nor results when handed in, and
-/// its counts are those of no work.
+/// `history` is empty when handed in, and is then the list of the cache's calls, in order: those of
+/// worker k, counted from 1, bear the number k. The list stays empty where no page was begun. Any
+/// worker may draw any page: its `pages`, which count from 0, are those that it drew, in rising order,
+/// and all used workers' together are the first so many, each once. A worker that is used has neither
+/// a seat nor results when handed in, and its counts are those of no work.
 ///
 /// Knuth, DVItype, "Device-independent file format" and "Translation to symbolic form"; Netpbm, the raw
 /// form of PBM. Clauses on bytes hold where the input, the output or the notes tell theirs, and what they

@@ -93,7 +93,8 @@ pub fn run_by<R: Threads + Wait + Sync, F: FontSource + Send>(
 ) -> Result<Came, Fail>
     requires some { 1 ≤ length workers.old }
     requires few { length workers.old ≤ 32 }
-    requires unused { (k : ℕ) (d : _) → k < length workers.old → IsUnused (slice_index_or workers.old k d) }
+    requires unused { (k : ℕ) (d : _) → k < length workers.old
+        → IsUnused (slice_index_or workers.old k d) }
 {
     let text = document(alloc, fonts, pages)?;
     let mut input = MemInput::new(text, 64, numbers(alloc, fails.reads)?);
@@ -158,7 +159,8 @@ pub fn run_of<R: Threads + Wait + Sync>(
     run_by(rt, alloc, fonts, pages, &mut workers, fails)
 }
 
-/// How many pages were drawn, where they are the first ones, each drawn once, each worker's in rising order.
+/// How many pages were drawn, where they are the first ones, each drawn once, each worker's in
+/// rising order.
 pub fn pages_drawn(alloc: Global, drawn: &[Vec<usize>]) -> Result<usize, Fail> {
     let mut all = Vec::new(alloc);
     for pages in drawn {
