@@ -105,4 +105,5 @@ SamplesAreReadWhole = (pages : ℕ) → pages ≤ 1000
 
 -- pages that workers share are the numbers from 0 to one less than their count, each once
 abbrev pub PagesAreShared : Type 0
-PagesAreShared = (total n : ℕ) (pages : ℕ → List ℕ) → AreShared total n pages → EachPageIsDrawnOnce total n pages
+PagesAreShared = (total n : ℕ) (pages : ℕ → List ℕ)
+    → AreShared total n pages → EachPageIsDrawnOnce total n pages

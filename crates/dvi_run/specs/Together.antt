@@ -99,16 +99,18 @@ module _ {F : Type 0} (g : Given) (reading : Reading) where
     -- the calls of one worker are one list, given these keys, unless the source failed (5) or memory was wanting (9)
     pub one : n ≡ 1 → IsUnbrokenBy status → history ≡ solo_history capacity 1 keys
 
--- What was drawn of these bytes in a run that ended so: nothing where no cache was made. Else they are a document, whose pages have the
--- values that say what was written, each font being what the library has for its key; the used workers drew its first pages, each page
--- once, among them all that were written and the one named, and none that is not of its round, or of the next one where its write
--- failed; the calls of each answer what its pages looked up; and the tally is that of the pages
--- written whole, with their black pixels where they were counted.
+-- What was drawn of these bytes in a run that ended so: nothing where no cache was made. Else they are
+-- a document, whose pages have the values that say what was written, each font being what the library
+-- has for its key; the used workers drew its first pages, each page once, among them all that were
+-- written and the one named, and none after its round, or where its write failed after the next one;
+-- the calls of each answer what its pages looked up; and the tally is that of the pages written whole,
+-- with their black pixels where they were counted.
 abbrev pub DrewTogether : {F : Type 0} → Given → (counted : Bool) → (old new : Option (List ℕ)) → (capacity n status : ℕ) → EndingSeen → Option Tally → List Call → (before after : List (Worker F)) → List ℕ → Type 0
 DrewTogether g counted old new capacity n status e tally history before after bytes =
     (IsIdle e × (tally ≡ None) × (history ≡ []) × (after ≡ before))
     ⊎ OfRun g bytes (λ reading values. EndsPages old new (Unit {0}) (Unit {0}) e reading values × Tallied counted old new tally e values
-    × DrewShares (pages_begun reading) n e tally after × EachUsed n before after (λ k _ now. Answered g reading capacity n status history k now))
+    × DrewShares (pages_begun reading) n e tally after
+    × EachUsed n before after (λ k _ now. Answered g reading capacity n status history k now))
 
 -- ---- the parts of a run
 

@@ -63,7 +63,8 @@ pub fn draw_over<R: Threads + Wait + Sync, F: FontSource + Send, O: Output>(
         × IsTally counted (O.written out.old) (O.written out.new) result.1 (seen_ending result.0) values }
     ensures cause { (page : ℕ) → seen_ending result.0 ≡ Source page → (k : ℕ) × (k < length workers.old)
         × ((d : _) → FailedAt F.faults page (slice_index_or workers.old k d) (slice_index_or workers.new k d)) }
-    ensures shares { DrewShares (pages_begun index.now.reading) (length workers.old) (seen_ending result.0) (Some result.1) workers.new }
+    ensures shares { DrewShares (pages_begun index.now.reading) (length workers.old)
+        (seen_ending result.0) (Some result.1) workers.new }
     ensures legal { Legal first.view.part.capacity (calls_of result.2.items) }
     ensures made { AllMade (length workers.old + 1) (calls_of result.2.items) }
     ensures first { own 0 (calls_of result.2.items) ≡ [] }
@@ -110,7 +111,8 @@ pub fn draw_at_once<R: Threads + Wait + Sync, F: FontSource + Send, O: Output>(
         × Tallied counted (O.written out.old) (O.written out.new) result.1 (seen_ending result.0) values }
     ensures cause { (page : ℕ) → seen_ending result.0 ≡ Source page → (k : ℕ) × (k < length workers.old)
         × ((d : _) → FailedAt F.faults page (slice_index_or workers.old k d) (slice_index_or workers.new k d)) }
-    ensures shares { DrewShares (pages_begun index.now.reading) (length workers.old) (seen_ending result.0) result.1 workers.new }
+    ensures shares { DrewShares (pages_begun index.now.reading) (length workers.old)
+        (seen_ending result.0) result.1 workers.new }
     ensures legal { Legal capacity (calls_of history.new.items) }
     ensures made { AllMade (length workers.old + 1) (calls_of history.new.items) }
     ensures first { own 0 (calls_of history.new.items) ≡ [] }

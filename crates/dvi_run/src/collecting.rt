@@ -36,7 +36,8 @@ fn owner<F: FontSource>(workers: &[Worker<F>], page: usize) -> Option<usize>
 fn take_last<F: FontSource>(worker: &mut Worker<F>, stack: &mut Vec<PageResult>)
     requires { vec_len stack.old < vec_capacity stack.old }
     ensures same { SameBut worker.old worker.new }
-    ensures moved { (r : PageResult) (rest : List PageResult) → worker.old.results.items ≡ rest ++ r ∷ []
+    ensures moved { (r : PageResult) (rest : List PageResult)
+        → worker.old.results.items ≡ rest ++ r ∷ []
         → (worker.new.results.items ≡ rest) × (stack.new.items ≡ stack.old.items ++ r ∷ []) }
     ensures capacity { vec_capacity stack.new ≡ vec_capacity stack.old }
     ensures grew { vec_len stack.new ≤ vec_len stack.old + 1 }
@@ -46,8 +47,8 @@ fn take_last<F: FontSource>(worker: &mut Worker<F>, stack: &mut Vec<PageResult>)
     }
 }
 
-/// Takes the results of a round, of at most `count` pages from `first` on, out of the workers, and puts them
-/// onto an empty stack, the last page first.
+/// Takes the results of a round, of at most `count` pages from `first` on, out of the workers, and
+/// puts them onto an empty stack, the last page first.
 pub fn collect<F: FontSource>(
     workers: &mut [Worker<F>],
     first: usize,

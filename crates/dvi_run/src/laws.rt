@@ -36,8 +36,8 @@ pub fn whole_runs()
     page_draw::laws::values();
 }
 
-/// Pages that workers share, as `run_with` leaves them, are together the numbers from 0 to one less than their
-/// count, and each is there once.
+/// Pages that workers share, as `run_with` leaves them, are together the numbers from 0 to one less
+/// than their count, and each is there once.
 pub fn shares()
     ensures { PagesAreShared }
 {}

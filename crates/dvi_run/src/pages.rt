@@ -35,7 +35,8 @@ pub(crate) fn stopped(i: usize, stop: WriteStop) -> Ending
     }
 }
 
-// Writes a page, which is then dropped, and answers how many of its pixels are black, where they are counted.
+// Writes a page, which is then dropped, and answers how many of its pixels are black, where they are
+// counted.
 fn write_one<O: Output>(drawn: PageResult, out: &mut O, counted: bool) -> Result<u64, WriteStop>
     ensures wrote { WroteOutcome counted (O.written out.old) (O.written out.new)
         (Rose (O.faults out.old) (O.faults out.new)) drawn.outcome result }
@@ -51,8 +52,9 @@ fn write_one<O: Output>(drawn: PageResult, out: &mut O, counted: bool) -> Result
     }
 }
 
-/// Writes the pages of a stack from its top on, up to the first that can't be, and drops each as soon as it is
-/// written. The tally grows by those written whole, with their black pixels where they are counted.
+/// Writes the pages of a stack from its top on, up to the first that can't be, and drops each as
+/// soon as it is written. The tally grows by those written whole, with their black pixels where they
+/// are counted.
 pub fn write_stack<O: Output>(
     stack: &mut Vec<PageResult>,
     out: &mut O,
@@ -65,7 +67,8 @@ pub fn write_stack<O: Output>(
     ensures written { OnOk result (WroteWhole counted (O.written out.old) (O.written out.new)
         (reverse stack.old.items) tally.old tally.new) }
     ensures stopped { IfErr result (λ why. WroteUpTo counted (O.written out.old) (O.written out.new)
-        (Rose (O.faults out.old) (O.faults out.new)) (reverse stack.old.items) tally.old tally.new why) }
+        (Rose (O.faults out.old) (O.faults out.new)) (reverse stack.old.items) tally.old tally.new
+        why) }
     ensures black { tally.new.black ≤ tally.new.pages * (20000 * 20000) }
     ensures output { O.faults out.old ≤ O.faults out.new }
 {

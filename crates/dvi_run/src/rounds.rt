@@ -31,7 +31,8 @@ use std::thread::Threads;
 /// How many pages a round of several workers has.
 const ROUND: usize = 32;
 
-// How many pages a round has: one where there is one worker, whose pages are written as soon as they are drawn.
+// How many pages a round has: one where there is one worker, whose pages are written as soon as
+// they are drawn.
 fn round_size(workers: usize) -> usize
     ensures alone { workers ≡ 1 → result ≡ 1 }
     ensures several { 2 ≤ workers → result ≡ 32 }
@@ -41,7 +42,8 @@ fn round_size(workers: usize) -> usize
     if workers == 1 { 1 } else { ROUND }
 }
 
-// Draws a round, and answers its results on a stack, the first page on top. Room for them is taken before.
+// Draws a round, and answers its results on a stack, the first page on top. Room for them is taken
+// before.
 fn draw_stack<R: Threads + Wait + Sync, F: FontSource + Send>(
     rt: &R,
     alloc: Global,
@@ -53,8 +55,8 @@ fn draw_stack<R: Threads + Wait + Sync, F: FontSource + Send>(
     count: usize,
 ) -> Result<Vec<PageResult>, NoMemory>
     requires { MayDrawRound F.library bench.now index.now sheet.now first count workers.old }
-    ensures drawn { IfOk result (λ stack. DrewStack F.library F.faults F.loads bench.now index.now sheet.now
-        first count workers.old workers.new stack.items) }
+    ensures drawn { IfOk result (λ stack. DrewStack F.library F.faults F.loads bench.now index.now
+        sheet.now first count workers.old workers.new stack.items) }
     ensures refused { OnErr result (AllRested workers.old workers.new) }
     ensures no_counter { NoCounters workers.new }
 {
@@ -90,17 +92,20 @@ fn draw_beside<R: Threads + Wait + Sync, F: FontSource + Send, O: Output>(
     ensures no_counter { NoCounters workers.new }
     ensures written { OnOk result.1 (WroteWhole counted (O.written out.old) (O.written out.new)
         (reverse stack.old.items) tally.old tally.new) }
-    ensures stopped { IfErr result.1 (λ why. WroteUpTo counted (O.written out.old) (O.written out.new)
-        (Rose (O.faults out.old) (O.faults out.new)) (reverse stack.old.items) tally.old tally.new why) }
+    ensures stopped { IfErr result.1 (λ why. WroteUpTo counted (O.written out.old)
+        (O.written out.new) (Rose (O.faults out.old) (O.faults out.new))
+        (reverse stack.old.items) tally.old tally.new why) }
     ensures black { tally.new.black ≤ tally.new.pages * (20000 * 20000) }
     ensures output { O.faults out.old ≤ O.faults out.new }
 {
     thread::join_mut(
         rt,
         &mut ||
-            requires { MayDrawRound F.library bench.now index.now sheet.now first count workers.now }
-            ensures drawn { IfOk result (λ later. DrewStack F.library F.faults F.loads bench.entry.now
-                index.entry.now sheet.entry.now first count workers.entry.now workers.exit.now later.items) }
+            requires { MayDrawRound F.library bench.now index.now sheet.now first count
+                workers.now }
+            ensures drawn { IfOk result (λ later. DrewStack F.library F.faults F.loads
+                bench.entry.now index.entry.now sheet.entry.now first count workers.entry.now
+                workers.exit.now later.items) }
             ensures refused { OnErr result (AllRested workers.entry.now workers.exit.now) }
             ensures no_counter { NoCounters workers.exit.now }
         { draw_stack(rt, alloc, workers, bench, index, sheet, first, count) },
@@ -108,8 +113,8 @@ fn draw_beside<R: Threads + Wait + Sync, F: FontSource + Send, O: Output>(
     )
 }
 
-// Writes the pages at hand, and draws the next round: at the same time where there are several workers, so that
-// the output doesn't make them wait. What the writing came to decides first.
+// Writes the pages at hand, and draws the next round: at the same time where there are several
+// workers, so that the output doesn't make them wait. What the writing came to decides first.
 fn write_and_draw<R: Threads + Wait + Sync, F: FontSource + Send, O: Output>(
     rt: &R,
     alloc: Global,
@@ -133,8 +138,9 @@ fn write_and_draw<R: Threads + Wait + Sync, F: FontSource + Send, O: Output>(
     ensures drawn { IfOk result (λ later. DrewStack F.library F.faults F.loads bench.now index.now
         sheet.now first count workers.old workers.new later.items) }
     ensures stopped { IfErr result (λ why. StoppedAhead
-        (DrewStack F.library F.faults F.loads bench.now index.now sheet.now first count workers.old workers.new)
-        counted (O.written out.old) (O.written out.new) (Rose (O.faults out.old) (O.faults out.new))
+        (DrewStack F.library F.faults F.loads bench.now index.now sheet.now first count
+        workers.old workers.new) counted (O.written out.old) (O.written out.new)
+        (Rose (O.faults out.old) (O.faults out.new))
         (reverse stack.old.items) tally.old tally.new workers.old workers.new why) }
     ensures no_counter { NoCounters workers.new }
     ensures black { tally.new.black ≤ tally.new.pages * (20000 * 20000) }
@@ -160,9 +166,10 @@ fn have_bitmaps(stack: &[PageResult]) -> bool
     stack.iter().all(|drawn| drawn.outcome.is_ok())
 }
 
-/// Draws the pages of a document in rounds, and writes them in the order of the file, up to the first that can't be.
-/// Each round is written while the next one is drawn, which is begun only where each page before it has a bitmap.
-/// The tally is of the pages written whole, with their black pixels where they are counted.
+/// Draws the pages of a document in rounds, and writes them in the order of the file, up to the
+/// first that can't be. Each round is written while the next one is drawn, which is begun only
+/// where each page before it has a bitmap. The tally is of the pages written whole, with their black
+/// pixels where they are counted.
 pub fn write_rounds<R: Threads + Wait + Sync, F: FontSource + Send, O: Output>(
     rt: &R,
     alloc: Global,
@@ -189,7 +196,8 @@ pub fn write_rounds<R: Threads + Wait + Sync, F: FontSource + Send, O: Output>(
         → Settled (site F.library F.faults F.loads bench.now told index.now sheet.now) (slice_index_or workers.old k d) (slice_index_or workers.new k d) }
     ensures cause { (page : ℕ) → seen_ending result.0 ≡ Source page → (k : ℕ) × (k < length workers.old)
         × ((d : _) → FailedAt F.faults page (slice_index_or workers.old k d) (slice_index_or workers.new k d)) }
-    ensures shares { DrewShares (pages_begun index.now.reading) (length workers.old) (seen_ending result.0) (Some result.1) workers.new }
+    ensures shares { DrewShares (pages_begun index.now.reading) (length workers.old)
+        (seen_ending result.0) (Some result.1) workers.new }
     ensures workers { (k : ℕ) (d : _) → k < length workers.old
         → Ended (site F.library F.faults F.loads bench.now told index.now sheet.now) (slice_index_or workers.old k d) (slice_index_or workers.new k d) }
     ensures output { O.faults out.old ≤ O.faults out.new }

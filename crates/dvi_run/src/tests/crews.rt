@@ -82,6 +82,20 @@ pub fn picky_workers(
     Ok(workers)
 }
 
+// The pages that each worker drew, and the loads of all.
+fn work_of<F: FontSource>(
+    alloc: Global,
+    workers: &[Worker<F>],
+) -> Result<(Vec<Vec<usize>>, u64), Fail> {
+    let mut drawn = Vec::new(alloc);
+    let mut loads = 0;
+    for worker in workers {
+        loads = worker.loads.saturating_add(loads);
+        drawn.push(Vec::from_slice(alloc, &worker.pages)?)?;
+    }
+    Ok((drawn, loads))
+}
+
 /// A run of these pages, with these definitions, by these workers, with a cache of one font.
 pub fn run_by<R: Threads + Wait + Sync, F: FontSource + Send>(
     rt: &R,
@@ -93,7 +107,8 @@ pub fn run_by<R: Threads + Wait + Sync, F: FontSource + Send>(
 ) -> Result<Came, Fail>
     requires some { 1 ≤ length workers.old }
     requires few { length workers.old ≤ 32 }
-    requires unused { (k : ℕ) (d : _) → k < length workers.old → IsUnused (slice_index_or workers.old k d) }
+    requires unused { (k : ℕ) (d : _) → k < length workers.old
+        → IsUnused (slice_index_or workers.old k d) }
 {
     let text = document(alloc, fonts, pages)?;
     let mut input = MemInput::new(text, 64, numbers(alloc, fails.reads)?);
@@ -127,12 +142,7 @@ pub fn run_by<R: Threads + Wait + Sync, F: FontSource + Send>(
     if !are_idle(workers) {
         return Err(Fail::from("a worker has a seat or a result"));
     }
-    let mut drawn = Vec::new(alloc);
-    let mut loads = 0;
-    for worker in workers {
-        loads = worker.loads.saturating_add(loads);
-        drawn.push(Vec::from_slice(alloc, &worker.pages)?)?;
-    }
+    let (drawn, loads) = work_of(alloc, workers)?;
     Ok(Came {
         status,
         written: Vec::from_slice(alloc, out.bytes())?,
@@ -158,7 +168,8 @@ pub fn run_of<R: Threads + Wait + Sync>(
     run_by(rt, alloc, fonts, pages, &mut workers, fails)
 }
 
-/// How many pages were drawn, where they are the first ones, each drawn once, each worker's in rising order.
+/// How many pages were drawn, where they are the first ones, each drawn once, each worker's in
+/// rising order.
 pub fn pages_drawn(alloc: Global, drawn: &[Vec<usize>]) -> Result<usize, Fail> {
     let mut all = Vec::new(alloc);
     for pages in drawn {

@@ -80,7 +80,8 @@ fn no_round_is_begun_after_a_page_without_a_bitmap(rt: HostRuntime) -> Result<()
     Ok(())
 }
 
-// The output fails in the first round, at the second write of page 10, while the second round is drawn.
+// The output fails in the first round, at the second write of page 10, while the second round is
+// drawn.
 #[test]
 fn a_failed_write_ends_the_run_beside_the_next_round(rt: HostRuntime) -> Result<(), Fail> {
     let alloc = rt.alloc();
@@ -117,7 +118,8 @@ fn the_first_page_without_a_bitmap_ends_the_run(rt: HostRuntime) -> Result<(), F
     Ok(())
 }
 
-// Each source fails at the font of the third page, which is after the second one, whose character is missing.
+// Each source fails at the font of the third page, which is after the second one, whose character is
+// missing.
 #[test]
 fn a_failed_source_after_a_fault_decides_nothing(rt: HostRuntime) -> Result<(), Fail> {
     let alloc = rt.alloc();
@@ -146,8 +148,9 @@ fn names_the_page_whose_source_fails(rt: HostRuntime) -> Result<(), Fail> {
     Ok(())
 }
 
-// The source of each worker fails at one load, counted from 1. A font takes three, so that nobody has one where it is
-// among the first three; else the page that fails, if one does, hangs on which worker draws which.
+// The source of each worker fails at one load, counted from 1. A font takes three, so that nobody
+// has one where it is among the first three; else the page that fails, if one does, hangs on which
+// worker draws which.
 #[test]
 fn ends_at_each_load_that_fails(rt: HostRuntime) -> Result<(), Fail> {
     let alloc = rt.alloc();
