@@ -82,6 +82,20 @@ pub fn picky_workers(
     Ok(workers)
 }
 
+// The pages that each worker drew, and the loads of all.
+fn work_of<F: FontSource>(
+    alloc: Global,
+    workers: &[Worker<F>],
+) -> Result<(Vec<Vec<usize>>, u64), Fail> {
+    let mut drawn = Vec::new(alloc);
+    let mut loads = 0;
+    for worker in workers {
+        loads = worker.loads.saturating_add(loads);
+        drawn.push(Vec::from_slice(alloc, &worker.pages)?)?;
+    }
+    Ok((drawn, loads))
+}
+
 /// A run of these pages, with these definitions, by these workers, with a cache of one font.
 pub fn run_by<R: Threads + Wait + Sync, F: FontSource + Send>(
     rt: &R,
@@ -128,12 +142,7 @@ pub fn run_by<R: Threads + Wait + Sync, F: FontSource + Send>(
     if !are_idle(workers) {
         return Err(Fail::from("a worker has a seat or a result"));
     }
-    let mut drawn = Vec::new(alloc);
-    let mut loads = 0;
-    for worker in workers {
-        loads = worker.loads.saturating_add(loads);
-        drawn.push(Vec::from_slice(alloc, &worker.pages)?)?;
-    }
+    let (drawn, loads) = work_of(alloc, workers)?;
     Ok(Came {
         status,
         written: Vec::from_slice(alloc, out.bytes())?,

@@ -7,7 +7,7 @@ use Rattle.dvi_run.proofs.tests.crews.run_by.Goals as goal
 
 pub run_with-status-requires : goal.run_with-status-requires
 run_with-status-requires g c κs within =
-    let q = c.requires.1.1.1.1.1 in
+    let q = c.requires in
     let ws = c.args.workers.now in (
       search rules fits 100000 depth 60,
       (
@@ -23,8 +23,8 @@ run_with-status-requires g c κs within =
                 (
                   search rules fits 100000 depth 60,
                   (
-                    record { resolution = search rules; sheet = search rules; workers = ?; cache = search rules; sample = tt },
-                    (refl, (?, (λ k d lt. ready_untold _ (get_or ws k d) ?, search rules))),
+                    record { resolution = search rules; sheet = search rules; workers = (omega (arith, q.some), omega (arith, q.few)); cache = search rules; sample = tt },
+                    (refl, (omega arith, (λ k d lt. ready_untold _ (get_or ws k d) (q.unused k d lt), search rules))),
                   ),
                 ),
               ),

@@ -4,13 +4,13 @@ use Rattle.page_workers.specs.Seating.{IsUnused}
 use Rattle.dvi_run.proofs.Together.{more_unused}
 use Rattle.dvi_run.proofs.tests.crews.some_workers.Goals as goal
 
-pub loop-_k-init : goal.loop-_k-init
-loop-_k-init c = record { count = search rules; unused = λ k d lt. absurd (omega arith) }
+pub loop-k-init : goal.loop-k-init
+loop-k-init c = record { count = search rules; unused = λ k d lt. absurd (omega arith) }
 
-pub loop-_k-preserved : goal.loop-_k-preserved
-loop-_k-preserved c =
-    let inv = c.loop-_k.invariant in
-    let ws = c.loop-_k.workers.items in
+pub loop-k-preserved : goal.loop-k-preserved
+loop-k-preserved c =
+    let inv = c.loop-k.invariant in
+    let ws = c.loop-k.workers.items in
     let w = c.new-worker.result in
     let made = c.new-worker.ensures in
     let grew : c.push.new.self.items ≡ ws ++ w ∷ [] = c.in_ok-push.ensures.items in
@@ -20,5 +20,5 @@ loop-_k-preserved c =
       count = omega (arith, longer, more, inv.count);
       unused = λ k d lt.
           subst (λ xs. IsUnused (get_or xs k d)) (sym grew)
-          (more_unused c.loop-_k._k ws w inv.count (record { seat = made.seat; none = made.results; loads = made.loads; pages = made.pages; counter = made.counter }) inv.unused k d lt);
+          (more_unused c.loop-k._k ws w inv.count (record { seat = made.seat; none = made.results; loads = made.loads; pages = made.pages; counter = made.counter }) inv.unused k d lt);
     }
