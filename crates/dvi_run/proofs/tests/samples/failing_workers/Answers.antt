@@ -20,5 +20,5 @@ loop-k-preserved c =
       count = omega (arith, longer, more, inv.count);
       unused = λ k d lt.
           subst (λ xs. IsUnused (get_or xs k d)) (sym grew)
-          (more_unused c.loop-k._k ws w inv.count (record { seat = made.seat; none = made.results; loads = made.loads; pages = made.pages }) inv.unused k d lt);
+          (more_unused c.loop-k._k ws w inv.count (record { seat = made.seat; none = made.results; counter = made.counter; loads = made.loads; pages = made.pages }) inv.unused k d lt);
     }

@@ -1,4 +1,6 @@
+use denote.Param.Send.{sendable}
 use Rattle.std.proofs.Common.{◌≡◌, ◌<◌, ◌≤◌, length, get_or, ap, sym, subst, arith, rules}
+use Rattle.outside.proofs.mem_fonts.MemFonts.TheSendSync.{the_send}
 use Rattle.page_workers.specs.Seating.{IsUnused}
 use Rattle.dvi_run.proofs.Together.{ready_untold}
 use Rattle.dvi_run.proofs.tests.samples.run_of.Goals as goal
@@ -19,14 +21,14 @@ dvipbm_run-status-requires g c κs within =
             (
               search rules fits 100000 depth 60,
               (
-                search rules fits 100000 depth 60,
+                search (sendable, rules, the_send) fits 100000 depth 60,
                 (
                   search rules fits 100000 depth 60,
                   (
                     omega (arith, long, made.count),
                     (
                       omega (arith, long, made.count),
-                      (λ k d lt. ready_untold _ (get_or ws k d) (subst (λ xs. IsUnused (get_or xs k d)) (sym same) (made.unused k d (omega (arith, lt, long, made.count)))), c.requires),
+                      (λ k d lt. ready_untold _ (get_or ws k d) (subst (λ xs. IsUnused (get_or xs k d)) (sym same) (made.unused k d (omega (arith, lt, long, made.count)))), search rules),
                     ),
                   ),
                 ),
