@@ -133,6 +133,13 @@ pub record IsReadTo (bytes : List ℕ) (s : Scaled) (p : Progress) (pages : List
   pub preamble : KeepsPreamble s reading
   pub follows : Follows bytes p pages fonts reading
 
+-- of what is kept on a page only the place changes between two places
+pub record ArePassed (bytes : List ℕ) (at next : ℕ) : Type 0 where
+  pub back : at ≤ next
+  pub within : next ≤ length bytes
+  pub read : (s : Scaled) (p : Progress) (pages : List PageSpan) (fonts : Fonts) → p.at ≡ at → p.context ≡ context.Page → p.is_ended ≡ false
+      → IsReadTo bytes s p pages fonts → IsReadTo bytes s (record p { at = next }) pages fonts
+
 -- the preamble was judged, and its numbers are kept
 pub record IsBegun (bytes : List ℕ) (s : Scaled) : Type 0 where
   pub fits : length bytes ≤ LONGEST
