@@ -11,3 +11,4 @@ pub mod OneCommand
 pub mod Written
 pub mod FieldNumbers
 pub mod Unrefused
+pub mod PlainCommands

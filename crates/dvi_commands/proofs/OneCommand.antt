@@ -17,7 +17,7 @@ use Rattle.dvi_commands.proofs.Refusals.{spelled_is_not_refused}
 use Rattle.dvi_commands.proofs.Told.{spelling_tells_the_command}
 use Rattle.dvi_commands.proofs.Commands.{parted}
 
-front_of : (bytes : List ℕ) (at : ℕ) → at < length bytes → drop at bytes ≡ slice_index bytes at ∷ drop (at + 1) bytes
+pub front_of : (bytes : List ℕ) (at : ℕ) → at < length bytes → drop at bytes ≡ slice_index bytes at ∷ drop (at + 1) bytes
 front_of bytes at h = drop-cons bytes at 0 h ∙ ap (λ k. slice_index bytes at ∷ drop k bytes) (sym (add-one at))
 
 -- all that stands behind a place, as the code writes it

@@ -5,3 +5,4 @@ pub mod Writing
 pub mod Reading
 pub mod SpellingLaws
 pub mod Rows
+pub mod Plain

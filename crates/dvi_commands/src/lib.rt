@@ -9,10 +9,12 @@
 pub mod command;
 mod fields;
 pub mod laws;
+mod plain;
 mod reader;
 pub mod spelling_rows;
 mod writer;
 
 pub use crate::command::{Command, CommandFault, Context, FontDef};
+pub use crate::plain::plain_end;
 pub use crate::reader::{command_at, read_command};
 pub use crate::writer::write_command;

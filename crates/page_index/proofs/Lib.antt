@@ -10,6 +10,7 @@ mod Readings
 mod Runs
 mod Spans
 mod Steps
+mod Passed
 mod Begin
 mod Ended
 mod PageEnds

@@ -1,5 +1,5 @@
 -- What is kept of a reading while the commands behind it are read.
-use Rattle.std.specs.Prelude.{◌≡◌, ℕ, suc, ◌+◌, ◌≤◌, ℤ, pos, negsuc, Bool, true, false, List, [], ◌∷◌, ◌++◌, length, drop, nat_lt, if◌then◌else◌, int_lt, slice_get, slice_index, slice_range, Option, Some, None, IfSome, is_some, IsTrue}
+use Rattle.std.specs.Prelude.{◌≡◌, ℕ, suc, ◌+◌, ◌≤◌, ℤ, pos, negsuc, Bool, true, false, List, [], ◌∷◌, ◌++◌, length, drop, nat_lt, if◌then◌else◌, int_lt, slice_get, slice_index, slice_range, Option, Some, None, IfSome, is_some, IsTrue, IsFalse}
 use Rattle.std.specs.FinMap.{get, insert}
 use Rattle.outside.specs.FontKeys.{IsFontKey}
 use Rattle.page_index.specs.Fonts.{Fonts}
@@ -8,7 +8,8 @@ use Rattle.pixel_round.specs.Pixels.{AreEqual, Fraction, conversion}
 use Rattle.pixel_round.specs.declared.units.Units.{Units}
 use Rattle.dvi_commands.specs.Spelling.{DviCommand, Preamble, Bop, Eop, Define, Post, PostPost, Spells}
 use Rattle.dvi_commands.specs.Refusal.{may_stand}
-use Rattle.dvi_commands.specs.Reading.{Placed}
+use Rattle.dvi_commands.specs.Reading.{Begins, Placed}
+use Rattle.dvi_commands.specs.Plain.{is_plain}
 use Rattle.dvi_commands.specs.declared.command.Context.{Context}
 use Rattle.dvi_commands.specs.declared.command.Context.TheVariants as context
 use Rattle.page_index.specs.Judged.{bop_fault, define_fault, post_fault_against, postpost_fault, preamble_fault}
@@ -132,6 +133,17 @@ pub record IsReadTo (bytes : List ℕ) (s : Scaled) (p : Progress) (pages : List
   pub within : p.at ≤ length bytes
   pub preamble : KeepsPreamble s reading
   pub follows : Follows bytes p pages fonts reading
+
+-- of what is kept on a page only the place changes between two places
+pub record ArePassed (bytes : List ℕ) (at next : ℕ) : Type 0 where
+  pub back : at ≤ next
+  pub within : next ≤ length bytes
+  pub read : (s : Scaled) (p : Progress) (pages : List PageSpan) (fonts : Fonts) → p.at ≡ at → p.context ≡ context.Page → p.is_ended ≡ false
+      → IsReadTo bytes s p pages fonts → IsReadTo bytes s (record p { at = next }) pages fonts
+
+-- on a page the bytes begin with no command of which only the place is kept
+abbrev pub BeginsNoPlain : List ℕ → Type 0
+BeginsNoPlain bytes = (c : DviCommand) (front rest : List ℕ) → Begins context.Page c front rest bytes → IsFalse (is_plain c)
 
 -- the preamble was judged, and its numbers are kept
 pub record IsBegun (bytes : List ℕ) (s : Scaled) : Type 0 where

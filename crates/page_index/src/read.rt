@@ -21,6 +21,7 @@ fn walked(alloc: Global, bytes: &[u8], first: &Scaled) -> Result<Walk, IndexStop
 {
     let mut walk = Walk::begin(alloc, bytes, first);
     while !walk.progress.is_ended {
+        walk.pass_plain(bytes);
         walk.step(alloc, bytes, first)?;
     }
     Ok(walk)

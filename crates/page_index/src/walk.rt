@@ -1,16 +1,18 @@
 //! The walk over a document's commands.
 ghost use Rattle.std.specs.Prelude.{◌≡◌, ◌<◌, ◌≤◌, IfErr, OnOk, None, drop, false, length, true};
 ghost use Rattle.dvi_commands.specs.Spelling.{Define, seen, seen_definition};
+ghost use Rattle.dvi_commands.specs.declared.command.Context.TheVariants as context;
+ghost use Rattle.page_index.specs.declared.preamble.Scaled.{Scaled};
 ghost use Rattle.page_index.specs.Judged.{postpost_fault};
 ghost use Rattle.page_index.specs.Faults.{IsStopFor, as_doc_fault, is_postpost_at};
-ghost use Rattle.page_index.specs.Walked.{EarlyFault, IsBegun, IsReadTo, fonts_after, pages_after, progress_after};
+ghost use Rattle.page_index.specs.Walked.{ArePassed, BeginsNoPlain, EarlyFault, IsBegun, IsReadTo, fonts_after, pages_after, progress_after};
 
 use crate::faults::{DocFault, IndexStop};
 use crate::fonts::{FontTable, key};
 use crate::preamble::Scaled;
 use crate::progress::{PageSpan, Progress};
 use crate::trailer;
-use dvi_commands::{Command, CommandFault, Context, FontDef, read_command};
+use dvi_commands::{Command, CommandFault, Context, FontDef, plain_end, read_command};
 use std::alloc::{AllocError as NoMemory, Global};
 
 const POSTPOST: u8 = 249;
@@ -54,6 +56,19 @@ fn judge_early(
         Context::Post if opcode == POSTPOST => trailer::judge(bytes, at, post),
         _ => Ok(()),
     }
+}
+
+// The place behind the plain commands that stand there one after another: most of a page's.
+fn behind_plain(bytes: &[u8], at: usize) -> usize
+    requires { at ≤ length bytes.now }
+    ensures passed { ArePassed bytes.now at result }
+    ensures all { BeginsNoPlain (drop result bytes.now) }
+{
+    let mut end = at;
+    while let Some(next) = plain_end(bytes, end) {
+        end = next;
+    }
+    end
 }
 
 impl Walk {
@@ -101,6 +116,21 @@ impl Walk {
                 Ok(())
             }
             _ => Ok(()),
+        }
+    }
+
+    /// Goes on behind the plain commands of a page, which change nothing but the place.
+    pub fn pass_plain(&mut self, bytes: &[u8])
+        requires inside { self.old.progress.at ≤ length bytes.now }
+        requires going { self.old.progress.is_ended ≡ false }
+        ensures read { (first : Scaled) → IsReadTo bytes.now first self.old.progress self.old.pages.items self.old.fonts
+            → IsReadTo bytes.now first self.new.progress self.new.pages.items self.new.fonts }
+        ensures going { self.new.progress.is_ended ≡ false }
+        ensures back { self.old.progress.at ≤ self.new.progress.at }
+        ensures all { self.new.progress.context ≡ context.Page → BeginsNoPlain (drop self.new.progress.at bytes.now) }
+    {
+        if let Context::Page = self.progress.context {
+            self.progress.at = behind_plain(bytes, self.progress.at);
         }
     }
 

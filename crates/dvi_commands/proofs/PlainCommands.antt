@@ -1,0 +1,137 @@
+-- Plain commands by their opcodes.
+use Rattle.std.proofs.Common.{◌≡◌, ℕ, suc, ◌+◌, ◌-◌, ◌<◌, ◌≤◌, Bool, true, false, List, [], ◌∷◌, ◌++◌, length, take, drop, refl, sym, ap, subst, ◌∙◌, ◌⊎◌, inl, inr, arith, length-append, length-drop, None}
+use Rattle.std.specs.Prelude.{not, ◌&&◌, ◌||◌, ◌==◌, nat_le, slice_index, slice_range, IsTrue, if◌then◌else◌}
+use Rattle.std.specs.Int.{is_in_range}
+use Rattle.std.proofs.lemmas.Bool.{agree_below_at, and_parts, le-ltb, leb-true, ne_eqb}
+use Rattle.std.proofs.lemmas.List.{take_at}
+use Rattle.big_endian.specs.Numbers.{AreBytes}
+use Rattle.dvi_commands.specs.Plain.{IsPlainTo, is_plain, is_plain_opcode, plain_size}
+use Rattle.dvi_commands.specs.Spelling.{DviCommand, Spells}
+use Rattle.dvi_commands.specs.Refusal.{fixed_size, may_stand, refusal, size_of, tells_negative_length, text_size}
+use Rattle.dvi_commands.specs.Reading.{Begins, command_of}
+use Rattle.dvi_commands.specs.declared.command.Context.TheVariants as context
+use Rattle.dvi_commands.proofs.FieldNumbers.{bytes_behind}
+use Rattle.dvi_commands.proofs.OneCommand.{front_of}
+use Rattle.dvi_commands.proofs.Prefix.{size-spelling}
+use Rattle.dvi_commands.proofs.Refusals.{spelled_some}
+use Rattle.dvi_commands.proofs.Told.{told_by_bytes}
+use Rattle.dvi_commands.proofs.Unrefused.{unrefused_is_spelled}
+
+-- the opcode tells whether a command is plain
+opcode_tells : (op : ℕ) (fields : List ℕ) → op < 256 → is_plain (command_of (op ∷ fields)) ≡ is_plain_opcode op
+opcode_tells op fields h = agree_below_at (λ k. is_plain (command_of (k ∷ fields))) is_plain_opcode 256 op refl h
+
+-- what the opcode of a plain command says besides
+abbrev is_simple : ℕ → Bool
+is_simple op = not (is_plain_opcode op) || nat_le op 238 && may_stand context.Page op
+
+simple : (op : ℕ) → op < 256 → is_plain_opcode op ≡ true → (op ≤ 238) × (may_stand context.Page op ≡ true)
+simple op h is =
+    let all : is_simple op ≡ true = agree_below_at is_simple (λ _. true) 256 op refl h in
+    let both = and_parts (nat_le op 238) (may_stand context.Page op) (rw is at all) in
+    (leb-true op 238 both.0, both.1)
+
+no_text_size : (op : ℕ) (fields : List ℕ) → op ≤ 238 → text_size op fields ≡ 0
+no_text_size op fields h =
+    let special : is_in_range 239 242 op ≡ false = grind arith in
+    let define : is_in_range 243 246 op ≡ false = grind arith in
+    let preamble : (op == 247) ≡ false = ne_eqb op 247 (λ same. omega (arith, same, h)) in
+    rw (special, define, preamble) refl
+
+not_refused : (op : ℕ) (fields : List ℕ) → op < 256 → is_plain_opcode op ≡ true → fixed_size op ≤ length fields → refusal context.Page (op ∷ fields) ≡ None
+not_refused op fields byte is room =
+    let by = simple op byte is in
+    let other : (op == 242) ≡ false = ne_eqb op 242 (λ same. omega (arith, same, by.0)) in
+    let calm : tells_negative_length op fields ≡ false = rw other refl in
+    let text_room : fixed_size op + text_size op fields ≤ length fields = omega (arith, no_text_size op fields by.0, room) in
+    rw (le-ltb 249 op (omega (arith, by.0)), by.1, le-ltb (length fields) (fixed_size op) room, calm, le-ltb (length fields) (fixed_size op + text_size op fields) text_room) refl
+
+has_length : (op : ℕ) → (plain_size op ≡ 0 → ⊥) → is_plain_opcode op ≡ true
+has_length op some = by (is_plain_opcode op) some
+  where
+    by : (plain : Bool) → ((if plain then suc (fixed_size op) else 0) ≡ 0 → ⊥) → plain ≡ true
+    by true h = refl
+    by false h = absurd (h refl)
+
+-- ---- bytes that begin with a command, by its opcode
+
+plain_by_bytes : (c : DviCommand) (front rest fields : List ℕ) (op : ℕ) → op < 256 → Spells c front → op ∷ fields ≡ front ++ rest → is_plain c ≡ is_plain_opcode op
+plain_by_bytes c [] rest fields op byte h e = absurd (omega (arith, spelled_some c [] h))
+plain_by_bytes c (b ∷ front) rest fields op byte h e =
+    let first : b ≡ op = cc in
+    ap is_plain (told_by_bytes c (b ∷ front) h) ∙ ap (λ (k : ℕ). is_plain (command_of (k ∷ front))) first ∙ opcode_tells op front byte
+
+no_length : (op : ℕ) → plain_size op ≡ 0 → is_plain_opcode op ≡ false
+no_length op e = by (is_plain_opcode op) e
+  where
+    by : (plain : Bool) → (if plain then suc (fixed_size op) else 0) ≡ 0 → plain ≡ false
+    by true e = cc
+    by false e = refl
+
+at_most : (op : ℕ) → plain_size op ≤ suc (fixed_size op)
+at_most op = by (is_plain_opcode op)
+  where
+    by : (plain : Bool) → (if plain then suc (fixed_size op) else 0) ≤ suc (fixed_size op)
+    by true = omega arith
+    by false = omega arith
+
+-- an opcode and what stands behind it
+module _ (op : ℕ) (fields : List ℕ) (few : AreBytes (op ∷ fields)) where
+  -- the front of the bytes, as long as the opcode tells
+  plain_front : is_plain_opcode op ≡ true → fixed_size op ≤ length fields
+      → (c : DviCommand) × IsTrue (is_plain c) × (may_stand context.Page op ≡ true) × Spells c (take (suc (fixed_size op)) (op ∷ fields))
+  plain_front is room =
+      let none = not_refused op fields few.0 is room in
+      let found = unrefused_is_spelled context.Page (op ∷ fields) few none in
+      let text : text_size op fields ≡ 0 = no_text_size op fields (simple op few.0 is).0 in
+      let size : length found.1 ≡ suc (fixed_size op) =
+      sym (size-spelling found.0 found.1 found.2 found.3.spelled) ∙ ap size_of (sym found.3.whole) ∙ omega (arith, text) in
+      let front : take (suc (fixed_size op)) (op ∷ fields) ≡ found.1 = ap (λ (b : List ℕ). take (suc (fixed_size op)) b) found.3.whole ∙ take_at found.1 found.2 (suc (fixed_size op)) size in
+      let plain : is_plain found.0 ≡ true = plain_by_bytes found.0 found.1 found.2 fields op few.0 found.3.spelled found.3.whole ∙ is in
+      (found.0, plain, (simple op few.0 is).1, subst (Spells found.0) (sym front) found.3.spelled)
+
+  -- what begins with another opcode, or is shorter, begins with no plain command
+  not_plain_front : (n : ℕ) (c : DviCommand) (front rest : List ℕ) → n ≡ plain_size op → (n ≡ 0) ⊎ (suc (length fields) < n) → Spells c front → op ∷ fields ≡ front ++ rest → is_plain c ≡ false
+  not_plain_front n c front rest size (inl none) spelled whole =
+      plain_by_bytes c front rest fields op few.0 spelled whole ∙ no_length op (sym size ∙ none)
+  not_plain_front n c front rest size (inr cut) spelled whole =
+      let sized : size_of (op ∷ fields) ≡ length front = ap size_of whole ∙ size-spelling c front rest spelled in
+      let room : suc (length fields) ≡ length front + length rest = ap length whole ∙ length-append front rest in
+      absurd (omega (arith, sized, room, at_most op, size, cut))
+
+-- ---- a place of bytes
+
+module _ (bytes : List ℕ) (at n : ℕ) (few : AreBytes bytes) (here : at < length bytes) (length_is : n ≡ plain_size (slice_index bytes at)) where
+  whole : drop at bytes ≡ slice_index bytes at ∷ drop (at + 1) bytes
+  whole = front_of bytes at here
+
+  few_there : AreBytes (slice_index bytes at ∷ drop (at + 1) bytes)
+  few_there = subst AreBytes whole (bytes_behind at bytes few)
+
+  long : length (drop (at + 1) bytes) ≡ length bytes - (at + 1)
+  long = length-drop (at + 1) bytes
+
+  -- where the opcode is of a plain command that is all there, the command stands there
+  pub plain_here : (n ≡ 0 → ⊥) → n ≤ length bytes - at → IsPlainTo bytes at (at + n)
+  plain_here some room =
+      let is : is_plain_opcode (slice_index bytes at) ≡ true = has_length (slice_index bytes at) (λ none. some (length_is ∙ none)) in
+      let size : n ≡ suc (fixed_size (slice_index bytes at)) = length_is ∙ rw is refl in
+      let found = plain_front (slice_index bytes at) (drop (at + 1) bytes) few_there is (omega (arith, long, size, room)) in
+      let span : suc (fixed_size (slice_index bytes at)) ≡ at + n - at = omega (arith, size) in
+      let front : take (suc (fixed_size (slice_index bytes at))) (slice_index bytes at ∷ drop (at + 1) bytes) ≡ slice_range bytes at (at + n) =
+      ap (λ (k : ℕ). take k (slice_index bytes at ∷ drop (at + 1) bytes)) span ∙ ap (λ (b : List ℕ). take (at + n - at) b) (sym whole) in
+      record {
+        command = found.0;
+        plain = found.1;
+        some = omega (arith, size);
+        within = omega (arith, room, here);
+        spelled = subst (Spells found.0) front found.3;
+        allowed = found.2;
+      }
+
+  -- where it is not, no plain command does
+  pub none_plain : (c : DviCommand) (front rest : List ℕ) → (n ≡ 0) ⊎ (length bytes - at < n) → Begins context.Page c front rest (drop at bytes) → is_plain c ≡ false
+  none_plain c front rest (inl none) begins =
+      not_plain_front (slice_index bytes at) (drop (at + 1) bytes) few_there n c front rest length_is (inl none) begins.spelled (sym whole ∙ begins.whole)
+  none_plain c front rest (inr cut) begins =
+      not_plain_front (slice_index bytes at) (drop (at + 1) bytes) few_there n c front rest length_is (inr (omega (arith, long, cut, here))) begins.spelled (sym whole ∙ begins.whole)
