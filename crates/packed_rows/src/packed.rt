@@ -4,10 +4,11 @@ ghost use Rattle.std.specs.Prelude.{◌≡◌, ◌+◌, ◌^◌, ◌<◌, ◌≤
 ghost use Rattle.std.specs.List.{flat_map};
 ghost use Rattle.packed_rows.specs.Bitmap.{is_black};
 ghost use Rattle.packed_rows.specs.Changes.{white_bitmap, with_black, with_copies};
+ghost use Rattle.packed_rows.specs.Joined.{IsWhiteFrom, with_word};
 ghost use Rattle.packed_rows.specs.Packing.{row_text, pixels_of, IsPadded};
 ghost use Rattle.packed_rows.specs.Stored.{bitmap_of, IsStored};
 
-use crate::black::blacken_rows;
+use crate::black::{blacken_rows, join_rows};
 use crate::row::{is_black, row_bytes};
 use crate::rows::{Span, copy_rows};
 use std::alloc::{AllocError as NoMemory, Global};
@@ -84,6 +85,17 @@ impl PackedBitmap {
         blacken_rows(&mut self.bytes, row_bytes(self.width), columns, rows);
     }
 
+    /// Joins a word of pixels into some rows, of a bitmap at most sixty-four pixels wide.
+    pub fn join_rows(&mut self, word: u64, rows: Span)
+        requires narrow { self.old.width ≤ 64 }
+        requires white { IsWhiteFrom self.old.width word }
+        requires rows_ordered { rows.from ≤ rows.until }
+        requires rows_inside { rows.until ≤ self.old.height }
+        ensures { self.new ≡ with_word self.old word rows.from rows.until }
+    {
+        join_rows(&mut self.bytes, row_bytes(self.width), word, rows);
+    }
+
     /// Makes the `copies` rows below row `y` copies of it.
     pub fn copy_down(&mut self, y: usize, copies: usize)
         requires { y + copies < self.old.height }
@@ -140,6 +152,11 @@ mod tests {
         );
         assert_eq!(rt; bitmap.row(2), [0x03, 0xc0].as_slice());
         assert!(rt; bitmap.is_black(6, 2) && !bitmap.is_black(5, 2));
+        bitmap.join_rows(0x8180_0000_0000_0000, Span { from: 2, until: 4 });
+        assert_eq!(rt;
+            bitmap.rows(),
+            [0, 0, 0x03, 0xc0, 0x83, 0xc0, 0x81, 0x80].as_slice()
+        );
         Ok(())
     }
 }

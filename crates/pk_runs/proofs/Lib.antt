@@ -6,6 +6,7 @@ pub mod NoGreatest
 pub mod Hex
 pub mod Shown
 pub mod Drawn
+pub mod Kept
 pub mod Steps
 pub mod Complete
 pub mod Empty

@@ -1,7 +1,7 @@
 -- One item more is read and painted, or none can be.
 use Rattle.std.proofs.Common.{◌≡◌, ℕ, ◌+◌, ◌-◌, ◌*◌, ◌/◌, ◌%◌, ◌^◌, ◌<◌, ◌≤◌, ◌⊎◌, inl, inr, Bool, true, false, not, eqb, List, [], ◌∷◌, ◌++◌, length, replicate, min, refl, sym, ap, subst, ◌∙◌, arith, append_assoc, length-append}
 use Rattle.std.specs.Prelude.{IsTrue}
-use Rattle.std.proofs.lemmas.Bool.{cond-true, cond-false, eq-eqb, ne_eqb, or_left, or_from, eqb-true, eqb-false}
+use Rattle.std.proofs.lemmas.Bool.{cases_lt, cond-true, cond-false, eq-eqb, ne_eqb, or_left, or_from, eqb-true, eqb-false}
 use Rattle.std.proofs.lemmas.List.{length-replicate}
 use Rattle.std.proofs.lemmas.Nat.{div-mul-add, mod-mul-add, mul-le}
 use Rattle.pk_runs.specs.Numbers.{nybbles_of, Item, Run, Repeat, SpellsNumber, IsRepeatMark}
@@ -86,6 +86,14 @@ room_is_enough n c w k r h inside fit small = omega (arith, small, inside, times
 pub room_is_small : (c w k r h : ℕ) → w ≤ 16384 → h ≤ 16384 → (w - c) + w * (h - (r + 1 + k)) < 2 ^ 32 - 1
 room_is_small c w k r h narrow short = omega (arith, narrow, short, mul-le w (h - (r + 1 + k)) 16384 16384 narrow (omega (arith, short)))
 
+-- where a test says so, there is room for n, or there isn't
+pub no_room : (n room : ℕ) (b : Bool) → ((IsTrue b → n ≤ room) × (n ≤ room → IsTrue b)) → b ≡ false → room < n
+no_room n room b e h = by (cases_lt room n)
+  where
+    by : (room < n) ⊎ (n ≤ room) → room < n
+    by (inl below) = below
+    by (inr fits) = let clash : ⊥ = cc (e.1 fits, h) in absurd clash
+
 -- ---- steps
 
 cant_go_on : (dyn_f w h row : ℕ) (items : List Item) (nybbles : List ℕ) (repeated : Bool) (f : RunFault) → rows_complete w items ≡ row → has_repeat w items (next_row w items) ≡ repeated
@@ -118,6 +126,12 @@ pub cant_read : (bytes : List ℕ) (dyn_f : ℕ) (first : Bool) (w h : ℕ) (res
     → CantRead dyn_f rest p.row p.repeated f → IsStuck bytes dyn_f w h f
 cant_read bytes dyn_f first w h rest p f low d r =
     stuck_by bytes dyn_f first w h rest p f low d (cant_go_on dyn_f w h p.row d.items rest p.repeated f (at_row first d.items w h p d.drawn) (at_repeated first d.items w h p d.drawn) r)
+
+-- the code asks the painter for its row, and whether that has a repeat count
+pub cant_read_at : (bytes : List ℕ) (dyn_f : ℕ) (first : Bool) (w h row : ℕ) (repeated : Bool) (rest : List ℕ) (p : Painter) (f : RunFault) → row ≡ p.row → repeated ≡ p.repeated → p.row < h
+    → IsPaintedTo bytes dyn_f first w h rest p → CantRead dyn_f rest row repeated f → IsStuck bytes dyn_f w h f
+cant_read_at bytes dyn_f first w h row repeated rest p f e g low d r =
+    cant_read bytes dyn_f first w h rest p f low d (subst (λ (n : ℕ). CantRead dyn_f rest n p.repeated f) e (subst (λ (b : Bool). CantRead dyn_f rest row b f) g r))
 
 pub run_too_long : (bytes : List ℕ) (dyn_f : ℕ) (first : Bool) (w h m : ℕ) (old rest : List ℕ) (p : Painter) → p.row < h → (w - p.column) + w * (h - (p.row + 1 + p.copies)) < m
     → IsItemRead dyn_f old rest p.repeated (read.Run m) → IsPaintedTo bytes dyn_f first w h old p → IsStuck bytes dyn_f w h fault.Overrun
