@@ -152,11 +152,6 @@ mod tests {
         );
         assert_eq!(rt; bitmap.row(2), [0x03, 0xc0].as_slice());
         assert!(rt; bitmap.is_black(6, 2) && !bitmap.is_black(5, 2));
-        bitmap.join_rows(0x8180_0000_0000_0000, Span { from: 2, until: 4 });
-        assert_eq!(rt;
-            bitmap.rows(),
-            [0, 0, 0x03, 0xc0, 0x83, 0xc0, 0x81, 0x80].as_slice()
-        );
         Ok(())
     }
 }
