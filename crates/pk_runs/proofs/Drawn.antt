@@ -238,11 +238,11 @@ pub record IsRun (n : ℕ) (old new : Painter) : Type 0 where
   pub drawn : (ps : List Bool) (rep : ℕ → ℕ) (mark : ℕ → Bool) → IsDrawn ps rep mark old.bits.width old.bits.height old
       → IsDrawn (ps ++ replicate n old.black) rep mark old.bits.width old.bits.height new
 
-pub runs_end : (n : ℕ) (old : Painter) (left : ℕ) (p mid last : Painter) → left < p.bits.width - p.column → mid ≡ painted p left → last ≡ record mid { black = not mid.black }
+pub runs_end : (n : ℕ) (old : Painter) (left : ℕ) (p last : Painter) → left < p.bits.width - p.column → last ≡ record (painted p left) { black = not p.black }
     → RunsOn n old left p → IsRun n old last
-runs_end n old left p mid last short is_mid is_last r =
+runs_end n old left p last short is_last r =
     let size = painted_size p.black p.bits p.column (p.column + left) p.row (p.row + 1) in
-    subst (λ (q : Painter). IsRun n old q) (sym (is_last ∙ ap (λ (q : Painter). record q { black = not q.black }) is_mid)) (record {
+    subst (λ (q : Painter). IsRun n old q) (sym is_last) (record {
       turned = ap not r.colour;
       ready = record { low = omega (arith, r.ready.low, size.1); fit = λ h. omega (arith, r.ready.fit (omega (arith, h, size.1)), size.1) };
       wide = size.0 ∙ r.wide;

@@ -8,6 +8,7 @@ pub mod Shown
 pub mod Drawn
 pub mod Kept
 pub mod Steps
+pub mod Within
 pub mod Complete
 pub mod Empty
 pub mod RowsGiven

@@ -6,13 +6,13 @@ use Rattle.std.proofs.lemmas.List.{length-replicate}
 use Rattle.std.proofs.lemmas.Nat.{div-mul-add, mod-mul-add, mul-le}
 use Rattle.pk_runs.specs.Numbers.{nybbles_of, Item, Run, Repeat, SpellsNumber, IsRepeatMark}
 use Rattle.pk_runs.specs.Raster.{pixel_count, colour_after, pixels, next_row, has_repeat, copies, count_with_copies, rows_complete, pixels_left, CantGoOn, IsStuck}
-use Rattle.pk_runs.specs.Painting.{IsDrawn}
+use Rattle.pk_runs.specs.Painting.{painted, IsDrawn}
 use Rattle.pk_runs.specs.Reading.{IsItemRead, CantRead, IsPaintedTo}
 use Rattle.pk_runs.specs.declared.faults.RunFault.{RunFault}
 use Rattle.pk_runs.specs.declared.faults.RunFault.TheVariants as fault
 use Rattle.pk_runs.specs.declared.items.Reading.TheVariants as read
 use Rattle.pk_runs.specs.declared.painter.Painter.{Painter}
-use Rattle.pk_runs.proofs.Drawn.{drawn_repeat}
+use Rattle.pk_runs.proofs.Drawn.{drawn_in_row, drawn_turned, drawn_repeat}
 
 -- ---- items read
 
@@ -165,6 +165,14 @@ ran bytes dyn_f first w h m old rest p next low narrow short small r turned draw
   where
     exact : m ≡ r.0
     exact = omega (arith, r.4, small, room_is_small p.column w p.copies p.row h narrow short)
+
+-- a run that ends within the row
+pub ran_within : (bytes : List ℕ) (dyn_f : ℕ) (first : Bool) (w h m : ℕ) (old rest : List ℕ) (p next : Painter) → p.row < h → w ≤ 16384 → h ≤ 16384 → m < w - p.column
+    → IsItemRead dyn_f old rest p.repeated (read.Run m) → next ≡ record (painted p m) { black = not p.black } → IsPaintedTo bytes dyn_f first w h old p → IsPaintedTo bytes dyn_f first w h rest next
+ran_within bytes dyn_f first w h m old rest p next low narrow short within r is d =
+    ran bytes dyn_f first w h m old rest p next low narrow short (omega (arith, within)) r (ap (λ (q : Painter). q.black) is)
+    (λ ps rep mark e. subst (λ (q : Painter). IsDrawn (ps ++ replicate m p.black) rep mark w h q) (sym is)
+    (drawn_turned (ps ++ replicate m p.black) rep mark w h (painted p m) (not p.black) (drawn_in_row ps rep mark w h m p (omega (arith, within)) e))) d
 
 pub repeated_by : (bytes : List ℕ) (dyn_f : ℕ) (first : Bool) (w h m : ℕ) (old rest : List ℕ) (p : Painter) → p.row < h → h ≤ 16384 → m ≤ h - p.row - 1
     → IsItemRead dyn_f old rest p.repeated (read.Repeat m) → IsPaintedTo bytes dyn_f first w h old p → IsPaintedTo bytes dyn_f first w h rest (record p { copies = m; repeated = true })

@@ -118,6 +118,15 @@ impl NarrowPainter {
         self.bits.width() - self.column
     }
 
+    /// Paints a run that ends within the next row. The next run has the other colour.
+    pub fn run_within(&mut self, n: u32)
+        requires { self.old.column + n ≤ self.old.bits.width }
+        ensures { self.new ≡ record (painted self.old n) { black = not self.old.black } }
+    {
+        self.paint(n);
+        self.turn();
+    }
+
     /// Paints a run of so many pixels in the colour that is due, over row ends. The next run has the other colour.
     pub fn run(&mut self, n: u32)
         requires short { self.old.bits.height < 2 ^ 16 }
@@ -140,8 +149,7 @@ impl NarrowPainter {
             self.end_row();
             left -= piece;
         }
-        self.paint(left);
-        self.turn();
+        self.run_within(left);
     }
 
     /// Takes a repeat count for the next row.

@@ -2,6 +2,7 @@
 
 ghost use Rattle.std.specs.Prelude.{◌≡◌, ◌^◌, ◌<◌, ◌≤◌, ℕ, Bool, List, length, MatchResult, OnOk};
 ghost use Rattle.packed_rows.specs.Changes.{white_bitmap};
+ghost use Rattle.pk_runs.specs.Narrow.{IsNextItem};
 ghost use Rattle.pk_runs.specs.Painting.{IsReady};
 ghost use Rattle.pk_runs.specs.Raster.{IsRunRaster, IsStuck};
 ghost use Rattle.pk_runs.specs.Reading.{IsPaintedTo};
@@ -12,7 +13,42 @@ use crate::narrow::NarrowPainter;
 use crate::nybbles::Nybbles;
 use packed_rows::PackedBitmap;
 
-// Reads and paints one run, or takes one repeat count.
+// Reads and paints the runs that end within the next row, and gives the item behind them.
+fn runs_in_row(
+    painter: &mut NarrowPainter,
+    nybbles: &mut Nybbles,
+    dyn_f: u8,
+) -> Result<Reading, RunFault>
+    requires runs { dyn_f ≤ 13 }
+    requires narrow { painter.old.bits.width ≤ 16384 }
+    requires short { painter.old.bits.height ≤ 16384 }
+    requires inside { painter.old.column < painter.old.bits.width }
+    requires ready { IsReady painter.old }
+    requires low { painter.old.row < painter.old.bits.height }
+    ensures inside { painter.new.column < painter.new.bits.width }
+    ensures ready { IsReady painter.new }
+    ensures low { painter.new.row < painter.new.bits.height }
+    ensures wide { painter.new.bits.width ≡ painter.old.bits.width }
+    ensures high { painter.new.bits.height ≡ painter.old.bits.height }
+    ensures fewer { OnOk result (length nybbles.new < length nybbles.old) }
+    ensures painted { (bytes : List ℕ) (first : Bool) →
+        IsPaintedTo bytes dyn_f first painter.old.bits.width painter.old.bits.height nybbles.old painter.old →
+        MatchResult result (IsNextItem bytes dyn_f first painter.old.bits.width painter.old.bits.height nybbles.new painter.new)
+        (IsStuck bytes dyn_f painter.old.bits.width painter.old.bits.height) }
+{
+    loop {
+        let item = next_item(nybbles, dyn_f, painter.row(), painter.is_repeated())?;
+        let Reading::Run(n) = item else {
+            return Ok(item);
+        };
+        if n >= u64::from(painter.left()) {
+            return Ok(item);
+        }
+        painter.run_within(n as u32);
+    }
+}
+
+// Reads and paints runs to a row's end, or takes one repeat count.
 fn step(painter: &mut NarrowPainter, nybbles: &mut Nybbles, dyn_f: u8) -> Result<(), RunFault>
     requires runs { dyn_f ≤ 13 }
     requires narrow { painter.old.bits.width ≤ 16384 }
@@ -29,7 +65,7 @@ fn step(painter: &mut NarrowPainter, nybbles: &mut Nybbles, dyn_f: u8) -> Result
         MatchResult result (λ _. IsPaintedTo bytes dyn_f first painter.old.bits.width painter.old.bits.height nybbles.new painter.new)
         (IsStuck bytes dyn_f painter.old.bits.width painter.old.bits.height) }
 {
-    match next_item(nybbles, dyn_f, painter.row(), painter.is_repeated())? {
+    match runs_in_row(painter, nybbles, dyn_f)? {
         Reading::Run(n) => {
             if !painter.has_room(n) {
                 return Err(RunFault::Overrun);

@@ -7,5 +7,5 @@ loop-left-preserved c = runs_row c.args.n c.args.self.now c.loop-left.left c.lef
     (omega (arith, c.loop-left-test.true, c.left.ensures.value, c.left-piece.ensures.value)) c.paint.ensures c.end_row.ensures c.loop-left.invariant
 
 pub returns-clause-drawn : goal.returns-clause-drawn
-returns-clause-drawn c = (runs_end c.args.n c.args.self.now c.loop-left.left c.loop-left.self c.paint-2.new.self c.turn.new.self
-    (omega (arith, c.loop-left-test.false, c.left.ensures.value)) c.paint-2.ensures c.turn.ensures c.loop-left.invariant).drawn
+returns-clause-drawn c = (runs_end c.args.n c.args.self.now c.loop-left.left c.loop-left.self c.run_within.new.self
+    (omega (arith, c.loop-left-test.false, c.left.ensures.value)) c.run_within.ensures c.loop-left.invariant).drawn
