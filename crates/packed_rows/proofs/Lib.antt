@@ -10,6 +10,7 @@ pub mod EightBytes
 pub mod Parts
 pub mod Turned
 pub mod BlackWords
+pub mod JoinedRows
 pub mod Counts
 pub mod Stamping
 pub mod PartsOver

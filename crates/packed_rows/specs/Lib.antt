@@ -4,3 +4,4 @@ pub mod Stored
 pub mod Changes
 pub mod Stamped
 pub mod Coordinates
+pub mod Joined

@@ -4,10 +4,11 @@ ghost use Rattle.std.specs.Prelude.{◌≡◌, ◌+◌, ◌^◌, ◌<◌, ◌≤
 ghost use Rattle.std.specs.List.{flat_map};
 ghost use Rattle.packed_rows.specs.Bitmap.{is_black};
 ghost use Rattle.packed_rows.specs.Changes.{white_bitmap, with_black, with_copies};
+ghost use Rattle.packed_rows.specs.Joined.{IsWhiteFrom, with_word};
 ghost use Rattle.packed_rows.specs.Packing.{row_text, pixels_of, IsPadded};
 ghost use Rattle.packed_rows.specs.Stored.{bitmap_of, IsStored};
 
-use crate::black::blacken_rows;
+use crate::black::{blacken_rows, join_rows};
 use crate::row::{is_black, row_bytes};
 use crate::rows::{Span, copy_rows};
 use std::alloc::{AllocError as NoMemory, Global};
@@ -82,6 +83,17 @@ impl PackedBitmap {
         ensures { self.new ≡ with_black self.old columns.from columns.until rows.from rows.until }
     {
         blacken_rows(&mut self.bytes, row_bytes(self.width), columns, rows);
+    }
+
+    /// Joins a word of pixels into some rows, of a bitmap at most sixty-four pixels wide.
+    pub fn join_rows(&mut self, word: u64, rows: Span)
+        requires narrow { self.old.width ≤ 64 }
+        requires white { IsWhiteFrom self.old.width word }
+        requires rows_ordered { rows.from ≤ rows.until }
+        requires rows_inside { rows.until ≤ self.old.height }
+        ensures { self.new ≡ with_word self.old word rows.from rows.until }
+    {
+        join_rows(&mut self.bytes, row_bytes(self.width), word, rows);
     }
 
     /// Makes the `copies` rows below row `y` copies of it.

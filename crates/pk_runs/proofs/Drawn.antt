@@ -1,5 +1,5 @@
 -- The painter's steps keep what is drawn.
-use Rattle.std.proofs.Common.{◌≡◌, ℕ, suc, ◌+◌, ◌-◌, ◌*◌, ◌<◌, ◌≤◌, ◌⊎◌, inl, inr, Bool, true, false, ◌&&◌, ◌||◌, cond, List, [], ◌∷◌, ◌++◌, length, get_or, drop, replicate, refl, sym, ap, ◌∙◌, arith, length-append, append_assoc, append-nil, subst, min}
+use Rattle.std.proofs.Common.{◌≡◌, ℕ, suc, ◌+◌, ◌-◌, ◌*◌, ◌<◌, ◌≤◌, ◌⊎◌, inl, inr, Bool, true, false, ◌&&◌, ◌||◌, cond, List, [], ◌∷◌, ◌++◌, length, get_or, drop, replicate, refl, sym, ap, ◌∙◌, arith, length-append, append_assoc, append-nil, subst, min, not}
 use Rattle.std.proofs.lemmas.Bool.Decides.{nat_tests}
 use Rattle.std.proofs.lemmas.List.{length-replicate, replicate-append-replicate}
 use Rattle.std.proofs.lemmas.Bool.{cases_lt}
@@ -214,3 +214,43 @@ runs_more n old left piece p next some is_piece in_row row_ends r = by (cases_lt
           drawn = λ ps rep mark d. subst (λ (l : List Bool). IsDrawn l rep mark old.bits.width old.bits.height (row_ended (painted p piece))) (joined ps n left piece old.black p.black r.colour (omega (arith, is_piece, long)) r.bound)
               (drawn_row_ends (ps ++ replicate (n - left) old.black) rep mark old.bits.width old.bits.height piece p full (omega (arith, low, r.high)) (r.drawn ps rep mark d));
         })
+
+-- ---- a run by whole rows
+
+-- a piece up to the row's end
+pub runs_row : (n : ℕ) (old : Painter) (left piece : ℕ) (p mid next : Painter) → piece ≡ p.bits.width - p.column → piece ≤ left → mid ≡ painted p piece → next ≡ row_ended mid
+    → RunsOn n old left p → RunsOn n old (left - piece) next
+runs_row n old left piece p mid next is_piece long is_mid is_next r =
+    runs_more n old left piece p next (omega (arith, is_piece, long, r.inside, r.wide)) (omega (arith, is_piece, long, r.wide)) (λ h. absurd (omega (arith, h, is_piece))) (λ _. is_next ∙ ap row_ended is_mid) r
+
+pub runs_fit : (n : ℕ) (old : Painter) (left piece : ℕ) (p mid : Painter) → 0 < left → mid ≡ painted p piece → RunsOn n old left p → (mid.row + mid.copies < mid.bits.height) × (mid.bits.height ≡ old.bits.height)
+runs_fit n old left piece p mid some is_mid r =
+    let size = painted_size p.black p.bits p.column (p.column + piece) p.row (p.row + 1) in
+    subst (λ (q : Painter). (q.row + q.copies < q.bits.height) × (q.bits.height ≡ old.bits.height)) (sym is_mid)
+    (omega (arith, r.ready.fit (runs_low n old left p some r), size.1), size.1 ∙ r.high)
+
+-- the last piece, within a row
+pub record IsRun (n : ℕ) (old new : Painter) : Type 0 where
+  pub turned : new.black ≡ not old.black
+  pub ready : IsReady new
+  pub wide : new.bits.width ≡ old.bits.width
+  pub high : new.bits.height ≡ old.bits.height
+  pub drawn : (ps : List Bool) (rep : ℕ → ℕ) (mark : ℕ → Bool) → IsDrawn ps rep mark old.bits.width old.bits.height old
+      → IsDrawn (ps ++ replicate n old.black) rep mark old.bits.width old.bits.height new
+
+pub runs_end : (n : ℕ) (old : Painter) (left : ℕ) (p last : Painter) → left < p.bits.width - p.column → last ≡ record (painted p left) { black = not p.black }
+    → RunsOn n old left p → IsRun n old last
+runs_end n old left p last short is_last r =
+    let size = painted_size p.black p.bits p.column (p.column + left) p.row (p.row + 1) in
+    subst (λ (q : Painter). IsRun n old q) (sym is_last) (record {
+      turned = ap not r.colour;
+      ready = record { low = omega (arith, r.ready.low, size.1); fit = λ h. omega (arith, r.ready.fit (omega (arith, h, size.1)), size.1) };
+      wide = size.0 ∙ r.wide;
+      high = size.1 ∙ r.high;
+      drawn = λ ps rep mark d.
+          let whole : n - (left - left) ≡ n = omega arith in
+          drawn_turned (ps ++ replicate n old.black) rep mark old.bits.width old.bits.height (painted p left) (not p.black)
+          (subst (λ (l : List Bool). IsDrawn l rep mark old.bits.width old.bits.height (painted p left))
+          (joined ps n left left old.black p.black r.colour (omega arith) r.bound ∙ ap (λ k. ps ++ replicate k old.black) whole)
+          (drawn_in_row (ps ++ replicate (n - left) old.black) rep mark old.bits.width old.bits.height left p (omega (arith, short, r.wide)) (r.drawn ps rep mark d)));
+    })

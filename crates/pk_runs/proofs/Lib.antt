@@ -6,7 +6,9 @@ pub mod NoGreatest
 pub mod Hex
 pub mod Shown
 pub mod Drawn
+pub mod Kept
 pub mod Steps
+pub mod Within
 pub mod Complete
 pub mod Empty
 pub mod RowsGiven

@@ -1,18 +1,18 @@
 -- One item more is read and painted, or none can be.
 use Rattle.std.proofs.Common.{◌≡◌, ℕ, ◌+◌, ◌-◌, ◌*◌, ◌/◌, ◌%◌, ◌^◌, ◌<◌, ◌≤◌, ◌⊎◌, inl, inr, Bool, true, false, not, eqb, List, [], ◌∷◌, ◌++◌, length, replicate, min, refl, sym, ap, subst, ◌∙◌, arith, append_assoc, length-append}
 use Rattle.std.specs.Prelude.{IsTrue}
-use Rattle.std.proofs.lemmas.Bool.{cond-true, cond-false, eq-eqb, ne_eqb, or_left, or_from, eqb-true, eqb-false}
+use Rattle.std.proofs.lemmas.Bool.{cases_lt, cond-true, cond-false, eq-eqb, ne_eqb, or_left, or_from, eqb-true, eqb-false}
 use Rattle.std.proofs.lemmas.List.{length-replicate}
 use Rattle.std.proofs.lemmas.Nat.{div-mul-add, mod-mul-add, mul-le}
 use Rattle.pk_runs.specs.Numbers.{nybbles_of, Item, Run, Repeat, SpellsNumber, IsRepeatMark}
 use Rattle.pk_runs.specs.Raster.{pixel_count, colour_after, pixels, next_row, has_repeat, copies, count_with_copies, rows_complete, pixels_left, CantGoOn, IsStuck}
-use Rattle.pk_runs.specs.Painting.{IsDrawn}
+use Rattle.pk_runs.specs.Painting.{painted, IsDrawn}
 use Rattle.pk_runs.specs.Reading.{IsItemRead, CantRead, IsPaintedTo}
 use Rattle.pk_runs.specs.declared.faults.RunFault.{RunFault}
 use Rattle.pk_runs.specs.declared.faults.RunFault.TheVariants as fault
 use Rattle.pk_runs.specs.declared.items.Reading.TheVariants as read
 use Rattle.pk_runs.specs.declared.painter.Painter.{Painter}
-use Rattle.pk_runs.proofs.Drawn.{drawn_repeat}
+use Rattle.pk_runs.proofs.Drawn.{drawn_in_row, drawn_turned, drawn_repeat}
 
 -- ---- items read
 
@@ -86,6 +86,14 @@ room_is_enough n c w k r h inside fit small = omega (arith, small, inside, times
 pub room_is_small : (c w k r h : ℕ) → w ≤ 16384 → h ≤ 16384 → (w - c) + w * (h - (r + 1 + k)) < 2 ^ 32 - 1
 room_is_small c w k r h narrow short = omega (arith, narrow, short, mul-le w (h - (r + 1 + k)) 16384 16384 narrow (omega (arith, short)))
 
+-- where a test says so, there is room for n, or there isn't
+pub no_room : (n room : ℕ) (b : Bool) → ((IsTrue b → n ≤ room) × (n ≤ room → IsTrue b)) → b ≡ false → room < n
+no_room n room b e h = by (cases_lt room n)
+  where
+    by : (room < n) ⊎ (n ≤ room) → room < n
+    by (inl below) = below
+    by (inr fits) = let clash : ⊥ = cc (e.1 fits, h) in absurd clash
+
 -- ---- steps
 
 cant_go_on : (dyn_f w h row : ℕ) (items : List Item) (nybbles : List ℕ) (repeated : Bool) (f : RunFault) → rows_complete w items ≡ row → has_repeat w items (next_row w items) ≡ repeated
@@ -119,6 +127,12 @@ pub cant_read : (bytes : List ℕ) (dyn_f : ℕ) (first : Bool) (w h : ℕ) (res
 cant_read bytes dyn_f first w h rest p f low d r =
     stuck_by bytes dyn_f first w h rest p f low d (cant_go_on dyn_f w h p.row d.items rest p.repeated f (at_row first d.items w h p d.drawn) (at_repeated first d.items w h p d.drawn) r)
 
+-- the code asks the painter for its row, and whether that has a repeat count
+pub cant_read_at : (bytes : List ℕ) (dyn_f : ℕ) (first : Bool) (w h row : ℕ) (repeated : Bool) (rest : List ℕ) (p : Painter) (f : RunFault) → row ≡ p.row → repeated ≡ p.repeated → p.row < h
+    → IsPaintedTo bytes dyn_f first w h rest p → CantRead dyn_f rest row repeated f → IsStuck bytes dyn_f w h f
+cant_read_at bytes dyn_f first w h row repeated rest p f e g low d r =
+    cant_read bytes dyn_f first w h rest p f low d (subst (λ (n : ℕ). CantRead dyn_f rest n p.repeated f) e (subst (λ (b : Bool). CantRead dyn_f rest row b f) g r))
+
 pub run_too_long : (bytes : List ℕ) (dyn_f : ℕ) (first : Bool) (w h m : ℕ) (old rest : List ℕ) (p : Painter) → p.row < h → (w - p.column) + w * (h - (p.row + 1 + p.copies)) < m
     → IsItemRead dyn_f old rest p.repeated (read.Run m) → IsPaintedTo bytes dyn_f first w h old p → IsStuck bytes dyn_f w h fault.Overrun
 run_too_long bytes dyn_f first w h m old rest p low long r d =
@@ -151,6 +165,14 @@ ran bytes dyn_f first w h m old rest p next low narrow short small r turned draw
   where
     exact : m ≡ r.0
     exact = omega (arith, r.4, small, room_is_small p.column w p.copies p.row h narrow short)
+
+-- a run that ends within the row
+pub ran_within : (bytes : List ℕ) (dyn_f : ℕ) (first : Bool) (w h m : ℕ) (old rest : List ℕ) (p next : Painter) → p.row < h → w ≤ 16384 → h ≤ 16384 → m < w - p.column
+    → IsItemRead dyn_f old rest p.repeated (read.Run m) → next ≡ record (painted p m) { black = not p.black } → IsPaintedTo bytes dyn_f first w h old p → IsPaintedTo bytes dyn_f first w h rest next
+ran_within bytes dyn_f first w h m old rest p next low narrow short within r is d =
+    ran bytes dyn_f first w h m old rest p next low narrow short (omega (arith, within)) r (ap (λ (q : Painter). q.black) is)
+    (λ ps rep mark e. subst (λ (q : Painter). IsDrawn (ps ++ replicate m p.black) rep mark w h q) (sym is)
+    (drawn_turned (ps ++ replicate m p.black) rep mark w h (painted p m) (not p.black) (drawn_in_row ps rep mark w h m p (omega (arith, within)) e))) d
 
 pub repeated_by : (bytes : List ℕ) (dyn_f : ℕ) (first : Bool) (w h m : ℕ) (old rest : List ℕ) (p : Painter) → p.row < h → h ≤ 16384 → m ≤ h - p.row - 1
     → IsItemRead dyn_f old rest p.repeated (read.Repeat m) → IsPaintedTo bytes dyn_f first w h old p → IsPaintedTo bytes dyn_f first w h rest (record p { copies = m; repeated = true })

@@ -4,3 +4,4 @@ pub mod Painting
 pub mod Reading
 pub mod Stops
 pub mod Given
+pub mod Narrow

@@ -1,6 +1,6 @@
 -- The steps of painting runs, and what is painted after some of them.
 use Rattle.std.specs.Prelude.{◌≡◌, ℕ, ◌+◌, ◌*◌, ◌<◌, ◌≤◌, Bool, false, List, [], ◌∷◌, ◌++◌, length, drop, slice_index_or, if◌then◌else◌}
-use Rattle.packed_rows.specs.Bitmap.{Bitmap, IsShaped, is_black}
+use Rattle.packed_rows.specs.Bitmap.{IsShaped, is_black}
 use Rattle.packed_rows.specs.Changes.{with_black, with_copies}
 use Rattle.pk_runs.specs.Raster.{rows_with_copies, count_with_copies}
 use Rattle.pk_runs.specs.declared.painter.Painter.{Painter}

@@ -7,6 +7,8 @@ mod given;
 mod glyph;
 mod items;
 mod laws;
+mod narrow;
+mod narrow_runs;
 mod numbers;
 mod nybbles;
 mod painter;

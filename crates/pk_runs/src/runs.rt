@@ -8,6 +8,7 @@ ghost use Rattle.pk_runs.specs.Reading.{IsPaintedTo};
 
 use crate::faults::RunFault;
 use crate::items::{Reading, next_item};
+use crate::narrow_runs::paint_narrow;
 use crate::nybbles::Nybbles;
 use crate::painter::Painter;
 use packed_rows::PackedBitmap;
@@ -65,6 +66,9 @@ pub fn paint_runs(
         (λ b. (b.width ≡ w) × (b.height ≡ h) × IsRunRaster bytes.now dyn_f black w h b.rows)
         (IsStuck bytes.now dyn_f w h) }
 {
+    if w < 64 {
+        return paint_narrow(bits, w, h, bytes, dyn_f, black);
+    }
     let mut painter = Painter::new(bits, black);
     let mut nybbles = Nybbles::new(bytes);
     while painter.row < h {

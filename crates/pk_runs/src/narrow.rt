@@ -1,0 +1,213 @@
+//! Runs, painted row after row on a raster of less than sixty-four columns.
+
+ghost use Rattle.std.specs.Prelude.{◌≡◌, ℕ, ◌+◌, ◌<◌, ◌≤◌, ◌&&◌, ◌||◌};
+ghost use Rattle.packed_rows.specs.Changes.{is_within};
+ghost use Rattle.packed_rows.specs.Stamped.{word_pixel};
+
+use packed_rows::{PackedBitmap, Span, blacken_word};
+use std::marker::Model;
+
+/// A `Painter` of a narrow raster: the pixels of the next row are kept in a word, and joined into the
+/// raster when the row ends, with its copies. A contract sees it as a `Painter`.
+#[derive(Drop)]
+pub struct NarrowPainter {
+    bits: PackedBitmap,
+    word: u64,
+    row: u32,
+    column: u32,
+    copies: u32,
+    repeated: bool,
+    black: bool,
+}
+
+impl Model for NarrowPainter {
+    ghost use Rattle.std.specs.Prelude.{◌+◌};
+    ghost use Rattle.packed_rows.specs.Joined.{with_word};
+    ghost use Rattle.pk_runs.specs.Narrow.{IsKept};
+    ghost use Rattle.pk_runs.specs.declared.painter.Painter.{Painter};
+
+    ghost Value = { Painter };
+
+    ghost view = { λ p. record {
+      bits = with_word p.bits p.word p.row (p.row + 1);
+      row = p.row;
+      column = p.column;
+      copies = p.copies;
+      repeated = p.repeated;
+      black = p.black;
+    } };
+
+    ghost invariant = { λ p. IsKept p.bits p.word p.row p.column };
+}
+
+// The word with the pixels of a run, where that is black.
+fn with_run(word: u64, black: bool, from: u32, until: u32) -> u64
+    requires ordered { from ≤ until }
+    requires few { until < 64 }
+    ensures { (i : ℕ) → i < 64 → word_pixel result i ≡ (black && is_within from until i || word_pixel word i) }
+{
+    if black {
+        blacken_word(word, from, until)
+    } else {
+        word
+    }
+}
+
+impl NarrowPainter {
+    ghost use Rattle.std.specs.Prelude.{◌≡◌, ◌+◌, ◌-◌, ◌*◌, ◌^◌, ◌<◌, ◌≤◌, ◌++◌, ℕ, Bool, false, not, List, replicate, true, IsTrue, ◌↔◌};
+    ghost use Rattle.packed_rows.specs.Changes.{white_bitmap};
+    ghost use Rattle.pk_runs.specs.Painting.{painted, row_ended, IsReady, IsDrawn};
+
+    pub fn new(bits: PackedBitmap, black: bool) -> NarrowPainter
+        requires narrow { bits.width < 64 }
+        requires white { bits ≡ white_bitmap bits.width bits.height }
+        ensures { result ≡ record { bits = bits; row = 0; column = 0; copies = 0; repeated = false; black = black } }
+    {
+        NarrowPainter {
+            bits,
+            word: 0,
+            row: 0,
+            column: 0,
+            copies: 0,
+            repeated: false,
+            black,
+        }
+    }
+
+    // Paints so many pixels of the next row in the colour of the run.
+    fn paint(&mut self, n: u32)
+        requires { self.old.column + n ≤ self.old.bits.width }
+        ensures { self.new ≡ painted self.old n }
+    {
+        let until = self.column + n;
+        self.word = with_run(self.word, self.black, self.column, until);
+        self.column = until;
+    }
+
+    // Sets a row whose pixels are all painted, with its copies, and goes on below them.
+    fn end_row(&mut self)
+        requires short { self.old.bits.height < 2 ^ 16 }
+        requires low { self.old.row + self.old.copies < self.old.bits.height }
+        ensures { self.new ≡ row_ended self.old }
+    {
+        let below = self.row + 1 + self.copies;
+        let rows = Span {
+            from: self.row as usize,
+            until: below as usize,
+        };
+        self.bits.join_rows(self.word, rows);
+        self.word = 0;
+        self.row = below;
+        self.column = 0;
+        self.copies = 0;
+        self.repeated = false;
+    }
+
+    // The next run has the other colour.
+    fn turn(&mut self)
+        ensures { self.new ≡ record self.old { black = not self.old.black } }
+    {
+        self.black = !self.black;
+    }
+
+    /// How many pixels of the next row aren't painted.
+    pub fn left(&self) -> u32
+        ensures value { result ≡ self.now.bits.width - self.now.column }
+        ensures inside { self.now.column ≤ self.now.bits.width }
+    {
+        self.bits.width() - self.column
+    }
+
+    /// Paints a run that ends within the next row. The next run has the other colour.
+    pub fn run_within(&mut self, n: u32)
+        requires { self.old.column + n ≤ self.old.bits.width }
+        ensures { self.new ≡ record (painted self.old n) { black = not self.old.black } }
+    {
+        self.paint(n);
+        self.turn();
+    }
+
+    /// Paints a run of so many pixels in the colour that is due, over row ends. The next run has the other colour.
+    pub fn run(&mut self, n: u32)
+        requires short { self.old.bits.height < 2 ^ 16 }
+        requires inside { self.old.column < self.old.bits.width }
+        requires ready { IsReady self.old }
+        requires room { n + self.old.column + self.old.bits.width * self.old.copies + self.old.bits.width * self.old.row
+            ≤ self.old.bits.width * self.old.bits.height }
+        ensures turned { self.new.black ≡ not self.old.black }
+        ensures ready { IsReady self.new }
+        ensures wide { self.new.bits.width ≡ self.old.bits.width }
+        ensures high { self.new.bits.height ≡ self.old.bits.height }
+        ensures drawn { (ps : List Bool) (copies_of : ℕ → ℕ) (is_repeated : ℕ → Bool) →
+            IsDrawn ps copies_of is_repeated self.old.bits.width self.old.bits.height self.old →
+            IsDrawn (ps ++ replicate n self.old.black) copies_of is_repeated self.old.bits.width self.old.bits.height self.new }
+    {
+        let mut left = n;
+        while left >= self.left() {
+            let piece = self.left();
+            self.paint(piece);
+            self.end_row();
+            left -= piece;
+        }
+        self.run_within(left);
+    }
+
+    /// Takes a repeat count for the next row.
+    pub fn repeat(&mut self, n: u32)
+        ensures { self.new ≡ record self.old { copies = n; repeated = true } }
+    {
+        self.copies = n;
+        self.repeated = true;
+    }
+
+    /// How many rows are complete.
+    pub fn row(&self) -> u32
+        ensures { result ≡ self.now.row }
+    {
+        self.row
+    }
+
+    /// Whether the next row has a repeat count.
+    pub fn is_repeated(&self) -> bool
+        ensures { result ≡ self.now.repeated }
+    {
+        self.repeated
+    }
+
+    /// How many rows there are below the next one.
+    pub fn rows_below(&self) -> u32
+        requires { self.now.row < self.now.bits.height }
+        ensures { result ≡ self.now.bits.height - self.now.row - 1 }
+    {
+        self.bits.height() - self.row - 1
+    }
+
+    /// Whether runs still have so many pixels to give.
+    pub fn has_room(&self, n: u64) -> bool
+        requires short { self.now.bits.height < 2 ^ 16 }
+        requires fit { self.now.row + 1 + self.now.copies ≤ self.now.bits.height }
+        ensures { IsTrue result ↔ n ≤ (self.now.bits.width - self.now.column)
+            + self.now.bits.width * (self.now.bits.height - (self.now.row + 1 + self.now.copies)) }
+    {
+        let left = self.left();
+        if n < u64::from(left) {
+            return true;
+        }
+        let rows = self.bits.height() - (self.row + 1 + self.copies);
+        n <= u64::from(left + self.bits.width() * rows)
+    }
+
+    /// The raster.
+    pub fn finish(mut self) -> PackedBitmap
+        requires { self.row ≤ self.bits.height }
+        ensures { result ≡ self.bits }
+    {
+        let until = self.bits.height().min(self.row + 1);
+        let rows = Span {
+            from: self.row as usize,
+            until: until as usize,
+        };
+        self.bits.join_rows(self.word, rows);
+        self.bits
+    }
+}
