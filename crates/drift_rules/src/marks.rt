@@ -9,6 +9,7 @@ use crate::flat::{Flat, Mark, Registers};
 use pixel_round::Conv;
 
 // The mark of a command, at the registers before it.
+#[inline(always)]
 pub(crate) fn mark_at(conv: &Conv, now: Registers, flat: &Flat) -> Option<Mark>
     requires held { AreHeld conv.now now }
     requires reach { IsInReach (seen_flat flat.now) }
@@ -26,6 +27,7 @@ pub(crate) fn mark_at(conv: &Conv, now: Registers, flat: &Flat) -> Option<Mark>
 }
 
 // The rectangle of a rule that has its lower left corner at the present place, where both of its sides are above zero.
+#[inline(never)]
 fn rule_at(conv: &Conv, now: Registers, height: i64, width: i64) -> Option<Mark>
     requires held { AreHeld conv.now now }
     requires height { IsNumber height }

@@ -18,6 +18,7 @@ const MAX_PLACE: u64 = 2147483647;
 const MAX_DRIFT: i64 = 2;
 
 // The registers after a command that saves and restores none.
+#[inline(always)]
 pub(crate) fn moved(conv: &Conv, now: Registers, flat: &Flat) -> Result<Registers, PenFault>
     requires held { AreHeld conv.now now }
     requires reach { IsInReach (seen_flat flat.now) }
@@ -59,6 +60,7 @@ pub(crate) fn moved(conv: &Conv, now: Registers, flat: &Flat) -> Result<Register
 }
 
 // To the right, and hh with it.
+#[inline(always)]
 fn right(conv: &Conv, now: Registers, by: i64, space: i64) -> Result<Registers, PenFault>
     requires held { AreHeld conv.now now }
     requires number { IsNumber by }
@@ -75,6 +77,7 @@ fn right(conv: &Conv, now: Registers, by: i64, space: i64) -> Result<Registers, 
 }
 
 // Down, and vv with it.
+#[inline(always)]
 fn down(conv: &Conv, now: Registers, by: i64, space: i64) -> Result<Registers, PenFault>
     requires held { AreHeld conv.now now }
     requires number { IsNumber by }
@@ -91,6 +94,7 @@ fn down(conv: &Conv, now: Registers, by: i64, space: i64) -> Result<Registers, P
 }
 
 // Over what was set, whose width in dots is given.
+#[inline(always)]
 fn over(conv: &Conv, now: Registers, width: i64, dots: i64) -> Result<Registers, PenFault>
     requires held { AreHeld conv.now now }
     requires number { IsNumber width }
@@ -107,6 +111,7 @@ fn over(conv: &Conv, now: Registers, width: i64, dots: i64) -> Result<Registers,
 }
 
 // The column after a motion right to h, before the drift rule: rounded anew, or grown by the rounded motion.
+#[inline(always)]
 fn column_right(conv: &Conv, now: Registers, h: i64, by: i64, space: i64) -> i64
     requires held { AreHeld conv.now now }
     requires h { IsNumber h }
@@ -123,6 +128,7 @@ fn column_right(conv: &Conv, now: Registers, h: i64, by: i64, space: i64) -> i64
 }
 
 // The row after a motion down to v, before the drift rule.
+#[inline(always)]
 fn row_down(conv: &Conv, now: Registers, v: i64, by: i64, space: i64) -> i64
     requires held { AreHeld conv.now now }
     requires v { IsNumber v }
@@ -139,6 +145,7 @@ fn row_down(conv: &Conv, now: Registers, v: i64, by: i64, space: i64) -> i64
 }
 
 // A coordinate that h or v may have.
+#[inline(always)]
 fn is_within(place: i64) -> bool
     ensures value { result ≡ is_held place }
     ensures bounded { IsTrue result → unsigned_abs place ≤ 2147483647 }
@@ -147,6 +154,7 @@ fn is_within(place: i64) -> bool
 }
 
 // A motion right so wide that hh is rounded anew: a word space, or a long way back.
+#[inline(always)]
 fn is_word_space(by: i64, space: i64) -> bool
     requires { IsSpace space }
     ensures { result ≡ is_word_space by space }
@@ -155,6 +163,7 @@ fn is_word_space(by: i64, space: i64) -> bool
 }
 
 // A motion down, or up, so high that vv is rounded anew.
+#[inline(always)]
 fn is_line_space(by: i64, space: i64) -> bool
     requires number { IsNumber by }
     requires space { IsSpace space }
@@ -164,6 +173,7 @@ fn is_line_space(by: i64, space: i64) -> bool
 }
 
 // The registers at a new h and in a new column, with the drift rule.
+#[inline(always)]
 fn at_column(conv: &Conv, now: Registers, h: i64, column: i64) -> Registers
     requires held { AreHeld conv.now now }
     requires h { unsigned_abs h ≤ 2147483647 }
@@ -179,6 +189,7 @@ fn at_column(conv: &Conv, now: Registers, h: i64, column: i64) -> Registers
 }
 
 // The registers at a new v and in a new row, with the drift rule.
+#[inline(always)]
 fn at_row(conv: &Conv, now: Registers, v: i64, row: i64) -> Registers
     requires held { AreHeld conv.now now }
     requires v { unsigned_abs v ≤ 2147483647 }
@@ -194,6 +205,7 @@ fn at_row(conv: &Conv, now: Registers, v: i64, row: i64) -> Registers
 }
 
 // The drift rule: a place in dots is brought within two of the rounded one.
+#[inline(always)]
 fn drift(place: i64, rounded: i64) -> i64
     requires place { unsigned_abs place ≤ 2 ^ 42 }
     requires rounded { unsigned_abs rounded ≤ 2 ^ 42 }

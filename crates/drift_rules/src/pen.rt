@@ -65,6 +65,7 @@ impl Pen {
     /// or a packet's beginning that has no fault. After each of them the pen is as it was.
     ///
     /// Knuth, DVItype, "Translation to symbolic form".
+    #[inline(always)]
     pub fn step(&mut self, flat: &Flat) -> Result<Option<Mark>, PenStop>
         requires { IsInReach (seen_flat flat.now) }
 
@@ -89,6 +90,7 @@ impl Pen {
     }
 
     // The same without the mark.
+    #[inline(always)]
     fn change(&mut self, flat: &Flat) -> Result<(), PenStop>
         requires { IsInReach (seen_flat flat.now) }
         ensures moved { IfOk result (λ _. after self.old.conv self.old.state (seen_flat flat.now) ≡ Ok self.new.state) }
@@ -146,6 +148,7 @@ impl Pen {
     }
 
     // Any other command moves the registers alone.
+    #[inline(always)]
     fn move_registers(&mut self, flat: &Flat) -> Result<(), PenStop>
         requires reach { IsInReach (seen_flat flat.now) }
         requires no_push { is_push (seen_flat flat.now) ≡ false }

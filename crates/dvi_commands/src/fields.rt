@@ -102,6 +102,7 @@ fn postamble<'a>(fields: &[u8]) -> Command<'a>
 }
 
 /// The character with an opcode of its own, which has no fields.
+#[inline(always)]
 pub(crate) fn small_character<'a>(opcode: u8) -> Command<'a>
     requires { opcode ≤ 127 }
     ensures { Spells (seen result) (opcode ∷ []) }

@@ -39,6 +39,7 @@ static FIELD_SIZES: [u8; 250] = [
 ];
 
 /// Whether a command with the opcode may stand in the context.
+#[inline(always)]
 fn is_allowed(context: Context, opcode: u8) -> bool
     ensures { result ≡ may_stand context opcode }
 {
@@ -52,6 +53,7 @@ fn is_allowed(context: Context, opcode: u8) -> bool
 }
 
 /// How many bytes the fields have, without a text.
+#[inline(always)]
 fn field_size(opcode: u8) -> usize
     requires { opcode ≤ LAST_OPCODE }
     ensures { result ≡ fixed_size opcode }
@@ -84,6 +86,7 @@ fn text_length(opcode: u8, fields: &[u8]) -> Option<usize>
 /// opcode of no command; `Misplaced` where the command may not stand in the context; `Short` where its
 /// fields aren't all there; `NegativeLength` for a special of negative length; `Short` where its text
 /// isn't all there. Takes no memory.
+#[inline(always)]
 pub fn read_command<'a>(
     bytes: &'a [u8],
     at: usize,
@@ -131,6 +134,7 @@ pub fn read_command<'a>(
 
 /// Reads the command at a place of bytes that are whole commands from there to their end, and gives it
 /// with the place behind it.
+#[inline(always)]
 pub fn command_at<'a>(bytes: &'a [u8], at: usize, context: Context) -> (Command<'a>, usize)
     requires inside { at < length bytes.now }
     requires readable { Reads context (drop at bytes.now) }

@@ -51,6 +51,7 @@ impl Font {
     /// The width of a character, in DVI units: its width by the TFM file, scaled to the font's size
     /// and rounded down (Knuth, DVItype, "Reading the font information"). `None` for every code
     /// without a character.
+    #[inline(always)]
     pub fn width(&self, c: i32) -> Option<i64>
         ensures width { result ≡ width_of self.now c }
         ensures number { IfSome result (λ w. unsigned_abs w ≤ 2 ^ 31) }
@@ -62,6 +63,7 @@ impl Font {
 
     /// Whether the font is a virtual one, of which each character is a packet of commands (Knuth,
     /// VFtoVP, "Virtual fonts"). Every other font is a packed one, of which each is a glyph.
+    #[inline(always)]
     pub fn is_virtual(&self) -> bool
         ensures { result ≡ is_virtual_of self.now }
     {
@@ -73,6 +75,7 @@ impl Font {
 
     /// The glyph of a character: that of the last packet with its code. `None` where no packet has
     /// the code, and in a virtual font.
+    #[inline(always)]
     pub fn glyph(&self, c: u32) -> Option<&Glyph>
         ensures { MatchOption result (glyph_at self.now c ≡ None) (λ g. glyph_at self.now c ≡ Some g.now) }
     {
@@ -123,6 +126,7 @@ impl Font {
     }
 
     /// The size, in DVI units.
+    #[inline(always)]
     pub fn size(&self) -> u32
         ensures size { result ≡ self.now.size }
         ensures fits { (1 ≤ result) × (result < 2 ^ 27) }

@@ -12,6 +12,7 @@ use raster_page::Page;
 /// Makes the dots of the page black that lie on a black pixel of the raster, whose upper left pixel
 /// lies in column `x` of row `y`. The others stay, and what lies beside the page is cut off (Knuth,
 /// DVItype, "Translation to symbolic form": where a character stands).
+#[inline(always)]
 pub fn paint(page: &mut Page, raster: &Raster, x: i64, y: i64)
     requires left { IsCoordinate x }
     requires top { IsCoordinate y }

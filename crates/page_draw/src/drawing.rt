@@ -28,6 +28,7 @@ use std::sync::Wait;
 use vf_expand::{Expander, PageFault, Step};
 
 // The glyph of a character that the expander gave.
+#[inline(always)]
 fn glyph_of<'e>(expander: &'e Expander, flat: &Flat) -> Option<&'e Glyph>
     ensures { option_map (λ glyph. glyph.now) result ≡ glyph_for expander.now (seen_flat flat.now) }
 {
@@ -42,6 +43,7 @@ fn glyph_of<'e>(expander: &'e Expander, flat: &Flat) -> Option<&'e Glyph>
 
 // Where a glyph's upper left pixel stands on the sheet, across or down, whose reference pixel stands at
 // this place.
+#[inline(always)]
 fn placed(place: i64, offset: i32, margin: u32) -> i64
     requires near { IsPlaceable place }
     requires few { margin ≤ 20000 }
@@ -53,6 +55,7 @@ fn placed(place: i64, offset: i32, margin: u32) -> i64
 }
 
 // Sets a mark on the sheet, that of a character by its glyph.
+#[inline(always)]
 fn ink(page: &mut Page, sheet: &Sheet, mark: Option<Mark>, glyph: Option<&Glyph>)
     requires sheet { IsDrawable sheet.now }
     requires mark { IfSome mark IsPaintable }
@@ -76,6 +79,7 @@ fn ink(page: &mut Page, sheet: &Sheet, mark: Option<Mark>, glyph: Option<&Glyph>
 }
 
 // Draws the flat command that the expander gave.
+#[inline(always)]
 fn draw_one(
     page: &mut Page,
     pen: &mut Pen,

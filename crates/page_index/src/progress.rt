@@ -63,6 +63,7 @@ impl Progress {
         }
     }
 
+    #[inline(never)]
     fn bop_fault_of(&self, back: i32) -> Option<DocFault>
         ensures { result ≡ bop_fault self.now.begun (position_or_none self.now.bop) self.now.at back }
     {
@@ -76,6 +77,7 @@ impl Progress {
     }
 
     /// What is wrong with a command that stands there, where its fields aren't judged one by one.
+    #[inline(always)]
     pub fn fault_of(&self, first: &Scaled, fonts: &FontTable, command: &Command) -> Option<DocFault>
         ensures { result ≡ fault_by self.now first.now fonts.now (seen command.now) }
     {
@@ -110,6 +112,7 @@ impl Progress {
     }
 
     /// What was read with one command more, that ends before `next`.
+    #[inline(always)]
     pub fn after(self, command: &Command, next: usize) -> Progress
         requires { self.begun < 2 ^ 32 }
         ensures { result ≡ progress_after self (seen command.now) next }

@@ -26,6 +26,7 @@ pub struct Walk {
 }
 
 // The fault that stands for a refusal at a place.
+#[inline(never)]
 fn doc_fault(fault: CommandFault, bytes: &[u8], at: usize) -> DocFault
     requires { at ≤ length bytes.now }
     ensures { result ≡ as_doc_fault at (drop at bytes.now) fault }
@@ -38,6 +39,7 @@ fn doc_fault(fault: CommandFault, bytes: &[u8], at: usize) -> DocFault
 }
 
 // Judges what is judged before a command is whole: the fields of PostPost.
+#[inline(always)]
 fn judge_early(
     bytes: &[u8],
     at: usize,
@@ -89,6 +91,7 @@ impl Walk {
     }
 
     // Keeps a definition, unless the number has one.
+    #[inline(never)]
     fn define(&mut self, alloc: Global, def: &FontDef) -> Result<(), NoMemory>
         ensures fonts { OnOk result (self.new.fonts ≡ fonts_after self.old.fonts (Define (seen_definition def.now))) }
         ensures progress { self.new.progress ≡ self.old.progress }
@@ -101,6 +104,7 @@ impl Walk {
     }
 
     // Keeps what a command says of pages and fonts.
+    #[inline(always)]
     fn keep(&mut self, alloc: Global, command: &Command) -> Result<(), NoMemory>
         ensures progress { self.new.progress ≡ self.old.progress }
         ensures pages { OnOk result (self.new.pages.items ≡ pages_after self.old.progress self.old.pages.items (seen command.now)) }
@@ -135,6 +139,7 @@ impl Walk {
     }
 
     /// Reads one command more.
+    #[inline(always)]
     pub fn step(&mut self, alloc: Global, bytes: &[u8], first: &Scaled) -> Result<(), IndexStop>
         requires read { IsReadTo bytes.now first.now self.old.progress self.old.pages.items self.old.fonts }
         requires going { self.old.progress.is_ended ≡ false }

@@ -83,6 +83,7 @@ impl Conv {
     /// A length or a motion in whole dots: the nearest number, and of two such numbers the one farther from zero.
     ///
     /// Knuth, DVItype, "Translation to symbolic form" (pixel_round).
+    #[inline(always)]
     pub fn round(&self, x: i64) -> i64
         requires { unsigned_abs x ≤ 2 ^ 31 }
         ensures value { result ≡ round self.now x }
@@ -110,6 +111,7 @@ impl Conv {
     }
 
     // The nearest whole number of dots of a size, halves up.
+    #[inline(always)]
     fn nearest(&self, size: u64) -> i64
         requires { size ≤ 2 ^ 31 }
         ensures value { result ≡ pos (nearest self.now size) }

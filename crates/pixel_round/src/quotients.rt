@@ -22,6 +22,7 @@ pub fn gcd(a: u128, b: u64) -> u64
 }
 
 /// The quotient, rounded down.
+#[inline(always)]
 pub fn quotient(top: u128, bottom: u64) -> u128
     requires { 0 < bottom }
     ensures { result ≡ top / bottom }

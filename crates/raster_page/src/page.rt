@@ -97,6 +97,7 @@ impl Page {
 
     /// Makes the dots of the page black that lie on a black pixel of the bitmap, whose upper left pixel
     /// lies in column `x` of row `y`. The others stay. What lies beside the page is cut off.
+    #[inline(always)]
     pub fn stamp(&mut self, bitmap: &PackedBitmap, x: i64, y: i64)
         requires left { IsCoordinate x }
         requires top { IsCoordinate y }

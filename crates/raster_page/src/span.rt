@@ -1,10 +1,21 @@
 //! Where a stretch of a line meets a side of the page.
 
-ghost use Rattle.std.specs.Prelude.{◌≡◌, ℕ, ◌<◌, ◌≤◌, pos, ◌+ℤ◌, ◌&&◌, int_le, int_lt};
+ghost use Rattle.std.specs.Prelude.{◌≡◌, ℕ, ◌<◌, ◌≤◌, pos, ◌+ℤ◌, ◌≤ℤ◌, ◌&&◌, int_le, int_lt};
+ghost use Rattle.std.specs.Int.{int_max, int_min};
 ghost use Rattle.packed_rows.specs.Coordinates.{IsCoordinate};
 ghost use Rattle.packed_rows.specs.Changes.{is_within};
 
 use packed_rows::Span;
+
+// Where a stretch ends, from `from` on: at its own end, or where the side ends.
+fn cut_end(end: i64, from: i64, side: i64) -> i64
+    requires { from ≤ℤ side }
+    ensures value { result ≡ int_max from (int_min end side) }
+    ensures ordered { from ≤ℤ result }
+    ensures inside { result ≤ℤ side }
+{
+    end.clamp(from, side)
+}
 
 /// The places on a side of so many dots that a stretch of `len` dots from `at` covers.
 pub fn clipped(at: i64, len: i64, side: u32) -> Span
@@ -17,7 +28,7 @@ pub fn clipped(at: i64, len: i64, side: u32) -> Span
 {
     let side = i64::from(side);
     let from = at.clamp(0, side);
-    let until = (at + len).clamp(from, side);
+    let until = cut_end(at + len, from, side);
     Span {
         from: from as usize,
         until: until as usize,

@@ -1,6 +1,6 @@
 -- The steps of a page that is being expanded.
 use Rattle.std.proofs.Common.{◌≡◌, ℕ, suc, ◌+◌, ◌-◌, ◌<◌, ◌≤◌, ℤ, Bool, true, false, List, [], drop, refl, sym, ap, subst, ◌∙◌, arith, Some, None, Option}
-use Rattle.std.specs.Prelude.{unwrap_or}
+use Rattle.std.specs.Prelude.{IsSome, unwrap_or}
 use Rattle.std.specs.Arc.{arc_value}
 use Rattle.dvi_commands.specs.Spelling.{DviCommand}
 use Rattle.dvi_commands.specs.Reading.{Placed, commands_of}
@@ -12,7 +12,7 @@ use Rattle.pk_runs.specs.declared.glyph.Glyph.{Glyph}
 use Rattle.font_decode.specs.declared.decoded.Decoded.{Decoded}
 use Rattle.vf_expand.specs.Faults.{seen_fault, TooLong}
 use Rattle.vf_expand.specs.Course.{Course, Gives, Asks, Ends, Stops, plain, Place, InPacket, Current, NoFont, Chosen, Known, MOST_DEEP, deeper, expand_one, expand_list, first_font, leave, page_from, cut}
-use Rattle.vf_expand.specs.Acts.{Acts, IsEntry, seen_current}
+use Rattle.vf_expand.specs.Acts.{Acts, IsEntry, IsMark, Part, seen_current}
 use Rattle.vf_expand.specs.Doing.{Doing, IsAtLook, Packet, Stack, Page, Within, answered, asks_from, course_left, depth, due_left, font_of, glyph_for, glyph_in, left, marked_font, place_in, stack_left}
 use Rattle.vf_expand.specs.Levels.{seen_packet, text_in}
 use Rattle.vf_expand.specs.Steps.{AsksOne, GivesOne, Stays}
@@ -45,6 +45,14 @@ asks_again x k at rest e = e ∙ ap (λ (y : Course). Asks k at (answered y)) (s
 no_glyph : (v : Doing) (f : FlatCommand) → v.marked ≡ false → glyph_for v f ≡ None
 no_glyph v (flat.Char k c width put) e = ap (λ (b : Bool). glyph_in (marked_font (record v { marked = b })) c) e
 no_glyph v _ e = refl
+
+-- where it gave one, its font has the glyph
+pub has_glyph : (part : Part) (v : Doing) (k : FontKey) (c : ℕ) (width : ℤ) (put : Bool) → IsMark part v.current (flat.Char k c width put) → v.marked ≡ true
+    → IsSome (glyph_for v (flat.Char k c width put))
+has_glyph part v k c width put acts marked = subst IsSome (sym (
+    ap (glyph_for v) acts.char ∙ ap (λ (b : Bool). glyph_in (marked_font (record v { marked = b })) acts.code) marked
+    ∙ ap (λ (x : Current). glyph_in (font_of x) acts.code) acts.known ∙ acts.has
+    )) refl
 
 -- ---- after a command of the page or of a packet
 
@@ -83,14 +91,14 @@ module _ (v : Doing) (undue : v.due ≡ None) (room : 0 < v.budget) (n at : ℕ)
     fewer = fewer v.budget v.current v.current room;
   }
 
-  pub mark_step : (f : Flat) → Acts place n v.current c (act.Mark f) → GivesOne v (given true) (seen_flat f)
+  pub mark_step : (f : FlatCommand) → IsMark (λ now at others. expand_one (deeper n at) place at now c others) v.current f → GivesOne v (given true) f
   mark_step f acts =
-      let glyph : glyph_for (given true) (seen_flat f) ≡ Some acts.glyph =
+      let glyph : glyph_for (given true) f ≡ Some acts.glyph =
       ap (glyph_for (given true)) acts.char ∙ ap (λ (x : Current). glyph_in (font_of x) acts.code) acts.known ∙ acts.has in
       record {
-        given = here ∙ give_cut v.budget _ (others v.current) (seen_flat f) (Some acts.glyph) at room (acts.gives at others)
-            ∙ ap (Gives (seen_flat f) (Some acts.glyph) at) (after v.current rest)
-            ∙ ap (λ (o : Option Glyph). Gives (seen_flat f) o at (left (given true))) (sym glyph);
+        given = here ∙ give_cut v.budget _ (others v.current) f (Some acts.glyph) at room (acts.gives at others)
+            ∙ ap (Gives f (Some acts.glyph) at) (after v.current rest)
+            ∙ ap (λ (o : Option Glyph). Gives f o at (left (given true))) (sym glyph);
         asks = falls v.budget v.current v.current;
         fewer = fewer v.budget v.current v.current room;
       }

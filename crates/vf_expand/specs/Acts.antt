@@ -1,5 +1,5 @@
 -- What one command gives, by the definition.
-use Rattle.std.specs.Prelude.{◌≡◌, ◌<◌, ℕ, ◌-◌, ℤ, pos, negsuc, ◌≤ℤ◌, ◌<ℤ◌, Bool, List, Option, Some, IfSome}
+use Rattle.std.specs.Prelude.{◌≡◌, ◌<◌, ℕ, ◌-◌, ℤ, pos, negsuc, ◌≤ℤ◌, ◌<ℤ◌, unsigned_abs, Bool, false, List, Option, Some, IfSome}
 use Rattle.std.specs.Arc.{arc_value}
 use Rattle.outside.specs.declared.keys.FontKey.{FontKey}
 use Rattle.dvi_commands.specs.Spelling.{DviCommand, SetRule, PutRule, Right, W, X, Down, Y, Z}
@@ -113,6 +113,10 @@ VirtualActs n k f c gap act = IsPart n (λ now at others. virtual (deeper n at) 
 -- a character of a font that was found, wherever it stands
 abbrev pub FoundActs : ℕ → FontKey → Decoded → ℤ → Bool → Act → Type 0
 FoundActs n k d c put act = (place : Place) → CharacterActs place n (course.Known k d) c put act
+
+-- a character that is set, wherever it stands, is one of a packed font with this key and this width
+abbrev pub SetsPlain : course.Current → ℤ → FontKey → ℤ → Type 0
+SetsPlain current c key width = (place : Place) (n : ℕ) → IsMark (λ now at others. character (deeper n at) place at now c false others) current (Char key (unsigned_abs c) width false)
 
 abbrev pub ChangeActs : Place → ℕ → course.Current → ℤ → Act → Type 0
 ChangeActs place n current number act = IsPart n (λ now at others. font_change place at number others) current act

@@ -43,6 +43,7 @@ pub enum Act {
 }
 
 // A dimension in DVI units. In a packet it is a fix_word at the virtual font's size.
+#[inline(always)]
 fn dimension_of(source: Source, z: i32) -> i64
     requires { IsDimension (seen_place source) z }
     ensures value { result ≡ dimension (seen_place source.entry) z }
@@ -55,6 +56,7 @@ fn dimension_of(source: Source, z: i32) -> i64
 }
 
 // A font change in a packet to a number that no local font has.
+#[inline(never)]
 fn no_local(key: &Arc<FontKey>, font: &Font, number: i32) -> Result<PageFault, NoMemory>
     ensures { IfOk result (λ fault. seen_fault fault ≡ no_local (arc_value key.now) (first_local_of font.now) number) }
 {
@@ -66,6 +68,7 @@ fn no_local(key: &Arc<FontKey>, font: &Font, number: i32) -> Result<PageFault, N
 }
 
 // A font change.
+#[inline(never)]
 fn change(
     keys: &mut PageKeys,
     source: Source,
@@ -88,6 +91,7 @@ fn change(
 }
 
 // A rule, whose sides are in DVI units.
+#[inline(always)]
 fn rule(height: i64, width: i64, put: bool) -> Flat
     ensures { seen_flat result ≡ Rule height width put }
 {
@@ -95,6 +99,7 @@ fn rule(height: i64, width: i64, put: bool) -> Flat
 }
 
 /// What a command gives, where so many packets may stand inside one another.
+#[inline(always)]
 pub fn expanded(
     keys: &mut PageKeys,
     source: Source,

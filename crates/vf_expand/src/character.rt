@@ -8,7 +8,7 @@ ghost use Rattle.font_decode.specs.declared.decoded.Decoded.TheVariants as decod
 ghost use Rattle.vf_expand.specs.Course.{first_font, no_font};
 ghost use Rattle.vf_expand.specs.Faults.{seen_fault};
 ghost use Rattle.vf_expand.specs.Course as course;
-ghost use Rattle.vf_expand.specs.Acts.{CharacterActs, FitsAct, FoundActs, HasKey, VirtualActs, seen_current, seen_place};
+ghost use Rattle.vf_expand.specs.Acts.{CharacterActs, FitsAct, FoundActs, HasKey, SetsPlain, VirtualActs, seen_current, seen_place};
 
 use crate::act::{Act, Source};
 use crate::current::Current;
@@ -36,6 +36,7 @@ fn first_current(keys: &mut PageKeys, font: &Font) -> Result<Current, NoMemory>
 }
 
 // A character of a virtual font, where so many packets may stand inside one another.
+#[inline(never)]
 fn virtual_character(
     keys: &mut PageKeys,
     room: usize,
@@ -64,6 +65,7 @@ fn virtual_character(
 }
 
 // A character of a font that has files.
+#[inline(always)]
 fn mark(
     keys: &mut PageKeys,
     room: usize,
@@ -94,6 +96,7 @@ fn mark(
 }
 
 // A character of the font that was found.
+#[inline(always)]
 fn found(
     keys: &mut PageKeys,
     room: usize,
@@ -112,6 +115,7 @@ fn found(
 }
 
 // A character where no font is current.
+#[inline(never)]
 fn no_font(source: Source) -> Result<PageFault, NoMemory>
     ensures { IfOk result (λ fault. seen_fault fault ≡ no_font (seen_place source.entry)) }
 {
@@ -121,7 +125,38 @@ fn no_font(source: Source) -> Result<PageFault, NoMemory>
     }
 }
 
+/// The key of a character's font, and its width.
+#[derive(Clone, Copy)]
+pub struct PlainCharacter<'a> {
+    pub key: &'a Arc<FontKey>,
+    pub width: i64,
+}
+
+/// A character that is set in a packed font that was found, if it is one and has a glyph.
+#[inline(always)]
+pub fn plain_character(current: &Current, code: i32) -> Option<PlainCharacter>
+    ensures sets { IfSome result (λ found.
+        SetsPlain (seen_current current.now) code (arc_value found.key.now) found.width) }
+    ensures number { IfSome result (λ found. IsNumber found.width) }
+    ensures byte { IfSome result (λ _. (n : ℕ) × (code ≡ pos n) × (n < 256)) }
+{
+    let Current::Known(key, found) = current else {
+        return None;
+    };
+    let decoded: &Decoded = found;
+    let Decoded::Font(font) = decoded else {
+        return None;
+    };
+    if font.is_virtual() {
+        return None;
+    }
+    let width = font.width(code)?;
+    let _glyph = font.glyph(code as u32)?;
+    Some(PlainCharacter { key, width })
+}
+
 /// What a character gives, where so many packets may stand inside one another.
+#[inline(always)]
 pub fn character(
     keys: &mut PageKeys,
     source: Source,

@@ -17,6 +17,7 @@ pub enum Current {
 }
 
 /// A sixth of the current font's size, in DVI units, and 0 where there is none.
+#[inline(always)]
 pub fn space_of(current: &Current) -> i64
     requires { HasKey (seen_current current.now) }
     ensures value { result ≡ space (seen_current current.now) }

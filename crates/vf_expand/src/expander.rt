@@ -7,6 +7,7 @@ ghost use Rattle.vf_expand.specs.Doing.{IsAtLook, IsEnded, answered, asks_left, 
 ghost use Rattle.vf_expand.specs.Steps.{Fits, Steps};
 
 use crate::act::{Act, expanded};
+use crate::character::plain_character;
 use crate::current::Current;
 use crate::faults::PageFault;
 use crate::frames::{Frame, Frames};
@@ -15,7 +16,7 @@ use crate::opened::opened;
 use crate::progress::Progress;
 use crate::step::Step;
 use drift_rules::Flat;
-use dvi_commands::command_at;
+use dvi_commands::{Command, command_at};
 use font_decode::Decoded;
 use page_index::Index;
 use std::alloc::{AllocError as NoMemory, Global};
@@ -25,6 +26,9 @@ use std::sync::Arc;
 
 /// How many packets may stand inside one another.
 const MOST_DEEP: usize = 10;
+
+/// The last opcode that is a character by itself.
+const LAST_SMALL_CHARACTER: u8 = 127;
 
 /// A page that is being expanded. The level that is read is the page or a packet; a motion is due after
 /// the packet of a character that was set.
@@ -80,6 +84,7 @@ impl<'a> Expander<'a> {
     }
 
     // The motion after the packet of a character that was set.
+    #[inline(never)]
     fn advance(&mut self, width: i64) -> Step
         requires { self.old.due ≡ Some width }
         ensures step { Steps self.old result self.new }
@@ -95,6 +100,7 @@ impl<'a> Expander<'a> {
     }
 
     // The page's end, or the end of a packet.
+    #[inline(never)]
     fn ended(&mut self) -> Step
         requires undue { self.old.due ≡ None }
         requires ended { IsEnded self.old.stack }
@@ -118,8 +124,51 @@ impl<'a> Expander<'a> {
         Step::Flat(Flat::Leave)
     }
 
-    // The next command of the page or of a packet, or its end.
+    // The next command of the page or of a packet, or its end. Most commands are characters of one
+    // byte that are set in a packed font: they are given here, and all others apart.
+    #[inline(always)]
     fn read(&mut self) -> Result<Step, NoMemory>
+        requires undue { self.old.due ≡ None }
+        ensures step { IfOk result (λ step. Steps self.old step self.new) }
+        ensures fits { IfOk result (λ step. Fits step self.new) }
+        ensures err { OnErr result (self.new ≡ self.old) }
+    {
+        let reading = opened(
+            self.index,
+            self.bytes,
+            self.start,
+            self.progress.at,
+            &self.level,
+            &self.outer,
+        );
+        if self.level.pos == reading.text.len()
+            || self.progress.budget == 0
+            || reading.text[self.level.pos] > LAST_SMALL_CHARACTER
+        {
+            return self.expand();
+        }
+        let (command, end) = command_at(reading.text, self.level.pos, reading.context);
+        let Command::Set(code) = command else {
+            return self.expand();
+        };
+        let Some(found) = plain_character(&self.level.current, code) else {
+            return self.expand();
+        };
+        let key = Arc::try_clone(found.key)?;
+        let width = found.width;
+        self.level.pos = end;
+        self.progress = self.progress.given(reading.at, true);
+        Ok(Step::Flat(Flat::Char {
+            key,
+            code: code as u8,
+            width,
+            put: false,
+        }))
+    }
+
+    // The next command, whatever it is, or the end.
+    #[inline(never)]
+    fn expand(&mut self) -> Result<Step, NoMemory>
         requires undue { self.old.due ≡ None }
         ensures step { IfOk result (λ step. Steps self.old step self.new) }
         ensures fits { IfOk result (λ step. Fits step self.new) }
@@ -198,6 +247,7 @@ impl<'a> Expander<'a> {
     ///
     /// Knuth, DVItype, "Translation to symbolic form"; VFtoVP, "Virtual fonts"; Breitenlohner, DVIcopy,
     /// "Interpreting VF packets".
+    #[inline(always)]
     pub fn next(&mut self) -> Result<Step, NoMemory>
         ensures step { IfOk result (λ step. Steps self.old step self.new) }
         ensures fits { IfOk result (λ step. Fits step self.new) }
@@ -227,6 +277,7 @@ impl<'a> Expander<'a> {
     }
 
     /// Where the last step gave a character, its font.
+    #[inline(always)]
     pub fn font(&self) -> Option<&Arc<Decoded>>
         ensures { MatchOption result (marked_font self.now ≡ None) (λ font. marked_font self.now ≡ Some (arc_value font.now)) }
     {
@@ -241,6 +292,7 @@ impl<'a> Expander<'a> {
 
     /// The position, in the document, of the page's command that the last step comes from; before the
     /// first step that of the page's first command, and at the page's end that of its Eop.
+    #[inline(always)]
     pub fn at(&self) -> usize
         ensures { result ≡ self.now.at }
     {

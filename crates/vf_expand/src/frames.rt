@@ -44,6 +44,7 @@ impl Frames {
     }
 
     /// How many there are.
+    #[inline(always)]
     pub fn len(&self) -> usize
         ensures { result ≡ length self.now }
     {
@@ -51,6 +52,7 @@ impl Frames {
     }
 
     /// The innermost.
+    #[inline(always)]
     pub fn top(&self) -> Option<&Frame>
         ensures { MatchOption result (self.now ≡ [])
             (λ top. (rest : List level.Frame) × (self.now ≡ top.now ∷ rest)) }
@@ -72,6 +74,7 @@ impl Frames {
 
     /// The level that is read, from `end` on, becomes one more inside all others, and `inner` is read.
     /// Where memory is wanting nothing has changed.
+    #[inline(never)]
     pub fn enter(&mut self, level: &mut Frame, inner: Frame, end: usize) -> Result<(), NoMemory>
         ensures level { OnOk result (level.new ≡ inner) }
         ensures outer { OnOk result (self.new ≡ record level.old { pos = end } ∷ self.old) }

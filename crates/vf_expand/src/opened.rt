@@ -59,6 +59,7 @@ fn packet_of(outside: &Frame, code: u8, at: usize) -> Reading
 }
 
 /// The page, or the packet that is read.
+#[inline(always)]
 pub fn opened<'a>(
     index: &'a Index<'a>,
     bytes: &'a [u8],

@@ -26,6 +26,7 @@ impl Progress {
     }
 
     /// After a flat command.
+    #[inline(always)]
     pub fn given(self, at: usize, marked: bool) -> Progress
         requires { 0 < self.budget }
         ensures { result ≡ record { at = at; budget = self.budget - 1; marked = marked } }
@@ -38,6 +39,7 @@ impl Progress {
     }
 
     /// At the page's end, or before a command that asks for its font or that stops the page.
+    #[inline(always)]
     pub fn stopped(self, place: usize) -> Progress
         ensures { result ≡ record self { at = place; marked = false } }
     {

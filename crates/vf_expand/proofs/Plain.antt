@@ -1,0 +1,32 @@
+-- A character that is set in a packed font that was found.
+use Rattle.std.proofs.Common.{◌≡◌, ◌∙◌, ℕ, ℤ, pos, Bool, false, refl, sym, ap, Option, Some}
+use Rattle.outside.specs.declared.keys.FontKey.{FontKey}
+use Rattle.drift_rules.specs.Position.{Char}
+use Rattle.pk_runs.specs.declared.glyph.Glyph.{Glyph}
+use Rattle.font_decode.specs.Fonts.{FontSeen, glyph_at, is_virtual_of, width_of}
+use Rattle.font_decode.specs.declared.decoded.Decoded.TheVariants as decoded
+use Rattle.vf_expand.specs.Course.{Course, Current, Gives, Known, Place, by_kind, character, deeper, with_glyph, with_width}
+use Rattle.vf_expand.specs.Acts.{SetsPlain}
+
+module _ (current : Current) (k : FontKey) (f : FontSeen) (n : ℕ) (c w : ℤ) (g : Glyph) (known : current ≡ Known k (decoded.Font f)) (is : c ≡ pos n)
+    (width : width_of f c ≡ Some w) (packed : is_virtual_of f ≡ false) (glyph : glyph_at f n ≡ Some g) where
+  sets_at : (place : Place) (m at : ℕ) (behind : Course) → with_width (deeper m at) at k f (pos n) false (width_of f (pos n)) behind ≡ Gives (Char k n w false) (Some g) at behind
+  sets_at place m at behind =
+      ap (λ (o : Option ℤ). with_width (deeper m at) at k f (pos n) false o behind) (sym (ap (width_of f) is) ∙ width)
+      ∙ ap (λ (b : Bool). by_kind (deeper m at) at k f (pos n) w false b behind) packed
+      ∙ ap (λ (o : Option Glyph). with_glyph at k (pos n) w false o behind) glyph
+
+  pub sets_plain : SetsPlain current (pos n) k w
+  sets_plain = λ place m. record {
+    key = k;
+    font = decoded.Font f;
+    code = n;
+    width = w;
+    put = false;
+    glyph = g;
+    known = known;
+    char = refl;
+    has = glyph;
+    gives = λ at others. ap (λ (x : Current). character (deeper m at) place at x (pos n) false others) known ∙ sets_at place m at (others (Known k (decoded.Font f)))
+        ∙ ap (λ (x : Current). Gives (Char k n w false) (Some g) at (others x)) (sym known);
+  }
