@@ -1,5 +1,5 @@
 -- Runs that end within the next row.
-use Rattle.std.proofs.Common.{◌≡◌, ℕ, ◌+◌, ◌-◌, ◌*◌, ◌<◌, ◌≤◌, Bool, true, not, List, ◌++◌, replicate, length, refl, sym, subst, ap, ◌∙◌, arith}
+use Rattle.std.proofs.Common.{◌≡◌, ℕ, ◌+◌, ◌-◌, ◌*◌, ◌<◌, ◌≤◌, Bool, true, not, List, ◌++◌, replicate, length, refl, subst, ap, ◌∙◌, arith}
 use Rattle.pk_runs.specs.Narrow.{IsNextItem}
 use Rattle.pk_runs.specs.Painting.{painted, IsReady, IsDrawn}
 use Rattle.pk_runs.specs.Raster.{IsStuck}

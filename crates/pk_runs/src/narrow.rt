@@ -127,7 +127,8 @@ impl NarrowPainter {
         self.turn();
     }
 
-    /// Paints a run of so many pixels in the colour that is due, over row ends. The next run has the other colour.
+    /// Paints a run of so many pixels in the colour that is due, over row ends. The next run has the
+    /// other colour.
     pub fn run(&mut self, n: u32)
         requires short { self.old.bits.height < 2 ^ 16 }
         requires inside { self.old.column < self.old.bits.width }

@@ -1,7 +1,6 @@
-use Rattle.std.proofs.Common.{sym, subst, arith, ◌∙◌}
+use Rattle.std.proofs.Common.{sym, subst, arith}
 use Rattle.std.proofs.lemmas.Result.{err_from_is_err_and}
 use Rattle.pk_runs.specs.Reading.{IsPaintedTo}
-use Rattle.pk_runs.specs.declared.items.Reading.{Reading}
 use Rattle.pk_runs.specs.declared.painter.Painter.{Painter}
 use Rattle.pk_runs.proofs.Steps.{room_is_enough, no_room}
 use Rattle.pk_runs.proofs.Within.{next_too_long, next_too_many, next_ran, next_repeated}
