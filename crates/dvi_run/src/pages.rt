@@ -11,6 +11,7 @@ use outside::Output;
 use page_draw::PageStop;
 use page_workers::PageResult;
 use pbm_output::{WriteFault, write_page};
+use raster_page::Page;
 
 /// Why a page was not written.
 #[derive(Drop)]
@@ -35,9 +36,14 @@ pub(crate) fn stopped(i: usize, stop: WriteStop) -> Ending
     }
 }
 
-// Writes a page, which is then dropped, and answers how many of its pixels are black, where they are
-// counted.
-fn write_one<O: Output>(drawn: PageResult, out: &mut O, counted: bool) -> Result<u64, WriteStop>
+// Writes a page, which is spare then, and answers how many of its pixels are black, where they are
+// counted. A spare page that there is no memory to note is dropped.
+fn write_one<O: Output>(
+    drawn: PageResult,
+    out: &mut O,
+    counted: bool,
+    spare: &mut Vec<Page>,
+) -> Result<u64, WriteStop>
     ensures wrote { WroteOutcome counted (O.written out.old) (O.written out.new)
         (Rose (O.faults out.old) (O.faults out.new)) drawn.outcome result }
     ensures output { O.faults out.old ≤ O.faults out.new }
@@ -47,19 +53,24 @@ fn write_one<O: Output>(drawn: PageResult, out: &mut O, counted: bool) -> Result
         Err(stop) => return Err(WriteStop::Draw(stop)),
     };
     match write_page(out, &page) {
-        Ok(()) => Ok(if counted { page.count() } else { 0 }),
+        Ok(()) => {
+            let black = if counted { page.count() } else { 0 };
+            let _noted = spare.push(page);
+            Ok(black)
+        }
         Err(WriteFault) => Err(WriteStop::Output),
     }
 }
 
-/// Writes the pages of a stack from its top on, up to the first that can't be, and drops each as
-/// soon as it is written. The tally grows by those written whole, with their black pixels where they
-/// are counted.
+/// Writes the pages of a stack from its top on, up to the first that can't be. Each is spare as soon
+/// as it is written. The tally grows by those written whole, with their black pixels where they are
+/// counted.
 pub fn write_stack<O: Output>(
     stack: &mut Vec<PageResult>,
     out: &mut O,
     tally: &mut Tally,
     counted: bool,
+    spare: &mut Vec<Page>,
 ) -> Result<(), WriteStop>
     requires dots { All HasFewDots stack.old.items }
     requires few { tally.old.pages + length stack.old.items ≤ 1000000 }
@@ -73,7 +84,7 @@ pub fn write_stack<O: Output>(
     ensures output { O.faults out.old ≤ O.faults out.new }
 {
     while let Some(drawn) = stack.pop() {
-        tally.black += write_one(drawn, out, counted)?;
+        tally.black += write_one(drawn, out, counted, spare)?;
         tally.pages += 1;
     }
     Ok(())

@@ -22,8 +22,10 @@ use crate::tally::Tally;
 use outside::{FontSource, Output};
 use page_draw::{PageStop, Sheet};
 use page_index::Index;
-use page_workers::{Bench, PageResult, Worker, draw_round};
+use page_workers::{Bench, PageResult, Worker, draw_round_on};
+use raster_page::Page;
 use std::alloc::{AllocError as NoMemory, Global};
+use std::mem;
 use std::sync::Wait;
 use std::thread;
 use std::thread::Threads;
@@ -42,8 +44,8 @@ fn round_size(workers: usize) -> usize
     if workers == 1 { 1 } else { ROUND }
 }
 
-// Draws a round, and answers its results on a stack, the first page on top. Room for them is taken
-// before.
+// Draws a round on the memory of spare pages, and answers its results on a stack, the first page on
+// top. Room for them is taken before.
 fn draw_stack<R: Threads + Wait + Sync, F: FontSource + Send>(
     rt: &R,
     alloc: Global,
@@ -53,6 +55,7 @@ fn draw_stack<R: Threads + Wait + Sync, F: FontSource + Send>(
     sheet: &Sheet,
     first: usize,
     count: usize,
+    paper: &mut Vec<Page>,
 ) -> Result<Vec<PageResult>, NoMemory>
     requires { MayDrawRound F.library bench.now index.now sheet.now first count workers.old }
     ensures drawn { IfOk result (λ stack. DrewStack F.library F.faults F.loads bench.now index.now
@@ -62,12 +65,15 @@ fn draw_stack<R: Threads + Wait + Sync, F: FontSource + Send>(
 {
     let _few = index.pages();
     let mut stack = Vec::with_capacity(alloc, count)?;
-    draw_round(rt, alloc, workers, bench, index, sheet, first, count)?;
+    draw_round_on(
+        rt, alloc, workers, bench, index, sheet, first, count, paper,
+    )?;
     collect(workers, first, count, &mut stack);
     Ok(stack)
 }
 
-// Draws a round, and writes the pages of another one in the meantime.
+// Draws a round on the memory of spare pages, and writes the pages of another one in the meantime,
+// which are spare then.
 fn draw_beside<R: Threads + Wait + Sync, F: FontSource + Send, O: Output>(
     rt: &R,
     alloc: Global,
@@ -81,6 +87,8 @@ fn draw_beside<R: Threads + Wait + Sync, F: FontSource + Send, O: Output>(
     out: &mut O,
     tally: &mut Tally,
     counted: bool,
+    paper: &mut Vec<Page>,
+    spare: &mut Vec<Page>,
 ) -> (Result<Vec<PageResult>, NoMemory>, Result<(), WriteStop>)
     requires ready { MayDrawRound F.library bench.now index.now sheet.now first count workers.old }
     requires dots { All HasFewDots stack.old.items }
@@ -108,13 +116,17 @@ fn draw_beside<R: Threads + Wait + Sync, F: FontSource + Send, O: Output>(
                 workers.exit.now later.items) }
             ensures refused { OnErr result (AllRested workers.entry.now workers.exit.now) }
             ensures no_counter { NoCounters workers.exit.now }
-        { draw_stack(rt, alloc, workers, bench, index, sheet, first, count) },
-        &mut || write_stack(stack, out, tally, counted),
+        { draw_stack(rt, alloc, workers, bench, index, sheet, first, count, paper) },
+        &mut || write_stack(stack, out, tally, counted, spare),
     )
 }
 
 // Writes the pages at hand, and draws the next round: at the same time where there are several
-// workers, so that the output doesn't make them wait. What the writing came to decides first.
+// workers, so that the output doesn't make them wait. What the writing came to decides first. A round
+// is drawn on the memory of the pages that were written before it is begun: by one worker on that of
+// the page before, by several on that of the round before the last. So in memory are at most the round
+// that is drawn, the one that is written, and paper for another one; where each worker draws its share,
+// the pages of two rounds.
 fn write_and_draw<R: Threads + Wait + Sync, F: FontSource + Send, O: Output>(
     rt: &R,
     alloc: Global,
@@ -128,6 +140,7 @@ fn write_and_draw<R: Threads + Wait + Sync, F: FontSource + Send, O: Output>(
     out: &mut O,
     tally: &mut Tally,
     counted: bool,
+    spare: &mut Vec<Page>,
 ) -> Result<Vec<PageResult>, WriteStop>
     requires ready { MayDrawRound F.library bench.now index.now sheet.now first count workers.old }
     requires dots { All HasFewDots stack.old.items }
@@ -147,13 +160,16 @@ fn write_and_draw<R: Threads + Wait + Sync, F: FontSource + Send, O: Output>(
     ensures output { O.faults out.old ≤ O.faults out.new }
 {
     if workers.len() == 1 {
-        write_stack(stack, out, tally, counted)?;
-        return draw_stack(rt, alloc, workers, bench, index, sheet, first, count).map_err(
-            |_| WriteStop::Draw(PageStop::NoMemory),
-        );
+        write_stack(stack, out, tally, counted, spare)?;
+        return draw_stack(
+            rt, alloc, workers, bench, index, sheet, first, count, spare,
+        )
+        .map_err(|_| WriteStop::Draw(PageStop::NoMemory));
     }
+    let mut paper = mem::replace(spare, Vec::new(alloc));
     let (drawn, written) = draw_beside(
         rt, alloc, workers, bench, index, sheet, first, count, stack, out, tally, counted,
+        &mut paper, spare,
     );
     written?;
     drawn.map_err(|_| WriteStop::Draw(PageStop::NoMemory))
@@ -206,19 +222,20 @@ pub fn write_rounds<R: Threads + Wait + Sync, F: FontSource + Send, O: Output>(
     let most = round_size(workers.len());
     let mut tally = Tally { pages: 0, black: 0 };
     let mut stack = Vec::new(alloc);
+    let mut spare = Vec::new(alloc);
     let mut next = 0;
     while next < pages && have_bitmaps(&stack) {
         let count = most.min(pages - next);
         match write_and_draw(
             rt, alloc, workers, bench, index, sheet, next, count, &mut stack, out, &mut tally,
-            counted,
+            counted, &mut spare,
         ) {
             Ok(later) => stack = later,
             Err(stop) => return (stopped(tally.pages, stop), tally),
         }
         next += count;
     }
-    match write_stack(&mut stack, out, &mut tally, counted) {
+    match write_stack(&mut stack, out, &mut tally, counted, &mut spare) {
         Ok(()) => (Ending::Written, tally),
         Err(stop) => (stopped(tally.pages, stop), tally),
     }

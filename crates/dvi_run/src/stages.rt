@@ -14,6 +14,7 @@ use crate::ending::Ending;
 use crate::reading::{ReadStop, read_all};
 use crate::tally::Tally;
 use cache_core::Entry;
+use cache_core::laws::solo;
 use command_line::Settings;
 use outside::{FontSource, Input, Output};
 use page_index::{Index, IndexStop};
@@ -21,6 +22,7 @@ use page_workers::Worker;
 use std::alloc::Global;
 use std::sync::Wait;
 use std::thread::Threads;
+use turn_lock::laws::own_calls;
 
 // Draws and writes the pages of a document by the first workers, as many as the settings say, and
 // answers how that ended.
@@ -94,6 +96,9 @@ pub fn draw_document<R: Threads + Wait + Sync, F: FontSource + Send, O: Output>(
         (calls_of history.new.items) workers.old workers.new bytes.now }
     ensures output { O.faults out.old ≤ O.faults out.new }
 {
+    // Where one worker is used its calls are the history, and the keys that it asked for tell them.
+    own_calls();
+    solo();
     match Index::read(alloc, bytes, settings.res) {
         Ok(index) => draw_pages(rt, alloc, settings, &index, workers, out, history),
         Err(IndexStop::Fault(fault)) => (Ending::Document(fault), None),

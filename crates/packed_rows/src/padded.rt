@@ -55,6 +55,13 @@ impl PaddedBitmap {
         })
     }
 
+    /// Makes all pixels white. It takes no memory.
+    pub fn clear(&mut self)
+        ensures { self.new ≡ white_bitmap self.old.width self.old.height }
+    {
+        self.bytes.fill(0);
+    }
+
     /// How many pixels a row has.
     pub fn width(&self) -> u32
         ensures value { result ≡ self.now.width }
@@ -183,6 +190,22 @@ mod tests {
         assert_eq!(rt; bitmap.count(), 4);
         let whole = PaddedBitmap::white(rt.alloc(), 60, 2)?;
         assert!(rt; whole.rows() == Some([0; 16].as_slice()));
+        Ok(())
+    }
+
+    #[test]
+    fn a_cleared_bitmap_is_white(rt: HostRuntime) -> Result<(), Fail> {
+        let mut bitmap = PaddedBitmap::white(rt.alloc(), 70, 2)?;
+        bitmap.blacken(Span { from: 0, until: 70 }, Span { from: 0, until: 2 });
+        bitmap.clear();
+        assert_eq!(rt;
+            (bitmap.width(), bitmap.height(), bitmap.count()),
+            (70, 2, 0)
+        );
+        assert_eq!(rt; bitmap.padded(1), [0; 16].as_slice());
+        bitmap.blacken(Span { from: 8, until: 9 }, Span { from: 1, until: 2 });
+        assert_eq!(rt; bitmap.row(0), [0; 9].as_slice());
+        assert_eq!(rt; bitmap.row(1), [0, 0x80, 0, 0, 0, 0, 0, 0, 0].as_slice());
         Ok(())
     }
 

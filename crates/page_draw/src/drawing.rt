@@ -1,5 +1,5 @@
 //! Draws a page.
-ghost use Rattle.std.specs.Prelude.{◌≡◌, ◌<◌, ◌≤◌, ◌+◌, ◌^◌, ◌++◌, ◌≤ℤ◌, ◌<ℤ◌, ◌+ℤ◌, ◌-ℤ◌, neg_ℤ, pos, List, Some, Ok, Err, IfOk, IfErr, IfSome, IsErrOf, IsOk};
+ghost use Rattle.std.specs.Prelude.{◌≡◌, ◌<◌, ◌≤◌, ◌+◌, ◌^◌, ◌++◌, ◌≤ℤ◌, ◌<ℤ◌, ◌+ℤ◌, ◌-ℤ◌, neg_ℤ, pos, List, [], Some, Ok, Err, IfOk, IfErr, IfSome, IsErrOf, IsOk};
 ghost use Rattle.std.specs.Option.{option_map};
 ghost use Rattle.outside.specs.Counts.{HasCause};
 ghost use Rattle.page_index.specs.Document.{pages_begun};
@@ -124,6 +124,73 @@ fn finished(page: Page, pen: &Pen, at: usize) -> Result<Page, PageStop>
     }
 }
 
+/// Draws the page of a document with a number, from 0, on a blank page that has the sheet's sides, with
+/// the fonts of a desk. It is that page, or its fault, that `draw` answers.
+///
+/// A page's fault is the first of its list: a fault of the page's commands or fonts where it stands, or a
+/// command that the pen can't take, or registers that are still saved at the page's end. `SourceFault`
+/// comes only where the desk's source failed in this call, and `NoMemory` where memory was wanting.
+///
+/// Knuth, DVItype, "Translation to symbolic form".
+pub fn draw_on<R: Wait, D: Desk>(
+    rt: &R,
+    alloc: Global,
+    desk: &mut D,
+    shared: &D::Shared,
+    index: &Index,
+    i: usize,
+    sheet: &Sheet,
+    mut page: Page,
+) -> Result<Page, PageStop>
+    requires page { i < pages_begun index.now.reading }
+    requires sheet { IsDrawable sheet.now }
+    requires fits { D.fits desk.old shared.now }
+    requires units { IfSome (D.units desk.old) (λ u. document_units index.now.res index.now.reading ≡ Some u) }
+    requires room { 2 ^ 24 ≤ D.room desk.old }
+    requires blank { page ≡ page_of sheet.now.width sheet.now.height [] }
+
+    // What the desk is afterwards.
+    ensures fits { D.fits desk.new shared.now }
+    ensures room { D.room desk.old ≤ D.room desk.new + 2 ^ 24 }
+    ensures library { D.library desk.new ≡ D.library desk.old }
+    ensures units { D.units desk.new ≡ D.units desk.old }
+    ensures cause { HasCause (D.faults desk.old) (D.faults desk.new) (IsErrOf result PageStop.SourceFault) }
+
+    // The bitmap or the first fault is the page's, and the keys asked for are its look-ups.
+    ensures drawn { IfOk result (λ page. IsDrawn (IsFontOf (D.library desk.old) (D.units desk.old)) index.now sheet.now i
+        (Ok page) (D.asked desk.old) (D.asked desk.new)) }
+    ensures stop { IfErr result (λ stop. IsStop (IsFontOf (D.library desk.old) (D.units desk.old)) index.now sheet.now i
+        stop (D.asked desk.old) (D.asked desk.new)) }
+
+    // What the desk's seat did for these keys.
+    ensures trail { TrailGrew (IsWhole result) (D.asked desk.old) (D.asked desk.new) (D.trail desk.old) (D.trail desk.new) }
+{
+    let mut pen = Pen::new(alloc, index.conv());
+    let Ok(mut expander) = Expander::new(alloc, index, i) else {
+        return Err(PageStop::NoMemory);
+    };
+    'steps: loop {
+        let Ok(step) = expander.next() else {
+            return Err(PageStop::NoMemory);
+        };
+        match step {
+            Step::Flat(flat) => draw_one(&mut page, &mut pen, sheet, &expander, &flat)?,
+            Step::Ask(key) => match desk.font(rt, alloc, shared, &key) {
+                Ok(font) => expander.answer(font),
+                Err(DeskStop::SourceFault) => return Err(PageStop::SourceFault),
+                Err(DeskStop::NoMemory) => return Err(PageStop::NoMemory),
+            },
+            Step::End => return finished(page, &pen, expander.at()),
+            Step::Stop(fault) => {
+                return Err(PageStop::Fault {
+                    fault,
+                    at: expander.at(),
+                });
+            }
+        }
+    }
+}
+
 /// Draws the page of a document with a number, from 0, on a sheet, with the fonts of a desk.
 ///
 /// A page's fault is the first of its list: a fault of the page's commands or fonts where it stands, or a
@@ -162,31 +229,10 @@ pub fn draw<R: Wait, D: Desk>(
     // What the desk's seat did for these keys.
     ensures trail { TrailGrew (IsWhole result) (D.asked desk.old) (D.asked desk.new) (D.trail desk.old) (D.trail desk.new) }
 {
-    let mut pen = Pen::new(alloc, index.conv());
-    let Ok(mut page) = Page::blank(alloc, sheet.width, sheet.height) else {
+    // A document has units, so where memory is wanting its page was broken off before its first command.
+    let _conv = index.conv();
+    let Ok(page) = Page::blank(alloc, sheet.width, sheet.height) else {
         return Err(PageStop::NoMemory);
     };
-    let Ok(mut expander) = Expander::new(alloc, index, i) else {
-        return Err(PageStop::NoMemory);
-    };
-    'steps: loop {
-        let Ok(step) = expander.next() else {
-            return Err(PageStop::NoMemory);
-        };
-        match step {
-            Step::Flat(flat) => draw_one(&mut page, &mut pen, sheet, &expander, &flat)?,
-            Step::Ask(key) => match desk.font(rt, alloc, shared, &key) {
-                Ok(font) => expander.answer(font),
-                Err(DeskStop::SourceFault) => return Err(PageStop::SourceFault),
-                Err(DeskStop::NoMemory) => return Err(PageStop::NoMemory),
-            },
-            Step::End => return finished(page, &pen, expander.at()),
-            Step::Stop(fault) => {
-                return Err(PageStop::Fault {
-                    fault,
-                    at: expander.at(),
-                });
-            }
-        }
-    }
+    draw_on(rt, alloc, desk, shared, index, i, sheet, page)
 }

@@ -14,7 +14,7 @@ mod stop;
 #[cfg(test)]
 mod tests;
 
-pub use drawing::draw;
+pub use drawing::{draw, draw_on};
 pub use plain_desk::PlainDesk;
 pub use sheet::Sheet;
 pub use solo_desk::SoloDesk;

@@ -8,3 +8,4 @@ pub mod Rising
 pub mod Parts
 pub mod Shares
 pub mod Rounds
+pub mod Papered

@@ -4,3 +4,4 @@ pub mod Rounds
 pub mod Claims
 pub mod Seating
 pub mod Laws
+pub mod Paper

@@ -1,21 +1,61 @@
 //! A worker's part of a round: the pages that it claims, one after another.
-ghost use Rattle.std.specs.Prelude.{◌≡◌, ◌+◌, ◌^◌, ◌<◌, ◌≤◌, Some};
+ghost use Rattle.std.specs.Prelude.{◌≡◌, ◌+◌, ◌^◌, ◌<◌, ◌≤◌, Some, IsErrOf};
+ghost use Rattle.outside.specs.Counts.{HasCause};
 ghost use Rattle.page_index.specs.Document.{pages_begun};
 ghost use Rattle.page_index.specs.Pages.{document_units};
+ghost use Rattle.font_decode.specs.Decoding.{IsFontOf};
+ghost use Rattle.font_decode.specs.Desks.{TrailGrew};
+ghost use Rattle.page_draw.specs.Drawn.{IsWhole};
 ghost use Rattle.page_draw.specs.Sheets.{IsDrawable};
-ghost use Rattle.page_workers.specs.Seats.{Fits, room_at};
+ghost use Rattle.page_workers.specs.Rounds.{IsOutcome, trail_of};
+ghost use Rattle.page_workers.specs.Seats.{Fits, asked_at, library_at, room_at, units_at};
 ghost use Rattle.page_workers.specs.Claims.{DrewNext, HasRoom, MayTakePart, TookPart};
 
 use crate::Bench;
 use crate::claiming::{Round, claim_page};
+use crate::paper::blank_page;
 use crate::worker::{PageResult, Worker};
 use font_decode::Desk;
 use outside::FontSource;
-use page_draw::{Sheet, draw};
+use page_draw::{PageStop, Sheet, draw_on};
 use page_index::Index;
+use raster_page::Page;
 use std::alloc::Global;
 use std::mem;
 use std::sync::Wait;
+
+// Draws a page on the worker's paper, or on a new page.
+fn draw_on_paper<R: Wait, F: FontSource>(
+    rt: &R,
+    alloc: Global,
+    worker: &mut Worker<F>,
+    bench: &Bench,
+    index: &Index,
+    sheet: &Sheet,
+    page: usize,
+) -> Result<Page, PageStop>
+    requires page { page < pages_begun index.now.reading }
+    requires sheet { IsDrawable sheet.now }
+    requires units { document_units index.now.res index.now.reading ≡ Some bench.now.units }
+    requires fits { Fits (F.library worker.old.source) bench.now worker.old.seat }
+    requires look_ups { 2 ^ 24 ≤ room_at worker.old.loads worker.old.seat }
+    ensures value { IsOutcome (IsFontOf (library_at worker.old.seat) (units_at worker.old.seat))
+        index.now sheet.now page result (asked_at worker.old.seat) (asked_at worker.new.seat) }
+    ensures fits { Fits (F.library worker.new.source) bench.now worker.new.seat }
+    ensures room { room_at worker.old.loads worker.old.seat
+        ≤ room_at worker.new.loads worker.new.seat + 2 ^ 24 }
+    ensures same_library { library_at worker.new.seat ≡ library_at worker.old.seat }
+    ensures same_units { units_at worker.new.seat ≡ units_at worker.old.seat }
+    ensures cause { HasCause (F.faults worker.old.source) (F.faults worker.new.source)
+        (IsErrOf result PageStop.SourceFault) }
+    ensures trail { TrailGrew (IsWhole result) (asked_at worker.old.seat)
+        (asked_at worker.new.seat) (trail_of F.loads worker.old) (trail_of F.loads worker.new) }
+{
+    match blank_page(alloc, &mut worker.paper, sheet) {
+        Ok(paper) => draw_on(rt, alloc, worker, bench, index, page, sheet, paper),
+        Err(_) => Err(PageStop::NoMemory),
+    }
+}
 
 // Draws a page, and answers whether it has a bitmap. The results, the pages and the seat at the
 // round's counter are kept out of the worker in the meantime, since drawing tells nothing of them.
@@ -40,7 +80,7 @@ fn draw_page<R: Wait, F: FontSource>(
     let counter = worker.counter.take();
     let mut results = mem::replace(&mut worker.results, Vec::new(alloc));
     let mut pages = mem::replace(&mut worker.pages, Vec::new(alloc));
-    let outcome = draw(rt, alloc, worker, bench, index, page, sheet);
+    let outcome = draw_on_paper(rt, alloc, worker, bench, index, sheet, page);
     let has_bitmap = outcome.is_ok();
     results.push_reserved(PageResult { page, outcome });
     pages.push_reserved(page);

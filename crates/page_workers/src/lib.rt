@@ -9,13 +9,15 @@ mod drawing;
 mod keeping;
 pub mod laws;
 mod loading;
+mod paper;
 mod round;
 mod seating;
 mod worker;
 
 pub use bench::Bench;
 pub use page_counter::{CounterSeat, PageCounter};
-pub use round::{MOST_WORKERS, draw_round};
+pub use paper::drop_paper;
+pub use round::{MOST_WORKERS, draw_round, draw_round_on};
 pub use seating::{join_all, seat_all};
 pub use worker::{PageResult, Worker};
 

@@ -9,12 +9,14 @@ ghost use Rattle.page_workers.specs.Claims.{HasRoom, Kept, MayTakePart, TookPart
 use crate::Bench;
 use crate::claiming::{Round, join_at_counter, seat_at_counter};
 use crate::drawing::take_part;
+use crate::paper::share_paper;
 use crate::worker::Worker;
 use font_decode::Desk;
 use outside::FontSource;
 use page_counter::PageCounter;
 use page_draw::Sheet;
 use page_index::Index;
+use raster_page::Page;
 use std::alloc::{AllocError as NoMemory, Global};
 use std::sync::Wait;
 use std::thread;
@@ -105,4 +107,37 @@ pub fn draw_round<R: Threads + Wait + Sync, F: FontSource + Send>(
     join_at_counter(&counter, &mut seat, workers);
     counter.close(seat);
     Ok(())
+}
+
+/// Draws a round as `draw_round` does, on the memory of `paper`: spare pages, of which each worker takes
+/// its share. The others are dropped.
+pub fn draw_round_on<R: Threads + Wait + Sync, F: FontSource + Send>(
+    rt: &R,
+    alloc: Global,
+    workers: &mut [Worker<F>],
+    bench: &Bench,
+    index: &Index,
+    sheet: &Sheet,
+    first: usize,
+    count: usize,
+    paper: &mut Vec<Page>,
+) -> Result<(), NoMemory>
+    requires some_worker { 1 ≤ length workers.old }
+    requires few_workers { length workers.old ≤ 32 }
+    requires some_page { 1 ≤ count }
+    requires few_pages { count ≤ 32 }
+    requires inside { first + count ≤ pages_begun index.now.reading }
+    requires sheet { IsDrawable sheet.now }
+    requires units { document_units index.now.res index.now.reading ≡ Some bench.now.units }
+    requires ready { (k : ℕ) (d : _) → k < length workers.old
+        → MayDraw F.library bench.now count (slice_index_or workers.old k d) }
+    ensures drawn { OnOk result (DrewRound F.library F.faults F.loads bench.now index.now sheet.now
+        first count workers.old workers.new) }
+    ensures refused { OnErr result ((k : ℕ) (d : _) → k < length workers.old
+        → Rested (slice_index_or workers.old k d) (slice_index_or workers.new k d)) }
+    ensures no_counter { (k : ℕ) (d : _) → k < length workers.old
+        → (slice_index_or workers.new k d).counter ≡ None }
+{
+    share_paper(workers, paper, count);
+    draw_round(rt, alloc, workers, bench, index, sheet, first, count)
 }

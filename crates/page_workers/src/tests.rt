@@ -5,6 +5,7 @@ ghost use Rattle.page_workers.specs.Seating.{IsUnused};
 mod files;
 mod opening;
 mod overlap;
+mod paper;
 mod shared;
 
 use crate::{Bench, PageResult, Worker, draw_round, join_all, seat_all};

@@ -42,10 +42,12 @@ pub struct Worker<F: FontSource> {
     pub pages: Vec<usize>,
     /// Its seat at the counter of a round, while it draws the round's pages.
     pub counter: Option<CounterSeat>,
+    /// Pages that were written, on whose memory it draws again.
+    pub(crate) paper: Vec<Page>,
 }
 
 impl<F: FontSource> Worker<F> {
-    /// A worker without seats, results and pages, and with no loads. It takes no memory.
+    /// A worker without seats, results, pages and paper, and with no loads. It takes no memory.
     pub fn new(alloc: Global, source: F) -> Worker<F>
         ensures source { result.source ≡ source }
         ensures seat { result.seat ≡ None }
@@ -61,6 +63,7 @@ impl<F: FontSource> Worker<F> {
             loads: 0,
             pages: Vec::new(alloc),
             counter: None,
+            paper: Vec::new(alloc),
         }
     }
 }

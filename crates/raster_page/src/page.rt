@@ -46,6 +46,13 @@ impl Page {
         })
     }
 
+    /// Makes all dots white. It takes no memory.
+    pub fn clear(&mut self)
+        ensures { self.new ≡ page_of self.old.width self.old.height [] }
+    {
+        self.dots.clear();
+    }
+
     /// How many dots a row has.
     pub fn width(&self) -> u32
         ensures value { result ≡ self.now.width }

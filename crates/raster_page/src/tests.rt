@@ -16,6 +16,18 @@ fn a_blank_page_is_white(rt: HostRuntime) -> Result<(), Fail> {
 }
 
 #[test]
+fn a_cleared_page_is_blank(rt: HostRuntime) -> Result<(), Fail> {
+    let mut page = Page::blank(rt.alloc(), 10, 2)?;
+    page.rule(0, 0, 10, 2);
+    page.clear();
+    assert_eq!(rt; (page.width(), page.height(), page.count()), (10, 2, 0));
+    page.rule(3, 1, 6, 1);
+    assert_eq!(rt; page.row(0), [0, 0].as_slice());
+    assert_eq!(rt; page.row(1), [0x1f, 0x80].as_slice());
+    Ok(())
+}
+
+#[test]
 fn a_rule_in_the_middle(rt: HostRuntime) -> Result<(), Fail> {
     let mut page = Page::blank(rt.alloc(), 10, 4)?;
     page.rule(3, 1, 6, 2);

@@ -93,10 +93,11 @@ returns-clause-workers g c =
     let there : k < length ws = subst (λ (n : ℕ). k < n) (sym long) lt in
     let here : k < length now = subst (λ (n : ℕ). k < n) (sym same) there in
     let left = c.join_all.ensures.left k d here in
+    let but = c.drop_paper.ensures.same k d (subst (λ (n : ℕ). k < n) (sym joined) here) in
     ran s part (ap (λ v. v.part.library) opens) (ap (λ v. v.part.units) opens) q.1.1.1.0 q.1.1.1.1.0 (k + 1) (get_or xs k d) (get_or ws k d) (q.1.1.1.1.1.1.1 k d lt)
-    (c.seat_all.ensures.seated k d lt) (get_or now k d) (c.write_rounds-ending.ensures.workers k d there) left.seat left.is _ (get_or c.join_all.new.workers k d)
-    (ap (own (k + 1)) c.close.ensures.history ∙ left.own) left.none left.same.source left.same.loads
-    left.same.pages left.same.results left.same.counter
+    (c.seat_all.ensures.seated k d lt) (get_or now k d) (c.write_rounds-ending.ensures.workers k d there) left.seat left.is _ (get_or c.drop_paper.new.workers k d)
+    (ap (own (k + 1)) c.close.ensures.history ∙ left.own) (but.seat ∙ left.none) (but.source ∙ left.same.source) (but.loads ∙ left.same.loads)
+    (ap (λ v. v.items) but.pages ∙ left.same.pages) (ap (λ v. v.items) but.results ∙ left.same.results) (but.counter ∙ left.same.counter)
     _
     (λ h. none_released s part (ap (λ v. v.part.library) opens) (ap (λ v. v.part.units) opens) q.1.1.1.0 q.1.1.1.1.0 (k + 1) (get_or xs k d) (get_or ws k d) (q.1.1.1.1.1.1.1 k d lt)
     (c.seat_all.ensures.seated k d lt) (get_or now k d)
@@ -131,14 +132,15 @@ returns-clause-cause g c =
       λ d.
           let f = cause.2 d in
           let left = c.join_all.ensures.left k d here in
-          let source = left.same.source in
+          let but = c.drop_paper.ensures.same k d (subst (λ (n : ℕ). k < n) (sym joined) here) in
+          let source = but.source ∙ left.same.source in
           let seated = c.seat_all.ensures.seated k d below in
           record {
-            rose = subst (λ x. Rose (g.F.FontSource.faults x) (g.F.FontSource.faults (get_or c.join_all.new.workers k d).source)) seated.same.source
+            rose = subst (λ x. Rose (g.F.FontSource.faults x) (g.F.FontSource.faults (get_or c.drop_paper.new.workers k d).source)) seated.same.source
                 (subst (λ x. Rose (g.F.FontSource.faults (get_or ws k d).source) (g.F.FontSource.faults x)) (sym source) f.rose);
             number = f.number;
             is = f.is;
-            drew = (f.drew.0, left.same.pages ∙ f.drew.1);
+            drew = (f.drew.0, ap (λ v. v.items) but.pages ∙ left.same.pages ∙ f.drew.1);
           },
     )
 
@@ -147,10 +149,12 @@ returns-clause-shares g c =
     let xs = c.args.workers.now in
     let ws = c.seat_all.new.workers in
     let now = c.write_rounds-ending.new.workers in
-    let after = c.join_all.new.workers in
+    let joined = c.join_all.new.workers in
+    let after = c.drop_paper.new.workers in
     let reading = c.args.index.now.reading in
     let long : length ws ≡ length xs = search rules in
     let same : length now ≡ length ws = search rules in
+    let left : length joined ≡ length now = search rules in
     let e = seen_ending c.write_rounds-ending.result.0 in
     let tally = Some c.write_rounds-ending.result.1 in
     let shares : DrewShares (pages_begun reading) (length xs) e tally now =
@@ -160,7 +164,9 @@ returns-clause-shares g c =
       few = shares.few;
       shares = λ d.
           shared_as shares.drawn (length xs) (λ k. (get_or now k d).pages.items) (λ k. (get_or after k d).pages.items)
-          (λ k lt. (c.join_all.ensures.left k d (subst (λ (n : ℕ). k < n) (sym (same ∙ long)) lt)).same.pages) (shares.shares d);
+          (λ k lt.
+              let there : k < length now = subst (λ (n : ℕ). k < n) (sym (same ∙ long)) lt in
+              ap (λ v. v.items) (c.drop_paper.ensures.same k d (subst (λ (n : ℕ). k < n) (sym left) there)).pages ∙ (c.join_all.ensures.left k d there).same.pages) (shares.shares d);
       reach = shares.reach;
       written = shares.written;
     }

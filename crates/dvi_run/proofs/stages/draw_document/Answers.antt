@@ -1,8 +1,6 @@
 use Rattle.std.proofs.Common.{◌≡◌, ap, rules}
 use Rattle.outside.specs.Counts.{Rose}
 use Rattle.cache_core.specs.Views.{calls_of}
-use Rattle.cache_core.proofs.Solo.{solo_is_one}
-use Rattle.turn_lock.proofs.Histories.{alone_is_history}
 use Rattle.dvi_run.specs.Endings.{seen_ending}
 use Rattle.dvi_run.specs.Pages.{given_by}
 use Rattle.dvi_run.specs.Together.{SomeUsed, SourceRose}
@@ -27,7 +25,7 @@ pub returns-in-Ok-clause-done : goal.returns-in-Ok-clause-done
 returns-in-Ok-clause-done g c = are_done _ _ _ _ _ _ _ _ _ _ _ _ _ _ _ _ c.draw_pages.ensures.drew c.draw_pages.ensures.rest
 
 pub returns-in-Ok-clause-drew : goal.returns-in-Ok-clause-drew
-returns-in-Ok-clause-drew g c = drew_together _ _ _ _ _ _ _ _ _ _ _ _ _ _ _ _ c.draw_pages.ensures.drew c.args.bytes.now c.in-Ok.ensures.document alone_is_history solo_is_one
+returns-in-Ok-clause-drew g c = drew_together _ _ _ _ _ _ _ _ _ _ _ _ _ _ _ _ c.draw_pages.ensures.drew c.args.bytes.now c.in-Ok.ensures.document c.own_calls.ensures.alone c.solo.ensures.one
 
 pub returns-in-Err-Fault-clause-done : goal.returns-in-Err-Fault-clause-done
 returns-in-Err-Fault-clause-done g c = let q = c.requires.1.1.1.1.1 in idle_done _ _ _ _ _ _ _ _ _ _ _ q.1.1.0 tt (ap calls_of q.1.1.1)

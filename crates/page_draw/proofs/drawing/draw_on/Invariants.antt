@@ -5,7 +5,7 @@ use Rattle.font_decode.specs.Desks.{TrailGrew}
 use Rattle.vf_expand.specs.Course.{course_of}
 use Rattle.vf_expand.specs.Doing.{asks_left, left, steps_left}
 use Rattle.page_draw.proofs.Lists.{IsSoFar}
-use Rattle.page_draw.proofs.drawing.draw.Given as goal
+use Rattle.page_draw.proofs.drawing.draw_on.Given as goal
 
 -- the page so far, and what is left of it
 abbrev pub invariant-steps : goal.invariant-steps
