@@ -1,4 +1,5 @@
--- Plain commands: those of a page that set, move or choose a font, and so change nothing of a document but how far it is read.
+-- Plain commands: those of a page that set, move, save or restore the registers, choose a font or do
+-- nothing, and so change nothing of a document but how far it is read.
 use Rattle.std.specs.Prelude.{ℕ, suc, ◌<◌, ◌≤◌, Bool, true, false, ◌||◌, nat_le, if◌then◌else◌, List, length, slice_index, slice_range, IsTrue}
 use Rattle.std.specs.Int.{is_in_range}
 use Rattle.dvi_commands.specs.Spelling.{DviCommand, Bop, Eop, Special, Define, Pre, Post, PostPost, Spells}

@@ -1,4 +1,4 @@
-//! Passing over a plain command, one that sets, moves or chooses a font on a page.
+//! Passing over a plain command of a page: any but its frame, a definition and a special.
 
 ghost use Rattle.std.specs.Prelude.{◌≡◌, ◌≤◌, ℕ, List, length, drop, IfSome, IsNone, IsFalse};
 ghost use Rattle.dvi_commands.specs.Plain.{IsPlainTo, is_plain, plain_size};
@@ -35,7 +35,8 @@ fn plain_length(opcode: u8) -> usize
     PLAIN_LENGTHS[opcode as usize] as usize
 }
 
-/// The place behind the plain command at a place of a page: one that sets, moves or chooses a font.
+/// The place after the plain command at a place of a page: one that sets, moves, saves or restores the
+/// registers, chooses a font or does nothing.
 ///
 /// `None` where no such command begins, or the one that begins isn't all there. The opcode tells the
 /// length, so the fields aren't read.
