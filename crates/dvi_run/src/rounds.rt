@@ -25,10 +25,9 @@ use page_index::Index;
 use page_workers::{Bench, PageResult, Worker, draw_round_on};
 use raster_page::Page;
 use std::alloc::{AllocError as NoMemory, Global};
-use std::mem;
 use std::sync::Wait;
-use std::thread;
 use std::thread::Threads;
+use std::{mem, thread};
 
 /// How many pages a round of several workers has.
 const ROUND: usize = 32;
@@ -65,9 +64,7 @@ fn draw_stack<R: Threads + Wait + Sync, F: FontSource + Send>(
 {
     let _few = index.pages();
     let mut stack = Vec::with_capacity(alloc, count)?;
-    draw_round_on(
-        rt, alloc, workers, bench, index, sheet, first, count, paper,
-    )?;
+    draw_round_on(rt, alloc, workers, bench, index, sheet, first, count, paper)?;
     collect(workers, first, count, &mut stack);
     Ok(stack)
 }
@@ -161,10 +158,9 @@ fn write_and_draw<R: Threads + Wait + Sync, F: FontSource + Send, O: Output>(
 {
     if workers.len() == 1 {
         write_stack(stack, out, tally, counted, spare)?;
-        return draw_stack(
-            rt, alloc, workers, bench, index, sheet, first, count, spare,
-        )
-        .map_err(|_| WriteStop::Draw(PageStop::NoMemory));
+        return draw_stack(rt, alloc, workers, bench, index, sheet, first, count, spare).map_err(
+            |_| WriteStop::Draw(PageStop::NoMemory),
+        );
     }
     let mut paper = mem::replace(spare, Vec::new(alloc));
     let (drawn, written) = draw_beside(

@@ -13,11 +13,7 @@ use std::alloc::{AllocError as NoMemory, Global};
 
 /// A blank page: paper that has the sheet's sides, cleared, or else a new page. Paper of other sides is
 /// dropped.
-pub fn blank_page(
-    alloc: Global,
-    paper: &mut Vec<Page>,
-    sheet: &Sheet,
-) -> Result<Page, NoMemory>
+pub fn blank_page(alloc: Global, paper: &mut Vec<Page>, sheet: &Sheet) -> Result<Page, NoMemory>
     requires { IsDrawable sheet.now }
     ensures { IfOk result (λ page. page ≡ page_of sheet.now.width sheet.now.height []) }
 {

@@ -36,6 +36,24 @@ fn more_workers_write_the_bytes_of_one(rt: HostRuntime) -> Result<(), Fail> {
     Ok(())
 }
 
+// Each page is drawn on the memory of one with other ink.
+#[test]
+fn no_ink_is_left_of_a_page_before(rt: HostRuntime) -> Result<(), Fail> {
+    let alloc = rt.alloc();
+    let mut pages: [&[u8]; 70] = [&[]; 70];
+    let mut text = Vec::new(alloc);
+    for i in 0..35usize {
+        pages[2 * i] = &DOT_PAGE;
+        text.extend_from_slice(b"P4\n8 2\n\xc0\xc0P4\n8 2\n\0\0")?;
+    }
+    for count in [1u32, 2, 8] {
+        let run = run_of(&rt, alloc, &TWO, &pages, count, NOTHING)?;
+        assert_eq!(rt; run.status, 0);
+        assert_eq!(rt; run.written.as_slice(), text.as_slice());
+    }
+    Ok(())
+}
+
 #[test]
 fn the_calls_are_those_of_the_machine(rt: HostRuntime) -> Result<(), Fail> {
     let alloc = rt.alloc();

@@ -165,8 +165,8 @@ returns-clause-shares g c =
       shares = λ d.
           shared_as shares.drawn (length xs) (λ k. (get_or now k d).pages.items) (λ k. (get_or after k d).pages.items)
           (λ k lt.
-              let there : k < length now = subst (λ (n : ℕ). k < n) (sym (same ∙ long)) lt in
-              ap (λ v. v.items) (c.drop_paper.ensures.same k d (subst (λ (n : ℕ). k < n) (sym left) there)).pages ∙ (c.join_all.ensures.left k d there).same.pages) (shares.shares d);
+          let there : k < length now = subst (λ (n : ℕ). k < n) (sym (same ∙ long)) lt in
+          ap (λ v. v.items) (c.drop_paper.ensures.same k d (subst (λ (n : ℕ). k < n) (sym left) there)).pages ∙ (c.join_all.ensures.left k d there).same.pages) (shares.shares d);
       reach = shares.reach;
       written = shares.written;
     }
