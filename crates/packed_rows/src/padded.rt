@@ -1,6 +1,6 @@
 //! A bitmap whose rows are padded to whole words.
 
-ghost use Rattle.std.specs.Prelude.{◌≡◌, ℕ, ◌*◌, ◌^◌, ◌<◌, ◌≤◌, ◌↔◌, [], IfOk, IfSome, IsSome, length, slice_index, slice_index_or, take};
+ghost use Rattle.std.specs.Prelude.{◌≡◌, ℕ, ◌*◌, ◌^◌, ◌<◌, ◌≤◌, ◌↔◌, [], IfOk, IfSome, IsSome, length, replicate, slice_index, slice_index_or, take};
 ghost use Rattle.std.specs.Int.{div_ceil};
 ghost use Rattle.std.specs.List.{flat_map};
 ghost use Rattle.packed_rows.specs.Bitmap.{is_black};
@@ -40,8 +40,16 @@ impl Model for PaddedBitmap {
     ghost invariant = { λ b. IsStoredPadded b.width b.height b.bytes.items };
 }
 
+// Makes all pixels of the bytes white.
+fn whiten(bytes: &mut Vec<u8>)
+    ensures { bytes.new.items ≡ replicate (length bytes.old.items) 0 }
+{
+    bytes.fill(0);
+}
+
 impl PaddedBitmap {
-    /// A bitmap of white pixels, in one zeroed allocation. The only call that takes memory.
+    /// A bitmap of white pixels, in one allocation that is filled with zeros. The only call that takes
+    /// memory.
     pub fn white(alloc: Global, width: u32, height: u32) -> Result<PaddedBitmap, NoMemory>
         requires narrow { width < 2 ^ 16 }
         requires low { height < 2 ^ 16 }
@@ -59,7 +67,7 @@ impl PaddedBitmap {
     pub fn clear(&mut self)
         ensures { self.new ≡ white_bitmap self.old.width self.old.height }
     {
-        self.bytes.fill(0);
+        whiten(&mut self.bytes);
     }
 
     /// How many pixels a row has.

@@ -33,8 +33,8 @@ pub struct Worker<F: FontSource> {
     pub source: F,
     /// Its seat, while a run lasts.
     pub seat: Option<CacheSeat<Decoded>>,
-    /// The results of the pages of this round, in the order in which it drew them, until they are
-    /// written.
+    /// The results of the pages of this round, in the order in which it drew them, until the caller
+    /// takes them out.
     pub results: Vec<PageResult>,
     /// How many loads the worker asked of its source.
     pub loads: u64,
