@@ -7,6 +7,7 @@ pub mod Hex
 pub mod Shown
 pub mod Drawn
 pub mod Kept
+pub mod RowWords
 pub mod Steps
 pub mod Within
 pub mod Complete
