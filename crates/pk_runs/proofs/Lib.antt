@@ -11,6 +11,7 @@ pub mod RowWords
 pub mod Steps
 pub mod Within
 pub mod Complete
+pub mod PlainWords
 pub mod Empty
 pub mod RowsGiven
 pub mod Sizes
