@@ -23,8 +23,8 @@ pub fn next_item(
     let Some(first) = nybbles.next() else {
         return Err(RunFault::Short);
     };
-    // Most items: a run of one nybble.
-    if first != 0 && first <= dyn_f {
+    // Most items: a run of one nybble, from 1 to dyn_f.
+    if first.wrapping_sub(1) < dyn_f {
         return Ok(Reading::Run(u64::from(first)));
     }
     if first < 14 {
