@@ -3,7 +3,7 @@ use Rattle.std.proofs.Common.{◌≡◌, ℕ, ◌+◌, ◌*◌, ◌<◌, ◌≤�
 use Rattle.std.proofs.lemmas.Bool.{cases_lt, lt-ltb, le-ltb}
 use Rattle.std.proofs.lemmas.Bool.Decides.{nat_tests}
 use Rattle.std.proofs.Math.Nat.{mul-le-mul_right}
-use Rattle.packed_rows.specs.Bitmap.{Bitmap, is_black, from_fn, IsShaped}
+use Rattle.packed_rows.specs.Bitmap.{Bitmap, is_black, from_fn}
 use Rattle.packed_rows.specs.Changes.{is_within}
 use Rattle.packed_rows.specs.Joined.{IsWhiteFrom, with_word}
 use Rattle.packed_rows.specs.Stamped.{word_pixel}

@@ -1,12 +1,12 @@
 -- Words that hold the front of a row, and behind it the colour that is due.
-use Rattle.std.proofs.Common.{◌≡◌, ℕ, zero, suc, ◌+◌, ◌-◌, ◌*◌, ◌/◌, ◌%◌, ◌^◌, ◌<◌, ◌≤◌, ◌⊎◌, inl, inr, Bool, true, false, ◌&&◌, ◌||◌, not, eqb, leb, ltb, cond, refl, ap, ap₂, sym, ◌∙◌, arith, w64}
+use Rattle.std.proofs.Common.{◌≡◌, ℕ, zero, suc, ◌+◌, ◌-◌, ◌*◌, ◌/◌, ◌%◌, ◌^◌, ◌<◌, ◌≤◌, ◌⊎◌, inl, inr, Bool, true, false, ◌&&◌, ◌||◌, not, eqb, leb, ltb, cond, refl, ap, sym, ◌∙◌, arith, w64}
 use Rattle.std.specs.Int.{bit_at, bit_not}
 use Rattle.std.specs.Int.Bits.{bit_xor}
 use Rattle.std.specs.Prelude.{bit_and}
 use Rattle.std.proofs.lemmas.Bool.{cases_lt, le-leb, lt-leb, le-ltb, lt-ltb}
 use Rattle.std.proofs.lemmas.Bool.Decides.{nat_tests}
 use Rattle.std.proofs.lemmas.Nat.{shr-shr, pow_pos}
-use Rattle.std.proofs.lemmas.Nat.Bits.{bit_at_xor, bit_at-lt, bit_at-zero, bit_at_not, ones_shr, bit_at_ones, bit_at_ones_above, bit_at_cat_low, bit_at_cat_high}
+use Rattle.std.proofs.lemmas.Nat.Bits.{bit_at_xor, shr_and_one, bit_at-lt, bit_at-zero, bit_at_not, ones_shr, bit_at_ones, bit_at_ones_above, bit_at_cat_low, bit_at_cat_high}
 use Rattle.packed_rows.specs.Changes.{is_within}
 use Rattle.packed_rows.specs.Stamped.{word_pixel}
 use Rattle.packed_rows.proofs.Bits.{bit_of_and}
@@ -152,6 +152,12 @@ IsTurned word column new = (i : ℕ) → i < 64 → word_pixel new i ≡ cond (l
 pub ahead_turned : (word column new : ℕ) (black : Bool) → IsTurned word column new → IsAhead word column black → IsAhead new column (not black)
 ahead_turned word column new black turned ahead i from g =
     turned i g ∙ ap (λ b. cond b (not (word_pixel word i)) (word_pixel word i)) (le-leb column i from) ∙ ap not (ahead i from g)
+
+pub last_turned : (word column new : ℕ) → column < 64 → IsTurned word column new → word_pixel new 63 ≡ not (word_pixel word 63)
+last_turned word column new few turned = turned 63 (omega arith) ∙ ap (λ b. cond b (not (word_pixel word 63)) (word_pixel word 63)) (le-leb column 63 (omega (arith, few)))
+
+pub last_bit : (word : ℕ) → bit_and word 1 ≡ bit_at word 0
+last_bit word = let whole : word / 2 ^ 0 ≡ word = omega arith in ap (λ n. bit_and n 1) (sym whole) ∙ shr_and_one word 0
 
 pub front_turned : (word column new i : ℕ) → column < 64 → IsTurned word column new → i < 64 → word_pixel (front new column) i ≡ word_pixel (front word column) i
 front_turned word column new i h turned g = front_pixel new column i h g ∙ by (cases_lt i column) ∙ sym (front_pixel word column i h g)

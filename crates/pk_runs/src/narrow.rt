@@ -1,6 +1,6 @@
 //! Runs, painted row after row on a raster of less than sixty-four columns.
 
-use crate::row_words::{front, turned_from, word_of};
+use crate::row_words::{front, last, turned_from, word_of};
 use packed_rows::{PackedBitmap, Span};
 use std::marker::Model;
 
@@ -15,12 +15,12 @@ pub struct NarrowPainter {
     column: u32,
     copies: u32,
     repeated: bool,
-    black: bool,
 }
 
 impl Model for NarrowPainter {
     ghost use Rattle.std.specs.Prelude.{◌+◌};
     ghost use Rattle.packed_rows.specs.Joined.{with_word};
+    ghost use Rattle.packed_rows.specs.Stamped.{word_pixel};
     ghost use Rattle.pk_runs.specs.Narrow.{IsAhead, IsKept, front};
     ghost use Rattle.pk_runs.specs.declared.painter.Painter.{Painter};
 
@@ -32,11 +32,11 @@ impl Model for NarrowPainter {
       column = p.column;
       copies = p.copies;
       repeated = p.repeated;
-      black = p.black;
+      black = word_pixel p.word 63;
     } };
 
     ghost invariant = { λ p. IsKept p.bits (front p.word p.column) p.row p.column
-        × IsAhead p.word p.column p.black };
+        × IsAhead p.word p.column (word_pixel p.word 63) };
 }
 
 impl NarrowPainter {
@@ -56,7 +56,6 @@ impl NarrowPainter {
             column: 0,
             copies: 0,
             repeated: false,
-            black,
         }
     }
 
@@ -80,7 +79,7 @@ impl NarrowPainter {
             until: below as usize,
         };
         self.bits.join_rows(front(self.word, self.column), rows);
-        self.word = word_of(self.black);
+        self.word = word_of(last(self.word));
         self.row = below;
         self.column = 0;
         self.copies = 0;
@@ -92,7 +91,6 @@ impl NarrowPainter {
         ensures { self.new ≡ record self.old { black = not self.old.black } }
     {
         self.word = turned_from(self.word, self.column);
-        self.black = !self.black;
     }
 
     /// How many pixels of the next row aren't painted.

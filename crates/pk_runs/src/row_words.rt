@@ -12,6 +12,14 @@ pub fn word_of(black: bool) -> u64
     if black { u64::MAX } else { 0 }
 }
 
+/// The colour of the last pixel, which lies behind every column.
+#[inline(always)]
+pub fn last(word: u64) -> bool
+    ensures { result ≡ word_pixel word 63 }
+{
+    word & 1 == 1
+}
+
 /// The word with the other colour from a column on.
 #[inline(always)]
 pub fn turned_from(word: u64, column: u32) -> u64

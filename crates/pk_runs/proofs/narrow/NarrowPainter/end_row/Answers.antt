@@ -1,6 +1,7 @@
-use Rattle.std.proofs.Common.{◌≡◌, ◌+◌, ◌<◌, ◌∙◌, false, ap, sym, subst, arith}
+use Rattle.std.proofs.Common.{◌≡◌, ◌+◌, ◌<◌, ◌∙◌, Bool, false, ap, sym, subst, arith}
 use Rattle.packed_rows.specs.Bitmap.{Bitmap}
 use Rattle.packed_rows.specs.Joined.{with_word}
+use Rattle.packed_rows.specs.Stamped.{word_pixel}
 use Rattle.pk_runs.specs.Narrow.{IsKept, front}
 use Rattle.pk_runs.specs.declared.painter.Painter.{Painter}
 use Rattle.pk_runs.proofs.Kept.{kept_ended, seen_ended}
@@ -20,7 +21,7 @@ invariant_of-self c =
       rekept c.join_rows.new.self 0 c.word_of-self-inside.result next 0
           (subst (λ (q : Bitmap). IsKept q 0 next 0) (sym set)
           (kept_ended b (front c.self.inside.word c.self.inside.column) c.self.inside.row c.self.inside.column next (omega arith) c.self.invariant.0)),
-      λ i _ few. c.word_of-self-inside.ensures i few,
+      λ i _ few. c.word_of-self-inside.ensures i few ∙ sym (c.word_of-self-inside.ensures 63 (omega arith)),
     )
 
 pub returns : goal.returns
@@ -31,9 +32,13 @@ returns c =
     c.join_rows.ensures ∙ joined_front b c.self.inside.word c.self.inside.column c.front.result c.self.inside.row next c.self.invariant.0.narrow
     (omega (arith, c.self.invariant.0.narrow, c.self.invariant.0.inside)) c.front.ensures in
     let narrow : c.join_rows.new.self.width < 64 = subst (λ (q : Bitmap). q.width < 64) (sym set) c.self.invariant.0.narrow in
-    ap make (front_none c.join_rows.new.self c.word_of-self-inside.result next (next + 1) narrow)
-    ∙ seen_ended b c.join_rows.new.self (front c.self.inside.word c.self.inside.column) c.self.inside.row c.self.inside.column c.self.inside.copies c.self.inside.repeated c.self.inside.black
+    ap (painter (with_word c.join_rows.new.self (front c.word_of-self-inside.result 0) next (next + 1))) (c.word_of-self-inside.ensures 63 (omega arith) ∙ c.last.ensures)
+    ∙ ap make (front_none c.join_rows.new.self c.word_of-self-inside.result next (next + 1) narrow)
+    ∙ seen_ended b c.join_rows.new.self (front c.self.inside.word c.self.inside.column) c.self.inside.row c.self.inside.column c.self.inside.copies c.self.inside.repeated (word_pixel c.self.inside.word 63)
     c.args.self.now set c.requires.low c.self.invariant.0 c.self.view_is
   where
     make : Bitmap → Painter
-    make q = record { bits = q; row = c.self.inside.row + 1 + c.self.inside.copies; column = 0; copies = 0; repeated = false; black = c.self.inside.black }
+    make q = record { bits = q; row = c.self.inside.row + 1 + c.self.inside.copies; column = 0; copies = 0; repeated = false; black = (word_pixel c.self.inside.word 63) }
+
+    painter : Bitmap → Bool → Painter
+    painter q b = record { bits = q; row = c.self.inside.row + 1 + c.self.inside.copies; column = 0; copies = 0; repeated = false; black = b }
