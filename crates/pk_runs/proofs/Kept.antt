@@ -27,6 +27,12 @@ nothing false i = refl
 white_dot : (w h x y : ℕ) → x < w → y < h → is_black (white_bitmap w h) x y ≡ false
 white_dot w h x y in_row inside = dot_of w h x y (λ k r. false) in_row inside
 
+-- words that have the same pixels where the raster has columns
+pub same_seen : (b : Bitmap) (word other first last : ℕ) → ((x : ℕ) → x < b.width → word_pixel word x ≡ word_pixel other x) → with_word b word first last ≡ with_word b other first last
+same_seen b word other first last same =
+    ap (made b.width b.height) (same_dots b.width b.height (λ x y. is_within first last y && word_pixel word x || is_black b x y) (λ x y. is_within first last y && word_pixel other x || is_black b x y)
+    (λ x y in_row inside. ap (λ p. is_within first last y && p || is_black b x y) (same x in_row)))
+
 -- ---- a white raster
 
 pub kept_white : (b : Bitmap) → b.width < 64 → b ≡ white_bitmap b.width b.height → IsKept b 0 0 0

@@ -7,9 +7,11 @@ pub mod Hex
 pub mod Shown
 pub mod Drawn
 pub mod Kept
+pub mod RowWords
 pub mod Steps
 pub mod Within
 pub mod Complete
+pub mod PlainWords
 pub mod Empty
 pub mod RowsGiven
 pub mod Sizes

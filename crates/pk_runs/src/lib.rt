@@ -13,6 +13,7 @@ mod numbers;
 mod nybbles;
 mod painter;
 mod plain;
+mod row_words;
 mod runs;
 #[cfg(test)]
 mod tests;

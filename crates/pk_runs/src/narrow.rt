@@ -1,14 +1,12 @@
 //! Runs, painted row after row on a raster of less than sixty-four columns.
 
-ghost use Rattle.std.specs.Prelude.{◌≡◌, ℕ, ◌+◌, ◌<◌, ◌≤◌, ◌&&◌, ◌||◌};
-ghost use Rattle.packed_rows.specs.Changes.{is_within};
-ghost use Rattle.packed_rows.specs.Stamped.{word_pixel};
-
-use packed_rows::{PackedBitmap, Span, blacken_word};
+use crate::row_words::{front, last, turned_from, word_of};
+use packed_rows::{PackedBitmap, Span};
 use std::marker::Model;
 
 /// A `Painter` of a narrow raster: the pixels of the next row are kept in a word, and joined into the
-/// raster when the row ends, with its copies. A contract sees it as a `Painter`.
+/// raster when the row ends, with its copies. From the column on the word has the colour that is due.
+/// A contract sees it as a `Painter`.
 #[derive(Drop)]
 pub struct NarrowPainter {
     bits: PackedBitmap,
@@ -17,40 +15,28 @@ pub struct NarrowPainter {
     column: u32,
     copies: u32,
     repeated: bool,
-    black: bool,
 }
 
 impl Model for NarrowPainter {
     ghost use Rattle.std.specs.Prelude.{◌+◌};
     ghost use Rattle.packed_rows.specs.Joined.{with_word};
-    ghost use Rattle.pk_runs.specs.Narrow.{IsKept};
+    ghost use Rattle.packed_rows.specs.Stamped.{word_pixel};
+    ghost use Rattle.pk_runs.specs.Narrow.{IsAhead, IsKept, front};
     ghost use Rattle.pk_runs.specs.declared.painter.Painter.{Painter};
 
     ghost Value = { Painter };
 
     ghost view = { λ p. record {
-      bits = with_word p.bits p.word p.row (p.row + 1);
+      bits = with_word p.bits (front p.word p.column) p.row (p.row + 1);
       row = p.row;
       column = p.column;
       copies = p.copies;
       repeated = p.repeated;
-      black = p.black;
+      black = word_pixel p.word 63;
     } };
 
-    ghost invariant = { λ p. IsKept p.bits p.word p.row p.column };
-}
-
-// The word with the pixels of a run, where that is black.
-fn with_run(word: u64, black: bool, from: u32, until: u32) -> u64
-    requires ordered { from ≤ until }
-    requires few { until < 64 }
-    ensures { (i : ℕ) → i < 64 → word_pixel result i ≡ (black && is_within from until i || word_pixel word i) }
-{
-    if black {
-        blacken_word(word, from, until)
-    } else {
-        word
-    }
+    ghost invariant = { λ p. IsKept p.bits (front p.word p.column) p.row p.column
+        × IsAhead p.word p.column (word_pixel p.word 63) };
 }
 
 impl NarrowPainter {
@@ -65,12 +51,11 @@ impl NarrowPainter {
     {
         NarrowPainter {
             bits,
-            word: 0,
+            word: word_of(black),
             row: 0,
             column: 0,
             copies: 0,
             repeated: false,
-            black,
         }
     }
 
@@ -79,9 +64,7 @@ impl NarrowPainter {
         requires { self.old.column + n ≤ self.old.bits.width }
         ensures { self.new ≡ painted self.old n }
     {
-        let until = self.column + n;
-        self.word = with_run(self.word, self.black, self.column, until);
-        self.column = until;
+        self.column += n;
     }
 
     // Sets a row whose pixels are all painted, with its copies, and goes on below them.
@@ -95,8 +78,8 @@ impl NarrowPainter {
             from: self.row as usize,
             until: below as usize,
         };
-        self.bits.join_rows(self.word, rows);
-        self.word = 0;
+        self.bits.join_rows(front(self.word, self.column), rows);
+        self.word = word_of(last(self.word));
         self.row = below;
         self.column = 0;
         self.copies = 0;
@@ -107,7 +90,7 @@ impl NarrowPainter {
     fn turn(&mut self)
         ensures { self.new ≡ record self.old { black = not self.old.black } }
     {
-        self.black = !self.black;
+        self.word = turned_from(self.word, self.column);
     }
 
     /// How many pixels of the next row aren't painted.
@@ -208,7 +191,7 @@ impl NarrowPainter {
             from: self.row as usize,
             until: until as usize,
         };
-        self.bits.join_rows(self.word, rows);
+        self.bits.join_rows(front(self.word, self.column), rows);
         self.bits
     }
 }

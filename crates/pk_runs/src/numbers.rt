@@ -17,6 +17,7 @@ struct Zeros {
 
 // The number whose first nybble was read, or None where the nybbles end before it is whole.
 // A number above `HUGE` is read as `HUGE`.
+#[inline(always)]
 pub fn number(nybbles: &mut Nybbles, dyn_f: u8, first: u8) -> Option<u64>
     requires runs { dyn_f ≤ 13 }
     requires no_mark { first ≤ 13 }
@@ -24,7 +25,10 @@ pub fn number(nybbles: &mut Nybbles, dyn_f: u8, first: u8) -> Option<u64>
         (λ m. (n : ℕ) × (number : List ℕ) × (first ∷ nybbles.old ≡ number ++ nybbles.new) × SpellsNumber dyn_f number n × (m ≡ min n (2 ^ 32 - 1))) }
 {
     if first == 0 {
-        return long_number(nybbles, dyn_f);
+        let mut rest = nybbles.again();
+        let value = long_number(&mut rest, dyn_f)?;
+        *nybbles = rest;
+        return Some(value);
     }
     if first <= dyn_f {
         return Some(u64::from(first));
@@ -34,6 +38,7 @@ pub fn number(nybbles: &mut Nybbles, dyn_f: u8, first: u8) -> Option<u64>
 }
 
 // A number that begins with zeros, of which the first was read.
+#[inline(never)]
 fn long_number(nybbles: &mut Nybbles, dyn_f: u8) -> Option<u64>
     requires { dyn_f ≤ 13 }
     ensures { MatchOption result (CutsNumber dyn_f (0 ∷ nybbles.old))

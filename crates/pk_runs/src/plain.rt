@@ -1,13 +1,14 @@
 //! A raster from the bits of a plain bitmap.
 
-ghost use Rattle.std.specs.Prelude.{◌≡◌, ◌+◌, ◌*◌, ◌/◌, ◌%◌, ◌^◌, ◌<◌, ◌≤◌, length, MatchResult, if◌then◌else◌};
+ghost use Rattle.std.specs.Prelude.{◌≡◌, ℕ, ◌+◌, ◌*◌, ◌/◌, ◌%◌, ◌^◌, ◌<◌, ◌≤◌, ◌&&◌, length, nat_lt, MatchResult, if◌then◌else◌};
 ghost use Rattle.packed_rows.specs.Changes.{white_bitmap, with_black};
 ghost use Rattle.packed_rows.specs.Packing.{pixel};
+ghost use Rattle.packed_rows.specs.Stamped.{word_pixel};
 ghost use Rattle.pk_runs.specs.Raster.{IsPlainRaster};
 ghost use Rattle.pk_runs.specs.declared.faults.RunFault.TheVariants.{Short};
 
 use crate::faults::RunFault;
-use packed_rows::{PackedBitmap, Span, is_black};
+use packed_rows::{PackedBitmap, Span, blacken_word, is_black};
 
 /// Paints the bits of the bytes on a white raster, row after row without padding.
 pub fn paint_plain(
@@ -26,6 +27,9 @@ pub fn paint_plain(
     let size = w as usize * h as usize;
     if bytes.len() < size.div_ceil(8) {
         return Err(RunFault::Short);
+    }
+    if w < 64 {
+        return Ok(paint_narrow_rows(bits, w, h, bytes));
     }
     for place in 0..size {
         paint_place(&mut bits, w as usize, bytes, place);
@@ -55,4 +59,41 @@ fn paint_place(bits: &mut PackedBitmap, w: usize, bytes: &[u8], place: usize)
         };
         bits.blacken(columns, rows);
     }
+}
+
+// The same where a row fits in a word: row after row.
+fn paint_narrow_rows(mut bits: PackedBitmap, w: u32, h: u32, bytes: &[u8]) -> PackedBitmap
+    requires narrow { w < 64 }
+    requires short { h ≤ 16384 }
+    requires white { bits ≡ white_bitmap w h }
+    requires enough { w * h ≤ 8 * length bytes.now }
+    ensures wide { result.width ≡ w }
+    ensures high { result.height ≡ h }
+    ensures rows { IsPlainRaster bytes.now w h result.rows }
+{
+    for y in 0..h as usize {
+        let word = plain_word(bytes, y * w as usize, w);
+        let row = Span {
+            from: y,
+            until: y + 1,
+        };
+        bits.join_rows(word, row);
+    }
+    bits
+}
+
+// So many pixels from a place on, as a word.
+fn plain_word(bytes: &[u8], place: usize, w: u32) -> u64
+    requires narrow { w < 64 }
+    requires few { place < 2 ^ 32 }
+    requires enough { place + w ≤ 8 * length bytes.now }
+    ensures { (i : ℕ) → i < 64 → word_pixel result i ≡ (nat_lt i w && pixel bytes.now (place + i)) }
+{
+    let mut word = 0;
+    for x in 0..w {
+        if is_black(bytes, place + x as usize) {
+            word = blacken_word(word, x, x + 1);
+        }
+    }
+    word
 }

@@ -10,6 +10,7 @@ use crate::nybbles::Nybbles;
 
 /// Reads the next run length or repeat count. `repeated` says that the next row has a repeat count
 /// already, and `row` how many rows are complete.
+#[inline(always)]
 pub fn next_item(
     nybbles: &mut Nybbles,
     dyn_f: u8,
@@ -22,6 +23,10 @@ pub fn next_item(
     let Some(first) = nybbles.next() else {
         return Err(RunFault::Short);
     };
+    // Most items: a run of one nybble, from 1 to dyn_f.
+    if first.wrapping_sub(1) < dyn_f {
+        return Ok(Reading::Run(u64::from(first)));
+    }
     if first < 14 {
         return match number(nybbles, dyn_f, first) {
             Some(n) => Ok(Reading::Run(n)),
