@@ -59,9 +59,12 @@ returns-clause-given c =
     let level = record x.level { pos = read.result.1 } in
     let progress = record x.progress { at = here; budget = x.progress.budget - 1; marked = true } in
     let new = seen_expander (record x { progress = progress; level = level }) in
-    let glyph = has_glyph _ new key (unsigned_abs code) width false acts refl in
-    (key, rw c.given-self-inside.ensures (rw (← c.self.view_is)
-    (mark_step (seen_expander x) undue room room_left here place (seen read.result.0) (stack_of x.bytes.now x.start level x.outer) next same flat acts)), rw c.given-self-inside.ensures glyph)
+    let glyph = has_glyph _ new key (unsigned_abs code) width false acts refl in (
+      key,
+      rw c.given-self-inside.ensures (rw (← c.self.view_is)
+          (mark_step (seen_expander x) undue room room_left here place (seen read.result.0) (stack_of x.bytes.now x.start level x.outer) next same flat acts)),
+      rw c.given-self-inside.ensures glyph,
+    )
 
 pub returns-clause-fits : goal.returns-clause-fits
 returns-clause-fits c =
