@@ -7,7 +7,7 @@ use Rattle.pixel_round.specs.Pixels.{Fraction, round}
 use Rattle.drift_rules.specs.declared.flat.Registers.{Registers}
 use Rattle.drift_rules.specs.declared.faults.PenFault.{PenFault}
 use Rattle.drift_rules.specs.declared.faults.PenFault.TheVariants.{Overflow}
-use Rattle.drift_rules.specs.Position.{State, AreNear, KeepsNear, drifted, at_h, at_v, entered, zeros}
+use Rattle.drift_rules.specs.Position.{State, AreNear, KeepsNear, drifted, at_h, at_v, entered, is_held, moved_over, over, zeros}
 use Rattle.drift_rules.specs.Bounds.{AreHeld, IsHeldState}
 use Rattle.drift_rules.proofs.Near.{near_drifted, zeros_are_near}
 
@@ -169,3 +169,11 @@ pub err_after : (b : Bool) (to : Registers) (result : Result Registers PenFault)
     → IfErr result (λ e. (e ≡ Overflow) × ((saved : List Registers) → cond {A = Result State PenFault} b (Ok (record { now = to; saved = saved })) (Err Overflow) ≡ Err e))
 err_after b to (Ok r) h = tt
 err_after b to (Err e) h = (h.1, λ saved. rw (h.0, h.1) refl)
+
+-- a character that is set moves h and hh alone
+pub set_kept : (c : Fraction) (r m : Registers) (saved : List Registers) (width : ℤ) → IsTrue (is_held (r.h +ℤ width)) × (m ≡ moved_over c r width (round c width)) → AreHeld c m
+    → over c (record { now = r; saved = saved }) width (round c width)
+    ≡ Ok (record { now = record r { h = to_z w64 (of_z w64 m.h); hh = to_z w64 (of_z w64 m.hh) }; saved = saved })
+set_kept c r m saved width e held =
+    let k = all_kept c m held in
+    rw (k.h, k.hh, e.1, e.0) refl

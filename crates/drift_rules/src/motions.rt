@@ -95,7 +95,12 @@ fn down(conv: &Conv, now: Registers, by: i64, space: i64) -> Result<Registers, P
 
 // Over what was set, whose width in dots is given.
 #[inline(always)]
-fn over(conv: &Conv, now: Registers, width: i64, dots: i64) -> Result<Registers, PenFault>
+pub(crate) fn over(
+    conv: &Conv,
+    now: Registers,
+    width: i64,
+    dots: i64,
+) -> Result<Registers, PenFault>
     requires held { AreHeld conv.now now }
     requires number { IsNumber width }
     requires dots { unsigned_abs dots ≤ 2 ^ 41 }

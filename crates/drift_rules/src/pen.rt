@@ -1,17 +1,18 @@
 //! The machine that takes a page's flat commands.
 
-ghost use Rattle.std.specs.Prelude.{◌≡◌, ◌↔◌, [], IsOk, Ok, Err, IfOk, IfErr, IfSome, OnErr, IsTrue, false};
+ghost use Rattle.std.specs.Prelude.{◌≡◌, ◌↔◌, ℕ, [], IsOk, Ok, Err, IfOk, IfErr, IfSome, OnErr, IsTrue, false, Some};
+ghost use Rattle.outside.specs.declared.keys.FontKey.{FontKey};
 ghost use Rattle.drift_rules.specs.declared.faults.PenFault.{PenFault};
-ghost use Rattle.drift_rules.specs.Position.{after, at_origin, seen_flat, KeepsNear, Push, Pop, Enter};
+ghost use Rattle.drift_rules.specs.Position.{after, at_origin, seen_flat, Char, KeepsNear, Push, Pop, Enter};
 ghost use Rattle.drift_rules.specs.Stack.{is_pop, is_push};
 ghost use Rattle.drift_rules.specs.Marks.{mark_of};
-ghost use Rattle.drift_rules.specs.Bounds.{AreHeld, IsInReach, IsPaintable};
+ghost use Rattle.drift_rules.specs.Bounds.{AreHeld, IsInReach, IsNumber, IsPaintable};
 ghost use Rattle.drift_rules.specs.Stops.{Stops};
 
 use crate::faults::{PenFault, PenStop};
 use crate::flat::{Flat, Mark, Registers};
 use crate::marks::mark_at;
-use crate::motions::moved;
+use crate::motions::{moved, over};
 use crate::saved::Saved;
 use pixel_round::Conv;
 use std::alloc::Global;
@@ -86,6 +87,32 @@ impl Pen {
     {
         let mark = mark_at(&self.conv, self.registers, flat);
         self.change(flat)?;
+        Ok(mark)
+    }
+
+    /// Sets a character of a width, and answers with its mark: what `step` does at a character that is set,
+    /// whatever its font and its code are.
+    #[inline(always)]
+    pub fn set(&mut self, width: i64) -> Result<Mark, PenFault>
+        requires { IsNumber width }
+        ensures moved { IfOk result (λ _. (key : FontKey) (code : ℕ)
+            → after self.old.conv self.old.state (Char key code width false) ≡ Ok self.new.state) }
+        ensures marked { IfOk result (λ mark. (key : FontKey) (code : ℕ)
+            → mark_of self.old.conv self.old.state.now (Char key code width false) ≡ Some mark) }
+        ensures paintable { IfOk result IsPaintable }
+        ensures same_conversion { self.new.conv ≡ self.old.conv }
+        ensures fault { IfErr result (λ fault. (key : FontKey) (code : ℕ)
+            → after self.old.conv self.old.state (Char key code width false) ≡ Err fault) }
+        ensures unchanged { OnErr result (self.new ≡ self.old) }
+    {
+        let mark = Mark::Char {
+            hh: self.registers.hh,
+            vv: self.registers.vv,
+        };
+        let dots = self.conv.round(width);
+        let moved = over(&self.conv, self.registers, width, dots)?;
+        self.registers.h = moved.h;
+        self.registers.hh = moved.hh;
         Ok(mark)
     }
 

@@ -3,6 +3,7 @@ pub mod Lists
 pub mod Found
 pub mod Inks
 pub mod Ends
+pub mod Other
 pub mod OneValue
 pub mod Alone
 pub mod SomeValue

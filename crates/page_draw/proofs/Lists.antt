@@ -14,7 +14,7 @@ use Rattle.font_decode.specs.declared.decoded.Decoded.{Decoded}
 use Rattle.vf_expand.specs.Course.{Course, Gives, Asks}
 use Rattle.page_draw.specs.Sheets.{inks_of}
 use Rattle.page_draw.specs.Members.{Member, Flat, Look, Finding, Leads, looks_of, and_then, last_state, behind, marks_from}
-use Rattle.page_draw.specs.Values.{bitmap_of}
+pub use Rattle.page_draw.specs.SoFar.{IsSoFar}
 use Rattle.page_draw.specs.declared.sheet.Sheet.{Sheet}
 
 abbrev with_flat : List Member → FlatCommand → Option Glyph → ℕ → List Member
@@ -115,14 +115,6 @@ grew_more None mid new first second e h = h ∙ ap (option_map (λ keys. keys ++
 grew_more (Some keys) mid new first second e h = h ∙ ap (option_map (λ asked. asked ++ second)) e ∙ ap Some (append_assoc keys first second)
 
 -- ---- a page as far as it was drawn
-
--- the members that were taken lead here, moved the pen to this state and set what the page has; the keys asked for are their look-ups
-pub record IsSoFar (Finds : Finding) (c : Fraction) (sheet : Sheet) (from to : Course) (s : State) (page : Bitmap) (old new : Option (List FontKey)) : Type 0 where
-  pub members : List Member
-  pub leads : Leads Finds from members to
-  pub moved : last_state c at_origin members ≡ Ok s
-  pub has : page ≡ bitmap_of c sheet members
-  pub asked : GrewBy old new (looks_of members)
 
 pub so_far_none : (Finds : Finding) (c : Fraction) (sheet : Sheet) (from to : Course) (s : State) (page : Bitmap) (old : Option (List FontKey)) → to ≡ from → s ≡ at_origin
     → page ≡ page_of sheet.width sheet.height [] → IsSoFar Finds c sheet from to s page old old

@@ -5,3 +5,4 @@ pub mod Drawn
 pub mod PlainDesks
 pub mod Laws
 pub mod SoloDesks
+pub mod SoFar

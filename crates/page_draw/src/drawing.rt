@@ -1,114 +1,26 @@
 //! Draws a page.
-ghost use Rattle.std.specs.Prelude.{◌≡◌, ◌<◌, ◌≤◌, ◌+◌, ◌^◌, ◌++◌, ◌≤ℤ◌, ◌<ℤ◌, ◌+ℤ◌, ◌-ℤ◌, neg_ℤ, pos, List, [], Some, Ok, Err, IfOk, IfErr, IfSome, IsErrOf, IsOk};
-ghost use Rattle.std.specs.Option.{option_map};
+ghost use Rattle.std.specs.Prelude.{◌≡◌, ◌<◌, ◌≤◌, ◌+◌, ◌^◌, [], Some, Ok, Err, IfOk, IfErr, IfSome, IsErrOf};
 ghost use Rattle.outside.specs.Counts.{HasCause};
 ghost use Rattle.page_index.specs.Document.{pages_begun};
 ghost use Rattle.page_index.specs.Pages.{document_units};
-ghost use Rattle.drift_rules.specs.Position.{after, seen_flat};
-ghost use Rattle.drift_rules.specs.Marks.{mark_of};
-ghost use Rattle.drift_rules.specs.Bounds.{IsInReach, IsPaintable, IsPlaceable};
-ghost use Rattle.raster_page.specs.Ink.{Inked, page_of};
+ghost use Rattle.raster_page.specs.Ink.{page_of};
 ghost use Rattle.font_decode.specs.Decoding.{IsFontOf};
-ghost use Rattle.vf_expand.specs.Doing.{glyph_for};
-ghost use Rattle.page_draw.specs.Sheets.{IsDrawable, inks_of};
+ghost use Rattle.vf_expand.specs.Doing.{left};
+ghost use Rattle.page_draw.specs.Sheets.{IsDrawable};
 ghost use Rattle.page_draw.specs.Values.{ended_with};
 ghost use Rattle.font_decode.specs.Desks.{TrailGrew};
-ghost use Rattle.page_draw.specs.Drawn.{IsDrawn, IsLeft, IsPenStop, IsStop, IsWhole};
+ghost use Rattle.page_draw.specs.Drawn.{IsDrawn, IsLeft, IsStop, IsWhole};
 
+use crate::flats::draw_flats;
 use crate::sheet::Sheet;
 use crate::stop::PageStop;
-use drift_rules::{Flat, Mark, Pen, PenStop};
-use font_decode::{Decoded, Desk, DeskStop};
-use glyph_paint::paint;
+use drift_rules::Pen;
+use font_decode::{Desk, DeskStop};
 use page_index::Index;
-use pk_runs::Glyph;
 use raster_page::Page;
 use std::alloc::Global;
 use std::sync::Wait;
 use vf_expand::{Expander, PageFault, Step};
-
-// The glyph of a character that the expander gave.
-#[inline(always)]
-fn glyph_of<'e>(expander: &'e Expander, flat: &Flat) -> Option<&'e Glyph>
-    ensures { option_map (λ glyph. glyph.now) result ≡ glyph_for expander.now (seen_flat flat.now) }
-{
-    let Flat::Char { code, .. } = flat else {
-        return None;
-    };
-    match &**expander.font()? {
-        Decoded::Font(font) => font.glyph(u32::from(*code)),
-        Decoded::Fault(_) => None,
-    }
-}
-
-// Where a glyph's upper left pixel stands on the sheet, across or down, whose reference pixel stands at
-// this place.
-#[inline(always)]
-fn placed(place: i64, offset: i32, margin: u32) -> i64
-    requires near { IsPlaceable place }
-    requires few { margin ≤ 20000 }
-    ensures value { result ≡ place -ℤ offset +ℤ pos margin }
-    ensures low { neg_ℤ (pos (2 ^ 42)) ≤ℤ result }
-    ensures high { result <ℤ pos (2 ^ 42) }
-{
-    place - i64::from(offset) + i64::from(margin)
-}
-
-// Sets a mark on the sheet, that of a character by its glyph.
-#[inline(always)]
-fn ink(page: &mut Page, sheet: &Sheet, mark: Option<Mark>, glyph: Option<&Glyph>)
-    requires sheet { IsDrawable sheet.now }
-    requires mark { IfSome mark IsPaintable }
-    ensures { (done : List Inked) → page.old ≡ page_of sheet.now.width sheet.now.height done
-        → page.new ≡ page_of sheet.now.width sheet.now.height
-        (done ++ inks_of sheet.now mark (option_map (λ g. g.now) glyph.entry)) }
-{
-    match mark {
-        Some(Mark::Rule { x, y, w, h }) => {
-            page.rule(x + i64::from(sheet.left), y + i64::from(sheet.top), w, h);
-        }
-        Some(Mark::Char { hh, vv }) => {
-            if let Some(glyph) = glyph {
-                let column = placed(hh, glyph.hoff, sheet.left);
-                let row = placed(vv, glyph.voff, sheet.top);
-                paint(page, &glyph.raster, column, row);
-            }
-        }
-        None => {}
-    }
-}
-
-// Draws the flat command that the expander gave.
-#[inline(always)]
-fn draw_one(
-    page: &mut Page,
-    pen: &mut Pen,
-    sheet: &Sheet,
-    expander: &Expander,
-    flat: &Flat,
-) -> Result<(), PageStop>
-    requires sheet { IsDrawable sheet.now }
-    requires reach { IsInReach (seen_flat flat.now) }
-    ensures moved { IfOk result (λ _. after pen.old.conv pen.old.state (seen_flat flat.now) ≡ Ok pen.new.state) }
-    ensures inked { IfOk result (λ _. (done : List Inked)
-        → page.old ≡ page_of sheet.now.width sheet.now.height done
-        → page.new ≡ page_of sheet.now.width sheet.now.height (done ++ inks_of sheet.now
-        (mark_of pen.old.conv pen.old.state.now (seen_flat flat.now)) (glyph_for expander.now (seen_flat flat.now)))) }
-    ensures conv { pen.new.conv ≡ pen.old.conv }
-    ensures stop { IfErr result (IsPenStop (after pen.old.conv pen.old.state (seen_flat flat.now)) expander.now.at) }
-{
-    match pen.step(flat) {
-        Ok(mark) => {
-            ink(page, sheet, mark, glyph_of(expander, flat));
-            Ok(())
-        }
-        Err(PenStop::Fault(fault)) => Err(PageStop::Fault {
-            fault: PageFault::Pen(fault),
-            at: expander.at(),
-        }),
-        Err(PenStop::NoMemory) => Err(PageStop::NoMemory),
-    }
-}
 
 // The page at its end, where no registers may be saved.
 fn finished(page: Page, pen: &Pen, at: usize) -> Result<Page, PageStop>
@@ -170,11 +82,7 @@ pub fn draw_on<R: Wait, D: Desk>(
         return Err(PageStop::NoMemory);
     };
     'steps: loop {
-        let Ok(step) = expander.next() else {
-            return Err(PageStop::NoMemory);
-        };
-        match step {
-            Step::Flat(flat) => draw_one(&mut page, &mut pen, sheet, &expander, &flat)?,
+        match draw_flats(&mut page, &mut pen, sheet, &mut expander)? {
             Step::Ask(key) => match desk.font(rt, alloc, shared, &key) {
                 Ok(font) => expander.answer(font),
                 Err(DeskStop::SourceFault) => return Err(PageStop::SourceFault),
@@ -187,6 +95,7 @@ pub fn draw_on<R: Wait, D: Desk>(
                     at: expander.at(),
                 });
             }
+            Step::Flat(_) => unreachable!(),
         }
     }
 }

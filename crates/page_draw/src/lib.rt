@@ -4,6 +4,7 @@
 #![tactic(auto)]
 
 mod drawing;
+mod flats;
 mod keeping;
 pub mod laws;
 mod loading;

@@ -1,5 +1,5 @@
 -- A step is what the course has next, and leaves what stands behind it.
-use Rattle.std.specs.Prelude.{◌≡◌, ◌<◌, ◌≤◌, IsSome, None}
+use Rattle.std.specs.Prelude.{◌≡◌, ◌<◌, ◌≤◌, ℕ, ℤ, false, IsSome, None}
 use Rattle.std.specs.Arc.{arc_value}
 use Rattle.outside.specs.declared.keys.FontKey.{FontKey}
 use Rattle.drift_rules.specs.Position.{FlatCommand, Char, seen_flat}
@@ -43,6 +43,10 @@ Steps old (Stop fault) new = (left old ≡ Stops (seen_fault fault) new.at) × S
 abbrev pub HasItsGlyph : Doing → FlatCommand → Type 0
 HasItsGlyph v (Char k c width put) = IsSome (glyph_for v (Char k c width put))
 HasItsGlyph v f = Unit {0}
+
+-- a character that is set, of some font, and has a glyph
+abbrev pub GivesPlain : Doing → ℕ → ℤ → Doing → Type 0
+GivesPlain old code width new = (key : FontKey) × GivesOne old new (Char key code width false) × HasItsGlyph new (Char key code width false)
 
 -- a flat command may be handed to a pen, and a key to a decoder
 abbrev pub Fits : Step → Doing → Type 0

@@ -1,10 +1,11 @@
 //! The page that is being expanded.
-ghost use Rattle.std.specs.Prelude.{◌≡◌, ◌<◌, ◌+◌, Some, None, IfOk, OnErr, MatchOption};
+ghost use Rattle.std.specs.Prelude.{◌≡◌, ◌<◌, ◌+◌, Some, None, IfOk, IfSome, IsNone, OnErr, MatchOption};
 ghost use Rattle.std.specs.Arc.{arc_value};
 ghost use Rattle.page_index.specs.Document.{pages_begun};
 ghost use Rattle.vf_expand.specs.Course.{course_of, MOST as THE_MOST};
 ghost use Rattle.vf_expand.specs.Doing.{IsAtLook, IsEnded, answered, asks_left, left, marked_font, place_of, steps_left};
-ghost use Rattle.vf_expand.specs.Steps.{Fits, Steps};
+ghost use Rattle.vf_expand.specs.Steps.{Fits, GivesPlain, Steps};
+ghost use Rattle.drift_rules.specs.Bounds.{IsNumber};
 
 use crate::act::{Act, expanded};
 use crate::character::plain_character;
@@ -14,7 +15,7 @@ use crate::frames::{Frame, Frames};
 use crate::keys::PageKeys;
 use crate::opened::opened;
 use crate::progress::Progress;
-use crate::step::Step;
+use crate::step::{PlainStep, Step};
 use drift_rules::Flat;
 use dvi_commands::{Command, command_at};
 use font_decode::Decoded;
@@ -124,14 +125,13 @@ impl<'a> Expander<'a> {
         Step::Flat(Flat::Leave)
     }
 
-    // The next command of the page or of a packet, or its end. Most commands are characters of one
-    // byte that are set in a packed font: they are given here, and all others apart.
+    // The next command, where it is a character of one byte that is set in a packed font.
     #[inline(always)]
-    fn read(&mut self) -> Result<Step, NoMemory>
+    fn plain(&mut self) -> Option<PlainStep>
         requires undue { self.old.due ≡ None }
-        ensures step { IfOk result (λ step. Steps self.old step self.new) }
-        ensures fits { IfOk result (λ step. Fits step self.new) }
-        ensures err { OnErr result (self.new ≡ self.old) }
+        ensures given { IfSome result (λ plain. GivesPlain self.old plain.code plain.width self.new) }
+        ensures fits { IfSome result (λ plain. IsNumber plain.width) }
+        ensures none { IsNone result → self.new ≡ self.old }
     {
         let reading = opened(
             self.index,
@@ -145,25 +145,22 @@ impl<'a> Expander<'a> {
             || self.progress.budget == 0
             || reading.text[self.level.pos] > LAST_SMALL_CHARACTER
         {
-            return self.expand();
+            return None;
         }
         let (command, end) = command_at(reading.text, self.level.pos, reading.context);
         let Command::Set(code) = command else {
-            return self.expand();
+            return None;
         };
         let Some(found) = plain_character(&self.level.current, code) else {
-            return self.expand();
+            return None;
         };
-        let key = Arc::try_clone(found.key)?;
         let width = found.width;
         self.level.pos = end;
         self.progress = self.progress.given(reading.at, true);
-        Ok(Step::Flat(Flat::Char {
-            key,
+        Some(PlainStep {
             code: code as u8,
             width,
-            put: false,
-        }))
+        })
     }
 
     // The next command, whatever it is, or the end.
@@ -255,7 +252,21 @@ impl<'a> Expander<'a> {
     {
         match self.due {
             Some(width) => Ok(self.advance(width)),
-            None => self.read(),
+            None => self.expand(),
+        }
+    }
+
+    /// The next step, where it is a character of one byte that is set in a packed font, as most steps are:
+    /// it is given without its key. Else nothing has changed, and `next` gives the step.
+    #[inline(always)]
+    pub fn next_plain(&mut self) -> Option<PlainStep>
+        ensures given { IfSome result (λ plain. GivesPlain self.old plain.code plain.width self.new) }
+        ensures fits { IfSome result (λ plain. IsNumber plain.width) }
+        ensures none { IsNone result → self.new ≡ self.old }
+    {
+        match self.due {
+            Some(_) => None,
+            None => self.plain(),
         }
     }
 

@@ -18,7 +18,7 @@ mod step;
 
 pub use expander::Expander;
 pub use faults::PageFault;
-pub use step::Step;
+pub use step::{PlainStep, Step};
 
 #[cfg(test)]
 mod tests;

@@ -16,3 +16,10 @@ pub enum Step {
     /// The page stops here.
     Stop(PageFault),
 }
+
+/// A character that is set in a packed font.
+#[derive(Clone, Copy, Debug, PartialEq, Eq)]
+pub struct PlainStep {
+    pub code: u8,
+    pub width: i64,
+}

@@ -2,14 +2,14 @@ use Rattle.std.proofs.Common.{◌≡◌, refl, sym, ap, subst, ◌∙◌, arith}
 use Rattle.std.proofs.lemmas.Result.{err_from_is_err_and}
 use Rattle.std.specs.Arc.{arc_value}
 use Rattle.pixel_round.specs.Pixels.{Fraction}
-use Rattle.drift_rules.specs.Position.{seen_flat}
 use Rattle.page_index.specs.Pages.{IsConversionOf, document_units}
 use Rattle.font_decode.specs.Decoding.{IsFontOf}
 use Rattle.font_decode.proofs.Trails.{trail_none, trail_more, trail_as}
-use Rattle.vf_expand.specs.Course.{Course, Ends, course_of}
-use Rattle.vf_expand.specs.Doing.{answered, glyph_for, left}
-use Rattle.page_draw.proofs.Lists.{IsSoFar, so_far_flat, so_far_look, so_far_none, so_far_same}
-use Rattle.page_draw.proofs.Ends.{broken_at_first, broken_at_look, broken_so_far, end_drawn, end_stop, pen_stop, stop_drawn}
+use Rattle.vf_expand.specs.Course.{Ends, course_of}
+use Rattle.vf_expand.specs.Doing.{left}
+use Rattle.page_draw.proofs.Lists.{IsSoFar, so_far_look, so_far_none, so_far_same}
+use Rattle.page_draw.proofs.Ends.{broken_at_first, broken_at_look, end_drawn, end_stop, stop_drawn}
+use Rattle.page_draw.proofs.Other.{handed_on}
 use Rattle.page_draw.proofs.drawing.draw_on.Goals as goal
 
 pub returns-in_default-clause-stop : goal.returns-in_default-clause-stop
@@ -31,138 +31,108 @@ steps-init g c =
           c.args.page (desk.asked c.args.desk.now) c.in-Ok.ensures.page (ap (λ p. p.state) c.new-pen.ensures) c.requires.blank;
     }
 
-pub returns-in_default-next-clause-stop : goal.returns-in_default-next-clause-stop
-returns-in_default-next-clause-stop g c =
+pub returns-in_err-key-clause-stop : goal.returns-in_err-key-clause-stop
+returns-in_err-key-clause-stop g c =
+    let desk = g.D.Desk in
     let i = c.steps.invariant in
-    broken_so_far _ c.steps.pen.conv c.args.sheet.now c.args.index.now c.args.i (left c.steps.expander) c.steps.pen.state c.steps.page _ _ i.so_far i.conv
-
-pub returns-in_err-draw_one-in-Flat-clause-stop : goal.returns-in_err-draw_one-in-Flat-clause-stop
-returns-in_err-draw_one-in-Flat-clause-stop g c =
-    let i = c.steps.invariant in
-    let step = rw c.in-Flat.is at c.in-Ok-next.ensures.step in
     let p = err_from_is_err_and c.from_residual.result c.from_residual.ensures.1 in
-    rw (p.1, p.2)
-    (pen_stop _ c.steps.pen.conv c.args.sheet.now c.args.index.now c.args.i (left c.steps.expander) c.steps.pen.state c.steps.page _ _ i.so_far i.conv
-    (seen_flat c.in-Flat.flat) (glyph_for c.next.new.self (seen_flat c.in-Flat.flat)) c.next.new.self.at (left c.next.new.self) step.given
-    _ c.in_err-draw_one-in-Flat.ensures.stop)
-
-pub steps-preserved-in_ok-draw_one-in-Flat : goal.steps-preserved-in_ok-draw_one-in-Flat
-steps-preserved-in_ok-draw_one-in-Flat g c =
-    let desk = g.D.Desk in
-    let i = c.steps.invariant in
-    let step = rw c.in-Flat.is at c.in-Ok-next.ensures.step in
-    let conv = c.draw_one.ensures.conv in
-    let flat = seen_flat c.in-Flat.flat in
-    let new = c.next.new.self in
-    record {
-      conv = subst (λ (x : Fraction). IsConversionOf (document_units c.args.index.now.res c.args.index.now.reading) x) (sym conv) i.conv;
-      fits = i.fits;
-      room = omega (arith, i.room, step.asks);
-      library = i.library;
-      units = i.units;
-      faults = i.faults;
-      trail = i.trail;
-      so_far = subst (λ (x : Fraction). IsSoFar (IsFontOf (desk.library c.args.desk.now) (desk.units c.args.desk.now)) x c.args.sheet.now
-          (course_of c.args.index.now.reading c.args.i) (left new) c.draw_one.new.pen.state c.draw_one.new.page (desk.asked c.args.desk.now) (desk.asked c.steps.desk)) (sym conv)
-          (so_far_flat _ c.steps.pen.conv c.args.sheet.now _ (left c.steps.expander) c.steps.pen.state c.steps.page _ _ i.so_far
-          flat (glyph_for new flat) new.at (left new) c.draw_one.new.pen.state c.draw_one.new.page step.given c.in_ok-draw_one-in-Flat.ensures.moved
-          c.in_ok-draw_one-in-Flat.ensures.inked);
-    }
-
-pub steps-preserved-in_ok-draw_one-in-Flat-2 : goal.steps-preserved-in_ok-draw_one-in-Flat-2
-steps-preserved-in_ok-draw_one-in-Flat-2 g c =
-    let desk = g.D.Desk in
-    let i = c.steps.invariant in
-    let step = rw c.in-Flat.is at c.in-Ok-next.ensures.step in
-    let conv = c.draw_one.ensures.conv in
-    let flat = seen_flat c.in-Flat.flat in
-    let new = c.next.new.self in
-    record {
-      conv = subst (λ (x : Fraction). IsConversionOf (document_units c.args.index.now.res c.args.index.now.reading) x) (sym conv) i.conv;
-      fits = i.fits;
-      room = omega (arith, i.room, step.asks);
-      library = i.library;
-      units = i.units;
-      faults = i.faults;
-      trail = i.trail;
-      so_far = subst (λ (x : Fraction). IsSoFar (IsFontOf (desk.library c.args.desk.now) (desk.units c.args.desk.now)) x c.args.sheet.now
-          (course_of c.args.index.now.reading c.args.i) (left new) c.draw_one.new.pen.state c.draw_one.new.page (desk.asked c.args.desk.now) (desk.asked c.steps.desk)) (sym conv)
-          (so_far_flat _ c.steps.pen.conv c.args.sheet.now _ (left c.steps.expander) c.steps.pen.state c.steps.page _ _ i.so_far
-          flat (glyph_for new flat) new.at (left new) c.draw_one.new.pen.state c.draw_one.new.page step.given c.in_ok-draw_one-in-Flat.ensures.moved
-          c.in_ok-draw_one-in-Flat.ensures.inked);
-    }
+    rw (p.1, p.2) (c.in_err-key.ensures.stop (desk.library c.args.desk.now) (desk.units c.args.desk.now) c.args.index.now c.args.i _ _ i.conv i.so_far)
 
 pub returns-in-Err-SourceFault-clause-stop : goal.returns-in-Err-SourceFault-clause-stop
 returns-in-Err-SourceFault-clause-stop g c =
+    let desk = g.D.Desk in
     let i = c.steps.invariant in
-    let step = rw c.in-Ask.is at c.in-Ok-next.ensures.step in
-    broken_at_look _ c.steps.pen.conv c.args.sheet.now c.args.index.now c.args.i (left c.steps.expander) c.steps.pen.state c.steps.page _ _ i.so_far i.conv
+    let new = c.draw_flats.new in
+    let far = c.in_ok-key.ensures.drawn (desk.library c.args.desk.now) (desk.units c.args.desk.now) _ _ _ i.so_far in
+    let step = rw c.in-Ask.is at c.in_ok-key.ensures.next in
+    broken_at_look _ c.steps.pen.conv c.args.sheet.now c.args.index.now c.args.i (left new.expander) new.pen.state new.page _ _ far i.conv
     _ _ _ _ step.asked c.in-Err-SourceFault.ensures.refused
 
 pub returns-in-Err-NoMemory-clause-stop : goal.returns-in-Err-NoMemory-clause-stop
 returns-in-Err-NoMemory-clause-stop g c =
+    let desk = g.D.Desk in
     let i = c.steps.invariant in
-    let step = rw c.in-Ask.is at c.in-Ok-next.ensures.step in
-    broken_at_look _ c.steps.pen.conv c.args.sheet.now c.args.index.now c.args.i (left c.steps.expander) c.steps.pen.state c.steps.page _ _ i.so_far i.conv
+    let new = c.draw_flats.new in
+    let far = c.in_ok-key.ensures.drawn (desk.library c.args.desk.now) (desk.units c.args.desk.now) _ _ _ i.so_far in
+    let step = rw c.in-Ask.is at c.in_ok-key.ensures.next in
+    broken_at_look _ c.steps.pen.conv c.args.sheet.now c.args.index.now c.args.i (left new.expander) new.pen.state new.page _ _ far i.conv
     _ _ _ _ step.asked c.in-Err-NoMemory.ensures.refused
 
 pub steps-preserved : goal.steps-preserved
 steps-preserved g c =
     let desk = g.D.Desk in
     let i = c.steps.invariant in
-    let step = rw c.in-Ask.is at c.in-Ok-next.ensures.step in
+    let new = c.draw_flats.new in
+    let far = c.in_ok-key.ensures.drawn (desk.library c.args.desk.now) (desk.units c.args.desk.now) _ _ _ i.so_far in
+    let step = rw c.in-Ask.is at c.in_ok-key.ensures.next in
+    let conv = c.in_ok-key.ensures.conv in
     let font = c.in-Ok-font.ensures in
     let found = rw (i.library, i.units) at font.found in
     let d = arc_value c.in-Ok-font.font in
-    let rest : left c.answer.new.self ≡ answered (left c.steps.expander) d = c.answer.ensures.rest ∙ ap (λ (x : Course). answered x d) step.left in
     record {
-      conv = i.conv;
+      conv = subst (λ (x : Fraction). IsConversionOf (document_units c.args.index.now.res c.args.index.now.reading) x) (sym conv) i.conv;
       fits = font.still_fits;
-      room = omega (arith, i.room, font.room, c.answer.ensures.asks, step.asks);
+      room = omega (arith, i.room, font.room, c.answer.ensures.asks, c.in_ok-key.ensures.asks);
       library = font.same_library ∙ i.library;
       units = font.same_units ∙ i.units;
       faults = omega (arith, i.faults, font.cause.never_falls);
       trail = trail_more (Unit {0}) (desk.asked c.args.desk.now) (desk.asked c.steps.desk) (desk.asked c.font.new.self)
           (desk.trail c.args.desk.now) (desk.trail c.steps.desk) (desk.trail c.font.new.self) i.trail
           (trail_as (Unit {0}) _ (desk.asked c.steps.desk) (desk.asked c.font.new.self) (desk.trail c.steps.desk) (desk.trail c.font.new.self) (λ w. refl) font.trail);
-      so_far = so_far_same _ _ _ _ _ _ _ _ _
-          (so_far_look _ c.steps.pen.conv c.args.sheet.now _ (left c.steps.expander) c.steps.pen.state c.steps.page _ _ i.so_far _ _ _ d _ step.asked found font.asked)
-          (left c.answer.new.self) rest;
+      so_far = subst (λ (x : Fraction). IsSoFar (IsFontOf (desk.library c.args.desk.now) (desk.units c.args.desk.now)) x c.args.sheet.now
+          (course_of c.args.index.now.reading c.args.i) (left c.answer.new.self) new.pen.state new.page (desk.asked c.args.desk.now) (desk.asked c.font.new.self)) (sym conv)
+          (so_far_same _ _ _ _ _ _ _ _ _
+          (so_far_look _ c.steps.pen.conv c.args.sheet.now _ (left new.expander) new.pen.state new.page _ _ far _ _ _ d _ step.asked found font.asked)
+          (left c.answer.new.self) c.answer.ensures.rest);
     }
+
+pub steps-smaller : goal.steps-smaller
+steps-smaller g c =
+    let fewer = rw c.in-Ask.is at c.in_ok-key.ensures.steps in
+    omega (arith, c.answer.ensures.fewer, fewer)
 
 pub returns-in-End-clause-drawn : goal.returns-in-End-clause-drawn
 returns-in-End-clause-drawn g c =
+    let desk = g.D.Desk in
     let i = c.steps.invariant in
-    let step = rw c.in-End.is at c.in-Ok-next.ensures.step in
-    end_drawn _ c.steps.pen.conv c.args.sheet.now c.args.index.now c.args.i (left c.steps.expander) c.steps.pen.state c.steps.page _ _ i.so_far i.conv
+    let new = c.draw_flats.new in
+    let far = c.in_ok-key.ensures.drawn (desk.library c.args.desk.now) (desk.units c.args.desk.now) _ _ _ i.so_far in
+    let step = rw c.in-End.is at c.in_ok-key.ensures.next in
+    end_drawn _ c.steps.pen.conv c.args.sheet.now c.args.index.now c.args.i (left new.expander) new.pen.state new.page _ _ far i.conv
     _ (step.0 ∙ ap Ends (sym c.at.ensures)) _ c.finished.ensures.whole
 
 pub returns-in-End-clause-stop : goal.returns-in-End-clause-stop
 returns-in-End-clause-stop g c =
+    let desk = g.D.Desk in
     let i = c.steps.invariant in
-    let step = rw c.in-End.is at c.in-Ok-next.ensures.step in
-    end_stop _ c.steps.pen.conv c.args.sheet.now c.args.index.now c.args.i (left c.steps.expander) c.steps.pen.state c.steps.page _ _ i.so_far i.conv
+    let new = c.draw_flats.new in
+    let far = c.in_ok-key.ensures.drawn (desk.library c.args.desk.now) (desk.units c.args.desk.now) _ _ _ i.so_far in
+    let step = rw c.in-End.is at c.in_ok-key.ensures.next in
+    end_stop _ c.steps.pen.conv c.args.sheet.now c.args.index.now c.args.i (left new.expander) new.pen.state new.page _ _ far i.conv
     _ (step.0 ∙ ap Ends (sym c.at.ensures)) _ c.finished.ensures.left
 
 pub returns-in-Stop-clause-stop : goal.returns-in-Stop-clause-stop
 returns-in-Stop-clause-stop g c =
+    let desk = g.D.Desk in
     let i = c.steps.invariant in
-    let step = rw c.in-Stop.is at c.in-Ok-next.ensures.step in
-    stop_drawn _ c.steps.pen.conv c.args.sheet.now c.args.index.now c.args.i (left c.steps.expander) c.steps.pen.state c.steps.page _ _ i.so_far i.conv
-    c.in-Stop.fault c.next.new.self.at c.at-in-Stop.result step.0 c.at-in-Stop.ensures
+    let new = c.draw_flats.new in
+    let far = c.in_ok-key.ensures.drawn (desk.library c.args.desk.now) (desk.units c.args.desk.now) _ _ _ i.so_far in
+    let step = rw c.in-Stop.is at c.in_ok-key.ensures.next in
+    stop_drawn _ c.steps.pen.conv c.args.sheet.now c.args.index.now c.args.i (left new.expander) new.pen.state new.page _ _ far i.conv
+    c.in-Stop.fault new.expander.at c.at-in-Stop.result step.0 c.at-in-Stop.ensures
+
+pub returns-in_err-key-clause-cause : goal.returns-in_err-key-clause-cause
+returns-in_err-key-clause-cause g c =
+    let p = err_from_is_err_and c.from_residual.result c.from_residual.ensures.1 in
+    rw (p.1, p.2) (record { never_falls = c.steps.invariant.faults; rose = λ h. absurd (c.in_err-key.ensures.source (handed_on _ _ h)) })
+
+pub returns-in_err-key-clause-trail : goal.returns-in_err-key-clause-trail
+returns-in_err-key-clause-trail g c =
+    let desk = g.D.Desk in
+    trail_as _ (Unit {0}) (desk.asked c.args.desk.now) (desk.asked c.steps.desk) (desk.trail c.args.desk.now) (desk.trail c.steps.desk) (λ w. tt) c.steps.invariant.trail
 
 pub returns-in_default-clause-trail : goal.returns-in_default-clause-trail
 returns-in_default-clause-trail g c = trail_none _ (g.D.Desk.asked c.args.desk.now) (g.D.Desk.trail c.args.desk.now)
-
-pub returns-in_default-next-clause-trail : goal.returns-in_default-next-clause-trail
-returns-in_default-next-clause-trail g c =
-    let desk = g.D.Desk in
-    trail_as _ (Unit {0}) (desk.asked c.args.desk.now) (desk.asked c.steps.desk) (desk.trail c.args.desk.now) (desk.trail c.steps.desk) (λ w. tt) c.steps.invariant.trail
-
-pub returns-in_err-draw_one-in-Flat-clause-trail : goal.returns-in_err-draw_one-in-Flat-clause-trail
-returns-in_err-draw_one-in-Flat-clause-trail g c =
-    let desk = g.D.Desk in
-    trail_as _ (Unit {0}) (desk.asked c.args.desk.now) (desk.asked c.steps.desk) (desk.trail c.args.desk.now) (desk.trail c.steps.desk) (λ w. tt) c.steps.invariant.trail
 
 pub returns-in-End-clause-trail : goal.returns-in-End-clause-trail
 returns-in-End-clause-trail g c =

@@ -9,7 +9,7 @@ use Rattle.pk_runs.specs.declared.glyph.Glyph.{Glyph}
 use Rattle.raster_page.specs.Ink.{Bar, Dots}
 use Rattle.page_draw.specs.Sheets.{dots_of, inks_of}
 use Rattle.page_draw.proofs.Inks.{inked_by, kept, kept_sum}
-use Rattle.page_draw.proofs.drawing.ink.Goals as goal
+use Rattle.page_draw.proofs.flats.ink.Goals as goal
 
 pub returns-in-Some-Rule : goal.returns-in-Some-Rule
 returns-in-Some-Rule c =

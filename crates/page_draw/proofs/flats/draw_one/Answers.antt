@@ -1,5 +1,5 @@
 use Rattle.std.proofs.Common.{◌∙◌, Err, ap, refl}
-use Rattle.page_draw.proofs.drawing.draw_one.Goals as goal
+use Rattle.page_draw.proofs.flats.draw_one.Goals as goal
 
 pub returns-in-Err-Fault-clause-stop : goal.returns-in-Err-Fault-clause-stop
 returns-in-Err-Fault-clause-stop c =

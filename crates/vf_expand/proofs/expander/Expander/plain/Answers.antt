@@ -14,7 +14,7 @@ use Rattle.vf_expand.specs.View.{seen_expander}
 use Rattle.vf_expand.proofs.Heads.{head_at, still_at}
 use Rattle.vf_expand.proofs.Levels.{has_key, read_on_at}
 use Rattle.vf_expand.proofs.Steps.{has_glyph, mark_step}
-use Rattle.vf_expand.proofs.expander.Expander.read.Goals as goal
+use Rattle.vf_expand.proofs.expander.Expander.plain.Goals as goal
 
 pub invariant_of-self : goal.invariant_of-self
 invariant_of-self c =
@@ -31,8 +31,8 @@ invariant_of-self c =
       marked = λ h. subst (λ (x : Current). IsSome (font_of x)) (sym acts.known) refl;
     }
 
-pub returns-clause-step : goal.returns-clause-step
-returns-clause-step c =
+pub returns-clause-given : goal.returns-clause-given
+returns-clause-given c =
     let x = c.self.inside in
     let e = c.opened-reading.ensures in
     let read = c.command_at-end in
@@ -50,22 +50,24 @@ returns-clause-step c =
     let width = to_z w64 (of_z w64 c.in-Some.found.width) in
     let same_code : c.in-Set.code ≡ code = omega (arith, ints) in
     let same_width : c.in-Some.found.width ≡ width = omega (arith, ints) in
-    let flat = Char (arc_value c.in_ok-key.key) (unsigned_abs code) width false in
-    let is_flat : Char (arc_value c.in-Some.found.key.now) (unsigned_abs code) c.in-Some.found.width false ≡ flat =
-    ap₂ (λ (k : FontKey) (w : ℤ). Char k (unsigned_abs code) w false) (sym c.in_ok-key.ensures) same_width in
+    let key = arc_value c.in-Some.found.key.now in
+    let flat = Char key (unsigned_abs code) width false in
+    let is_flat : Char key (unsigned_abs code) c.in-Some.found.width false ≡ flat = ap (λ (w : ℤ). Char key (unsigned_abs code) w false) same_width in
     let is_set : Set code ≡ seen read.result.0 = sym (ap seen c.in-Set.is ∙ ap Set same_code) in
     let acts = subst (λ (d : DviCommand). IsMark (λ now at others. expand_one (deeper room_left at) place at now d others) current flat) is_set
     (subst (λ (f : FlatCommand). IsMark (λ now at others. expand_one (deeper room_left at) place at now (Set code) others) current f) is_flat (c.in-Some.ensures.sets place room_left)) in
-    rw c.given-self-inside.ensures (rw (← c.self.view_is) (mark_step (seen_expander x) undue room room_left here place (seen read.result.0) (stack_of x.bytes.now x.start (record x.level { pos = read.result.1 }) x.outer) next same flat acts))
+    let level = record x.level { pos = read.result.1 } in
+    let progress = record x.progress { at = here; budget = x.progress.budget - 1; marked = true } in
+    let new = seen_expander (record x { progress = progress; level = level }) in
+    let glyph = has_glyph _ new key (unsigned_abs code) width false acts refl in (
+      key,
+      rw c.given-self-inside.ensures (rw (← c.self.view_is)
+          (mark_step (seen_expander x) undue room room_left here place (seen read.result.0) (stack_of x.bytes.now x.start level x.outer) next same flat acts)),
+      rw c.given-self-inside.ensures glyph,
+    )
 
 pub returns-clause-fits : goal.returns-clause-fits
 returns-clause-fits c =
-    let x = c.self.inside in
-    let code = to_z w32 (of_z w32 c.in-Set.code) in
     let width = c.in-Some.found.width in
     let same_width : width ≡ to_z w64 (of_z w64 width) = omega (arith, ints) in
-    let acts = c.in-Some.ensures.sets (seen_place c.opened-reading.result.source) 0 in
-    let level = record x.level { pos = c.command_at-end.result.1 } in
-    let progress = record x.progress { at = c.opened-reading.result.at; budget = x.progress.budget - 1; marked = true } in
-    let new = seen_expander (record x { progress = progress; level = level }) in
-    rw c.given-self-inside.ensures (subst IsNumber same_width c.in-Some.ensures.number, has_glyph _ new _ (unsigned_abs code) _ _ acts refl)
+    subst IsNumber same_width c.in-Some.ensures.number

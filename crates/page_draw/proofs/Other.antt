@@ -1,0 +1,63 @@
+-- A step that is no flat command leaves the same to do.
+use Rattle.std.proofs.Common.{◌≡◌, ◌≤◌, ◌<◌, ◌∙◌, ℕ, refl, sym, ap, subst, arith, Result, Err}
+use Rattle.std.specs.Prelude.{IsErrOf}
+use Rattle.drift_rules.specs.Position.{State}
+use Rattle.drift_rules.specs.declared.faults.PenFault.{PenFault}
+use Rattle.drift_rules.specs.declared.flat.Flat.{Flat}
+use Rattle.vf_expand.specs.Course.{Course, Asks}
+use Rattle.vf_expand.specs.Doing.{Doing, answered, asks_left, left, steps_left}
+use Rattle.vf_expand.specs.Steps.{Steps}
+use Rattle.vf_expand.specs.declared.step.Step.{Step}
+use Rattle.vf_expand.specs.declared.step.Step.TheVariants as step
+use Rattle.std.specs.Arc.{arc_value}
+use Rattle.page_draw.specs.Drawn.{IsPenStop}
+use Rattle.page_draw.specs.SoFar.{HasFewerAtLook}
+use Rattle.page_draw.specs.declared.stop.PageStop.{PageStop}
+use Rattle.page_draw.specs.declared.stop.PageStop.TheVariants as stop
+
+pub record LeavesTheSame (old : Doing) (given : Step) (new : Doing) : Type 0 where
+  pub left : left new ≡ left old
+  pub next : Steps new given new
+  pub asks : asks_left new ≡ asks_left old
+  pub fewer : HasFewerAtLook old given new
+
+pub other_stays : (old new : Doing) (next : Step) → ((flat : Flat) → next ≡ step.Flat flat → ⊥) → Steps old next new → LeavesTheSame old next new
+other_stays old new (step.Flat flat) other h = absurd (other flat refl)
+other_stays old new (step.Ask key) other h =
+    record {
+      left = h.left;
+      next = record {
+        asked = subst (λ (x : Course). x ≡ Asks (arc_value key) new.at (answered x)) (sym h.left) h.asked;
+        look = h.look;
+        left = refl;
+        unmarked = h.unmarked;
+        some = subst (λ (n : ℕ). 0 < n) (sym h.asks) h.some;
+        asks = refl;
+        steps = refl;
+      };
+      asks = h.asks;
+      fewer = omega (arith, h.steps);
+    }
+other_stays old new step.End other h =
+    record { left = h.1.left; next = (h.1.left ∙ h.0, record { left = refl; unmarked = h.1.unmarked; asks = refl }); asks = h.1.asks; fewer = tt }
+other_stays old new (step.Stop fault) other h =
+    record { left = h.1.left; next = (h.1.left ∙ h.0, record { left = refl; unmarked = h.1.unmarked; asks = refl }); asks = h.1.asks; fewer = tt }
+
+-- a look-up that comes later has no more steps left
+pub fewer_still : (first old new : Doing) (given : Step) → steps_left old ≤ steps_left first → HasFewerAtLook old given new → HasFewerAtLook first given new
+fewer_still first old new (step.Flat flat) some h = tt
+fewer_still first old new (step.Ask key) some h = omega (arith, some, h)
+fewer_still first old new step.End some h = tt
+fewer_still first old new (step.Stop fault) some h = tt
+
+-- what stops the pen is no failure of a source
+pub no_source : {T : Type 0} (r : Result State PenFault) (at : ℕ) (why : PageStop) → IsPenStop r at why → IsErrOf {T = T} (Err why) stop.SourceFault → ⊥
+no_source r at (stop.Fault fault place) h e = absurd cc
+no_source r at stop.SourceFault h e = h
+no_source r at stop.NoMemory h e = absurd cc
+
+-- an error is the same in the result of a call that hands it on
+pub handed_on : {T U : Type 0} (e x : PageStop) → IsErrOf {T = T} (Err e) x → IsErrOf {T = U} (Err e) x
+handed_on e x h =
+    let same : e ≡ x = cc in
+    ap Err same

@@ -1,0 +1,182 @@
+//! Draws the flat commands of a page.
+ghost use Rattle.std.specs.Prelude.{◌≡◌, ◌<◌, ◌≤◌, ◌+◌, ◌^◌, ◌++◌, ◌≤ℤ◌, ◌<ℤ◌, ◌+ℤ◌, ◌-ℤ◌, neg_ℤ, pos, false, List, Some, Ok, Err, IfOk, IfErr, IfSome, IsErrOf, OnOk};
+ghost use Rattle.std.specs.Option.{option_map};
+ghost use Rattle.outside.specs.declared.keys.FontKey.{FontKey};
+ghost use Rattle.drift_rules.specs.Position.{after, seen_flat, Char};
+ghost use Rattle.drift_rules.specs.Marks.{mark_of};
+ghost use Rattle.drift_rules.specs.Bounds.{IsInReach, IsNumber, IsPaintable, IsPlaceable};
+ghost use Rattle.raster_page.specs.Ink.{Inked, page_of};
+ghost use Rattle.vf_expand.specs.Doing.{asks_left, glyph_for, glyph_in, left, marked_font};
+ghost use Rattle.vf_expand.specs.Steps.{Fits, Steps};
+ghost use Rattle.page_draw.specs.Sheets.{IsDrawable, inks_of};
+ghost use Rattle.page_draw.specs.SoFar.{GoesOn, HasFewerAtLook, StopsSo};
+ghost use Rattle.page_draw.specs.Drawn.{IsPenStop};
+
+use crate::sheet::Sheet;
+use crate::stop::PageStop;
+use drift_rules::{Flat, Mark, Pen, PenStop};
+use font_decode::Decoded;
+use glyph_paint::paint;
+use pk_runs::Glyph;
+use raster_page::Page;
+use vf_expand::{Expander, PageFault, PlainStep, Step};
+
+// The glyph of a code in the font of the character that the expander gave.
+#[inline(always)]
+fn glyph_at<'e>(expander: &'e Expander, code: u8) -> Option<&'e Glyph>
+    ensures { option_map (λ glyph. glyph.now) result ≡ glyph_in (marked_font expander.now) code }
+{
+    match &**expander.font()? {
+        Decoded::Font(font) => font.glyph(u32::from(code)),
+        Decoded::Fault(_) => None,
+    }
+}
+
+// The glyph of a character that the expander gave.
+#[inline(always)]
+fn glyph_of<'e>(expander: &'e Expander, flat: &Flat) -> Option<&'e Glyph>
+    ensures { option_map (λ glyph. glyph.now) result ≡ glyph_for expander.now (seen_flat flat.now) }
+{
+    let Flat::Char { code, .. } = flat else {
+        return None;
+    };
+    glyph_at(expander, *code)
+}
+
+// Where a glyph's upper left pixel stands on the sheet, across or down, whose reference pixel stands at
+// this place.
+#[inline(always)]
+fn placed(place: i64, offset: i32, margin: u32) -> i64
+    requires near { IsPlaceable place }
+    requires few { margin ≤ 20000 }
+    ensures value { result ≡ place -ℤ offset +ℤ pos margin }
+    ensures low { neg_ℤ (pos (2 ^ 42)) ≤ℤ result }
+    ensures high { result <ℤ pos (2 ^ 42) }
+{
+    place - i64::from(offset) + i64::from(margin)
+}
+
+// Sets a mark on the sheet, that of a character by its glyph.
+#[inline(always)]
+fn ink(page: &mut Page, sheet: &Sheet, mark: Option<Mark>, glyph: Option<&Glyph>)
+    requires sheet { IsDrawable sheet.now }
+    requires mark { IfSome mark IsPaintable }
+    ensures { (done : List Inked) → page.old ≡ page_of sheet.now.width sheet.now.height done
+        → page.new ≡ page_of sheet.now.width sheet.now.height
+        (done ++ inks_of sheet.now mark (option_map (λ g. g.now) glyph.entry)) }
+{
+    match mark {
+        Some(Mark::Rule { x, y, w, h }) => {
+            page.rule(x + i64::from(sheet.left), y + i64::from(sheet.top), w, h);
+        }
+        Some(Mark::Char { hh, vv }) => {
+            if let Some(glyph) = glyph {
+                let column = placed(hh, glyph.hoff, sheet.left);
+                let row = placed(vv, glyph.voff, sheet.top);
+                paint(page, &glyph.raster, column, row);
+            }
+        }
+        None => {}
+    }
+}
+
+// Draws the flat command that the expander gave.
+#[inline(always)]
+fn draw_one(
+    page: &mut Page,
+    pen: &mut Pen,
+    sheet: &Sheet,
+    expander: &Expander,
+    flat: &Flat,
+) -> Result<(), PageStop>
+    requires sheet { IsDrawable sheet.now }
+    requires reach { IsInReach (seen_flat flat.now) }
+    ensures moved { IfOk result (λ _. after pen.old.conv pen.old.state (seen_flat flat.now) ≡ Ok pen.new.state) }
+    ensures inked { IfOk result (λ _. (done : List Inked)
+        → page.old ≡ page_of sheet.now.width sheet.now.height done
+        → page.new ≡ page_of sheet.now.width sheet.now.height (done ++ inks_of sheet.now
+        (mark_of pen.old.conv pen.old.state.now (seen_flat flat.now)) (glyph_for expander.now (seen_flat flat.now)))) }
+    ensures conv { pen.new.conv ≡ pen.old.conv }
+    ensures stop { IfErr result (IsPenStop (after pen.old.conv pen.old.state (seen_flat flat.now)) expander.now.at) }
+{
+    match pen.step(flat) {
+        Ok(mark) => {
+            ink(page, sheet, mark, glyph_of(expander, flat));
+            Ok(())
+        }
+        Err(PenStop::Fault(fault)) => Err(PageStop::Fault {
+            fault: PageFault::Pen(fault),
+            at: expander.at(),
+        }),
+        Err(PenStop::NoMemory) => Err(PageStop::NoMemory),
+    }
+}
+
+// Sets a character that the expander gave by itself.
+#[inline(always)]
+fn draw_plain(
+    page: &mut Page,
+    pen: &mut Pen,
+    sheet: &Sheet,
+    expander: &Expander,
+    plain: PlainStep,
+) -> Result<(), PageStop>
+    requires sheet { IsDrawable sheet.now }
+    requires reach { IsNumber plain.width }
+    ensures moved { IfOk result (λ _. (key : FontKey) → after pen.old.conv pen.old.state (Char key plain.code plain.width false) ≡ Ok pen.new.state) }
+    ensures inked { IfOk result (λ _. (key : FontKey) (done : List Inked)
+        → page.old ≡ page_of sheet.now.width sheet.now.height done
+        → page.new ≡ page_of sheet.now.width sheet.now.height (done ++ inks_of sheet.now
+        (mark_of pen.old.conv pen.old.state.now (Char key plain.code plain.width false)) (glyph_in (marked_font expander.now) plain.code))) }
+    ensures conv { pen.new.conv ≡ pen.old.conv }
+    ensures stop { IfErr result (λ stop. (key : FontKey)
+        → IsPenStop (after pen.old.conv pen.old.state (Char key plain.code plain.width false)) expander.now.at stop) }
+{
+    match pen.set(plain.width) {
+        Ok(mark) => {
+            ink(page, sheet, Some(mark), glyph_at(expander, plain.code));
+            Ok(())
+        }
+        Err(fault) => Err(PageStop::Fault {
+            fault: PageFault::Pen(fault),
+            at: expander.at(),
+        }),
+    }
+}
+
+/// Draws the flat commands that stand next, up to a step of another kind. A page's commands are almost all
+/// of them flat ones: this loop is one for all desks, and what a command passes through stands in it.
+#[inline(never)]
+pub fn draw_flats(
+    page: &mut Page,
+    pen: &mut Pen,
+    sheet: &Sheet,
+    expander: &mut Expander,
+) -> Result<Step, PageStop>
+    requires sheet { IsDrawable sheet.now }
+    ensures drawn { OnOk result (GoesOn pen.old.conv sheet.now (left expander.old) pen.old.state page.old
+        (left expander.new) pen.new.state page.new) }
+    ensures conv { OnOk result (pen.new.conv ≡ pen.old.conv) }
+    ensures asks { OnOk result (asks_left expander.new ≤ asks_left expander.old) }
+    ensures steps { IfOk result (λ step. HasFewerAtLook expander.old step expander.new) }
+
+    // The step that stands next is no flat command: it leaves the same to do.
+    ensures next { IfOk result (λ step. Steps expander.new step expander.new) }
+    ensures fits { IfOk result (λ step. Fits step expander.new) }
+    ensures source { IsErrOf result PageStop.SourceFault → ⊥ }
+    ensures stop { IfErr result (StopsSo pen.old.conv sheet.now (left expander.old) pen.old.state page.old) }
+{
+    'flats: loop {
+        if let Some(plain) = expander.next_plain() {
+            draw_plain(page, pen, sheet, expander, plain)?;
+            continue;
+        }
+        let Ok(step) = expander.next() else {
+            return Err(PageStop::NoMemory);
+        };
+        match step {
+            Step::Flat(flat) => draw_one(page, pen, sheet, expander, &flat)?,
+            other => return Ok(other),
+        }
+    }
+}
