@@ -1,14 +1,15 @@
 //! A raster from the bits of a plain bitmap.
 
-ghost use Rattle.std.specs.Prelude.{◌≡◌, ℕ, ◌+◌, ◌*◌, ◌/◌, ◌%◌, ◌^◌, ◌<◌, ◌≤◌, ◌&&◌, length, nat_lt, MatchResult, if◌then◌else◌};
-ghost use Rattle.packed_rows.specs.Changes.{white_bitmap, with_black};
+ghost use Rattle.std.specs.Prelude.{◌≡◌, ℕ, ◌+◌, ◌-◌, ◌*◌, ◌/◌, ◌%◌, ◌^◌, ◌<◌, ◌≤◌, ◌&&◌, length, nat_lt, MatchResult, if◌then◌else◌};
+ghost use Rattle.packed_rows.specs.Changes.{is_within, white_bitmap, with_black};
 ghost use Rattle.packed_rows.specs.Packing.{pixel};
 ghost use Rattle.packed_rows.specs.Stamped.{word_pixel};
 ghost use Rattle.pk_runs.specs.Raster.{IsPlainRaster};
 ghost use Rattle.pk_runs.specs.declared.faults.RunFault.TheVariants.{Short};
 
 use crate::faults::RunFault;
-use packed_rows::{PackedBitmap, Span, blacken_word, is_black};
+use crate::row_words::front;
+use packed_rows::{PackedBitmap, Span, is_black};
 
 /// Paints the bits of the bytes on a white raster, row after row without padding.
 pub fn paint_plain(
@@ -82,7 +83,7 @@ fn paint_narrow_rows(mut bits: PackedBitmap, w: u32, h: u32, bytes: &[u8]) -> Pa
     bits
 }
 
-// So many pixels from a place on, as a word.
+// So many pixels from a place on, as a word: byte by byte.
 fn plain_word(bytes: &[u8], place: usize, w: u32) -> u64
     requires narrow { w < 64 }
     requires few { place < 2 ^ 32 }
@@ -90,10 +91,22 @@ fn plain_word(bytes: &[u8], place: usize, w: u32) -> u64
     ensures { (i : ℕ) → i < 64 → word_pixel result i ≡ (nat_lt i w && pixel bytes.now (place + i)) }
 {
     let mut word = 0;
-    for x in 0..w {
-        if is_black(bytes, place + x as usize) {
-            word = blacken_word(word, x, x + 1);
-        }
+    let mut x = 0;
+    while x < w {
+        let at = place + x as usize;
+        word |= byte_pixels(bytes, at, x);
+        x += 8 - (at % 8) as u32;
     }
-    word
+    front(word, w)
+}
+
+// The pixels from a place on to the end of its byte, as those of a word from pixel `x` on.
+#[inline(always)]
+fn byte_pixels(bytes: &[u8], place: usize, x: u32) -> u64
+    requires few { x < 64 }
+    requires inside { place < 8 * length bytes.now }
+    ensures { (i : ℕ) → i < 64 → word_pixel result i
+        ≡ (is_within x (x + (8 - place % 8)) i && pixel bytes.now (place + (i - x))) }
+{
+    u64::from(bytes[place / 8]) << (56 + place % 8) >> x
 }
