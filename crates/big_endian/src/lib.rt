@@ -1,8 +1,8 @@
 //! The numbers that one to four bytes spell, the byte that weighs most first.
 //!
-//! Every number of a DVI, VF, TFM or PK file stands in its bytes so, unsigned or in two's complement
-//! (Knuth, DVItype, "Device-independent file format" and "Input from binary files"). This crate reads
-//! them, and has the definitions of both readings, which the crates above it cite.
+//! Every number of a DVI, VF, TFM or PK file stands in its bytes so, unsigned or in two's
+//! complement (Knuth, DVItype, "Device-independent file format" and "Input from binary files").
+//! This crate reads them, and has the definitions of both readings, which the crates above it cite.
 #![tactic(auto)]
 
 mod laws;

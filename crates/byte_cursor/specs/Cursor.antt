@@ -14,6 +14,6 @@ left p = length p.bytes - p.at
 abbrev pub next : Place → ℕ → List ℕ
 next p n = take n (drop p.at p.bytes)
 
--- the place behind the next n bytes
-abbrev pub behind : Place → ℕ → Place
-behind p n = record { bytes = p.bytes; at = p.at + n }
+-- the place after the next n bytes
+abbrev pub after : Place → ℕ → Place
+after p n = record { bytes = p.bytes; at = p.at + n }

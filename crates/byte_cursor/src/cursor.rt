@@ -1,7 +1,7 @@
 //! The cursor.
 ghost use Rattle.std.specs.Prelude.{◌≡◌, ◌≤◌, ◌<◌, ◌^◌, ◌∷◌, [], ◌↔◌, length, IfOk, IsErr, OnErr, OnOk};
 ghost use Rattle.big_endian.specs.Numbers.{signed_of, unsigned_of};
-ghost use Rattle.byte_cursor.specs.Cursor.{behind, left, next};
+ghost use Rattle.byte_cursor.specs.Cursor.{after, left, next};
 
 use std::marker::Model;
 
@@ -55,7 +55,7 @@ impl<'a> Cursor<'a> {
     pub fn take(&mut self, n: usize) -> Result<&'a [u8], Short>
         ensures short { IsErr result ↔ (left self.old < n) }
         ensures bytes { IfOk result (λ bytes. bytes.now ≡ next self.old n) }
-        ensures moved { OnOk result (self.new ≡ behind self.old n) }
+        ensures moved { OnOk result (self.new ≡ after self.old n) }
         ensures stays { OnErr result (self.new ≡ self.old) }
     {
         if self.left() < n {
@@ -71,7 +71,7 @@ impl<'a> Cursor<'a> {
     pub fn byte(&mut self) -> Result<u8, Short>
         ensures short { IsErr result ↔ (left self.old ≡ 0) }
         ensures byte { IfOk result (λ byte. next self.old 1 ≡ byte ∷ []) }
-        ensures moved { OnOk result (self.new ≡ behind self.old 1) }
+        ensures moved { OnOk result (self.new ≡ after self.old 1) }
         ensures stays { OnErr result (self.new ≡ self.old) }
     {
         let bytes = self.take(1)?;
@@ -85,7 +85,7 @@ impl<'a> Cursor<'a> {
         ensures short { IsErr result ↔ (left self.old < n) }
         ensures number { IfOk result (λ number. number ≡ unsigned_of (next self.old n)) }
         ensures fits { IfOk result (λ number. number < 256 ^ n) }
-        ensures moved { OnOk result (self.new ≡ behind self.old n) }
+        ensures moved { OnOk result (self.new ≡ after self.old n) }
         ensures stays { OnErr result (self.new ≡ self.old) }
     {
         let bytes = self.take(n)?;
@@ -98,7 +98,7 @@ impl<'a> Cursor<'a> {
         requires few { n ≤ 4 }
         ensures short { IsErr result ↔ (left self.old < n) }
         ensures number { IfOk result (λ number. number ≡ signed_of (next self.old n)) }
-        ensures moved { OnOk result (self.new ≡ behind self.old n) }
+        ensures moved { OnOk result (self.new ≡ after self.old n) }
         ensures stays { OnErr result (self.new ≡ self.old) }
     {
         let bytes = self.take(n)?;

@@ -1,6 +1,6 @@
-//! Reading bytes from the front of a slice: a cursor that gives numbers of one to four bytes, the
-//! byte that weighs most first, and stretches of bytes. Where fewer bytes are left than are asked
-//! for, it stays where it is.
+//! Reading bytes from the beginning of a slice: a cursor that gives numbers of one to four bytes,
+//! the byte that weighs most first, and stretches of bytes. Where fewer bytes are left than are
+//! asked for, it stays where it is.
 #![tactic(auto)]
 
 mod cursor;

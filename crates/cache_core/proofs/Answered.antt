@@ -3,7 +3,7 @@ use Rattle.std.proofs.Common.{[], ◌∷◌, Option, Some, None, refl, inl, inr}
 use Rattle.outside.specs.declared.keys.FontKey.{FontKey}
 use Rattle.cache_core.specs.declared.calls.Done.TheVariants.{Hit, Claimed, Filled}
 use Rattle.cache_core.specs.Histories.{SeatCalls, IsAnswer}
-use Rattle.cache_core.specs.Rows.{duo, dot, bar, one, history_of_one, history_of_three, asked}
+use Rattle.cache_core.specs.Examples.{duo, dot, bar, one, history_of_one, history_of_three, asked}
 
 filled : (k : FontKey) (left : Option FontKey) → IsAnswer k (one k Claimed ∷ one k (Filled left) ∷ [])
 filled k left = inr (_, _, refl, refl, refl, refl, inl (left, refl))

@@ -1,4 +1,5 @@
--- In each state that a legal history leads to, no claimed key is resident, and no seat and no key is claimed twice.
+-- In each state that a legal history leads to, no claimed key is resident, and no seat and no key
+-- is claimed twice.
 use Rattle.std.proofs.Common.{◌≡◌, ◌⊎◌, ℕ, zero, suc, Bool, true, false, cond, not, ◌&&◌, ◌||◌, List, [], ◌∷◌, take, Option, Some, None, nat_eq, refl, sym, ap, ◌∙◌, subst, inl, inr, true≢false}
 use Rattle.std.specs.Option.{is_some}
 use Rattle.std.specs.Map.{remove_entry}

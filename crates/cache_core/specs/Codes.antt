@@ -11,10 +11,13 @@ files_code = map.code (coded_list coded_ℕ) (coded_list coded_ℕ)
 
 abbrev pub units_code : Coded Units
 units_code =
-    code_by (ℕ × (ℕ × (ℕ × ℕ))) (coded× coded_ℕ (coded× coded_ℕ (coded× coded_ℕ coded_ℕ))) (λ u. (u.num, (u.den, (u.mag, u.res))))
+    code_by (ℕ × (ℕ × (ℕ × ℕ))) (coded× coded_ℕ (coded× coded_ℕ (coded× coded_ℕ coded_ℕ)))
+    (λ u. (u.num, (u.den, (u.mag, u.res))))
     (λ p. record { num = p.0; den = p.1.0; mag = p.1.1.0; res = p.1.1.1 }) (λ _. refl)
 
 abbrev pub common_code : Coded Common
 common_code =
-    code_by (ℕ × (Units × Option Files)) (coded× coded_ℕ (coded× units_code (coded_option files_code))) (λ c. (c.capacity, (c.units, c.library)))
+    code_by (ℕ × (Units × Option Files))
+    (coded× coded_ℕ (coded× units_code (coded_option files_code)))
+    (λ c. (c.capacity, (c.units, c.library)))
     (λ p. record { capacity = p.0; units = p.1.0; library = p.1.1 }) (λ _. refl)

@@ -29,13 +29,16 @@ open_claim calls = open_from None calls
 abbrev pub IsAnswer : FontKey → List Call → Type 0
 IsAnswer k calls =
     ((c : Call) × (calls ≡ c ∷ []) × (c.key ≡ k) × ((c.done ≡ Hit) ⊎ (c.done ≡ Busy)))
-    ⊎ ((c : Call) × (d : Call) × (calls ≡ c ∷ d ∷ []) × (c.key ≡ k) × (c.done ≡ Claimed) × (d.key ≡ k)
+    ⊎ ((c : Call) × (d : Call) × (calls ≡ c ∷ d ∷ []) × (c.key ≡ k) × (c.done ≡ Claimed)
+    × (d.key ≡ k)
     × (((gone : Option FontKey) × (d.done ≡ Filled gone)) ⊎ (d.done ≡ Released)))
 
 -- the keys that a seat asked for and the calls of that seat, in order
 abbrev pub SeatCalls : List FontKey → List Call → Type 0
 SeatCalls [] calls = calls ≡ []
-SeatCalls (k ∷ asked) calls = (first : List Call) × (others : List Call) × (calls ≡ first ++ others) × IsAnswer k first × SeatCalls asked others
+SeatCalls (k ∷ asked) calls =
+    (first : List Call) × (others : List Call) × (calls ≡ first ++ others) × IsAnswer k first
+    × SeatCalls asked others
 
 -- each call is of this seat
 abbrev pub AreOf : ℕ → List Call → Type 0

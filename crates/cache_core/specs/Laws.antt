@@ -23,7 +23,8 @@ leaves_by k _ = false
 
 -- each prefix of a legal history is legal
 abbrev pub PrefixesAreLegal : Type 0
-PrefixesAreLegal = (capacity : ℕ) (xs ys : List Call) → Legal capacity (xs ++ ys) → Legal capacity xs
+PrefixesAreLegal =
+    (capacity : ℕ) (xs ys : List Call) → Legal capacity (xs ++ ys) → Legal capacity xs
 
 -- the test of two keys is equality: two that pass it are one, and each passes it with itself
 abbrev pub KeysAreEqual : Type 0
@@ -34,7 +35,10 @@ KeysAreThemselves = (k : FontKey) → key_eq k k ≡ true
 
 -- a seat's claim is the one that the last of its calls has left to it
 abbrev pub ClaimsAreOwn : Type 0
-ClaimsAreOwn = (capacity : ℕ) (history : List Call) (m : Machine) → machine_after capacity empty history ≡ Some m → (seat : ℕ) → claim_of seat m.claims ≡ open_claim (own seat history)
+ClaimsAreOwn =
+    (capacity : ℕ) (history : List Call) (m : Machine)
+    → machine_after capacity empty history ≡ Some m → (seat : ℕ)
+    → claim_of seat m.claims ≡ open_claim (own seat history)
 
 -- whether the call claims the key
 abbrev pub claims_it : FontKey → Call → Bool
@@ -46,7 +50,8 @@ frees_it k c = leaves_by k c.done || (key_eq k c.key && is_release c.done)
 
 -- each key is claimed at most once more than its font left and its claims were given up together
 abbrev pub FewClaims : List Call → Type 0
-FewClaims history = (k : FontKey) → length (filter (claims_it k) history) ≤ length (filter (frees_it k) history) + 1
+FewClaims history =
+    (k : FontKey) → length (filter (claims_it k) history) ≤ length (filter (frees_it k) history) + 1
 
 -- so it is in each legal history
 abbrev pub ClaimsAreFew : Type 0
@@ -61,7 +66,8 @@ pub record ClaimsFit (m : Machine) : Type 0 where
   -- the font of a claimed key is not resident
   pub absent : (i seat : ℕ) (k : FontKey) → ClaimsAt m i seat k → IsFalse (has_key k m.resident)
   -- a key is claimed once
-  pub key_once : (i j seat other : ℕ) (k : FontKey) → ClaimsAt m i seat k → ClaimsAt m j other k → i ≡ j
+  pub key_once : (i j seat other : ℕ) (k : FontKey) → ClaimsAt m i seat k → ClaimsAt m j other k
+      → i ≡ j
   -- a seat has at most one claim
   pub seat_once : (i j seat : ℕ) (k l : FontKey) → ClaimsAt m i seat k → ClaimsAt m j seat l → i ≡ j
   -- it is the one that is looked up for the seat
@@ -69,26 +75,35 @@ pub record ClaimsFit (m : Machine) : Type 0 where
 
 -- so they are in the state after each legal history
 abbrev pub ClaimsAlwaysFit : Type 0
-ClaimsAlwaysFit = (capacity : ℕ) (history : List Call) (m : Machine) → machine_after capacity empty history ≡ Some m → ClaimsFit m
+ClaimsAlwaysFit =
+    (capacity : ℕ) (history : List Call) (m : Machine)
+    → machine_after capacity empty history ≡ Some m → ClaimsFit m
 
 -- another seat has claimed the key
 abbrev pub IsClaimedByAnother : Machine → ℕ → FontKey → Type 0
 IsClaimedByAnother m seat k = (other : ℕ) × (other ≢ seat) × (claim_of other m.claims ≡ Some k)
 
--- what a look is answered, each answer exactly there: Hit where the key is resident, else Busy where another seat has claimed it, else Claimed
+-- what a look is answered, each answer exactly there: Hit where the key is resident, else Busy
+-- where another seat has claimed it, else Claimed
 pub record IsLookAnswered (capacity : ℕ) (m : Machine) (seat : ℕ) (k : FontKey) : Type 0 where
   pub hit : IsTrue (allows_done capacity m seat k Hit) ↔ IsTrue (has_key k m.resident)
-  pub busy : IsTrue (allows_done capacity m seat k Busy) ↔ (IsFalse (has_key k m.resident) × IsClaimedByAnother m seat k)
-  pub claimed : IsTrue (allows_done capacity m seat k Claimed) ↔ (IsFalse (has_key k m.resident) × ((other : ℕ) → claim_of other m.claims ≢ Some k))
+  pub busy : IsTrue (allows_done capacity m seat k Busy)
+      ↔ (IsFalse (has_key k m.resident) × IsClaimedByAnother m seat k)
+  pub claimed : IsTrue (allows_done capacity m seat k Claimed)
+      ↔ (IsFalse (has_key k m.resident) × ((other : ℕ) → claim_of other m.claims ≢ Some k))
 
 -- so it is in the state after each legal history, for each seat that holds no claim
 abbrev pub LooksAreAnswered : Type 0
-LooksAreAnswered = (capacity : ℕ) (history : List Call) (m : Machine) → machine_after capacity empty history ≡ Some m
+LooksAreAnswered =
+    (capacity : ℕ) (history : List Call) (m : Machine)
+    → machine_after capacity empty history ≡ Some m
     → (seat : ℕ) (k : FontKey) → claim_of seat m.claims ≡ None → IsLookAnswered capacity m seat k
 
 -- where all calls are of one seat, no look is busy
 abbrev pub NoneAloneIsBusy : Type 0
-NoneAloneIsBusy = (capacity seat : ℕ) (history : List Call) → Legal capacity history → AreOf seat history → NoneBusy history
+NoneAloneIsBusy =
+    (capacity seat : ℕ) (history : List Call) → Legal capacity history → AreOf seat history
+    → NoneBusy history
 
 -- a history of one seat that answers these keys and gives no claim up
 pub record IsSolo (capacity seat : ℕ) (keys : List FontKey) (history : List Call) : Type 0 where
@@ -99,10 +114,13 @@ pub record IsSolo (capacity seat : ℕ) (keys : List FontKey) (history : List Ca
 
 -- there is one, and one only
 abbrev pub SoloIsOne : Type 0
-SoloIsOne = (capacity seat : ℕ) (keys : List FontKey) (history : List Call) → IsSolo capacity seat keys history → history ≡ solo_history capacity seat keys
+SoloIsOne = (capacity seat : ℕ) (keys : List FontKey) (history : List Call)
+    → IsSolo capacity seat keys history → history ≡ solo_history capacity seat keys
 
 abbrev pub SoloIsThere : Type 0
-SoloIsThere = (capacity seat : ℕ) (keys : List FontKey) → IsSolo capacity seat keys (solo_history capacity seat keys)
+SoloIsThere =
+    (capacity seat : ℕ) (keys : List FontKey) → IsSolo capacity seat keys
+    (solo_history capacity seat keys)
 
 -- a seat's own calls in two joined lists are those in the first and then those in the second
 abbrev pub OwnsAreJoined : Type 0
@@ -116,11 +134,16 @@ OwnsAreHistory = (seat : ℕ) (history : List Call) → AreOf seat history → o
 abbrev pub KeysAreLooks : Type 0
 KeysAreLooks = (keys : List FontKey) (calls : List Call) → SeatCalls keys calls → looks calls ≡ keys
 
--- a prefix of the keys has a prefix of the entries, and the keys after it have the entries after that
+-- a prefix of the keys has a prefix of the entries, and the keys after it have the entries after
+-- that
 abbrev pub PrefixesHaveCalls : Type 0
-PrefixesHaveCalls = (keys after : List FontKey) (calls : List Call) → SeatCalls (keys ++ after) calls
-    → (first : List Call) × (others : List Call) × (calls ≡ first ++ others) × SeatCalls keys first × SeatCalls after others
+PrefixesHaveCalls =
+    (keys after : List FontKey) (calls : List Call) → SeatCalls (keys ++ after) calls
+    → (first : List Call) × (others : List Call) × (calls ≡ first ++ others) × SeatCalls keys first
+    × SeatCalls after others
 
 -- joined lists of keys have joined entries
 abbrev pub CallsAreJoined : Type 0
-CallsAreJoined = (keys after : List FontKey) (first others : List Call) → SeatCalls keys first → SeatCalls after others → SeatCalls (keys ++ after) (first ++ others)
+CallsAreJoined =
+    (keys after : List FontKey) (first others : List Call) → SeatCalls keys first
+    → SeatCalls after others → SeatCalls (keys ++ after) (first ++ others)

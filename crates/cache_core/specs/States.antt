@@ -1,4 +1,5 @@
--- What contracts see of the cache: the machine's state, the fonts of its resident keys, its history, and its turns.
+-- What contracts see of the cache: the machine's state, the fonts of its resident keys, its
+-- history, and its turns.
 use Rattle.std.specs.Prelude.{◌≡◌, ◌⊎◌, ℕ, ◌+◌, ◌≤◌, List, Option, Some, None, IsTrue, refl}
 use Rattle.std.specs.Arc.{arc_value}
 use Rattle.std.specs.declared.sync.Arc.{Arc}
@@ -38,9 +39,16 @@ call_code = call_row.the_row.coded
 abbrev pub cache_code : {T : Type 0} → Coded T → Coded (Cache T)
 cache_code {T} code =
     code_by (ℕ × (List (FontKey × T) × (List (ℕ × FontKey) × (List Call × ℕ))))
-    (coded× coded_ℕ (coded× (coded_list (coded× key_code code)) (coded× (coded_list (coded× coded_ℕ key_code)) (coded× (coded_list call_code) coded_ℕ))))
+    (coded× coded_ℕ (coded× (coded_list (coded× key_code code))
+    (coded× (coded_list (coded× coded_ℕ key_code)) (coded× (coded_list call_code) coded_ℕ))))
     (λ c. (c.capacity, (c.fonts, (c.claims, (c.history, c.turns)))))
-    (λ p. record { capacity = p.0; fonts = p.1.0; claims = p.1.1.0; history = p.1.1.1.0; turns = p.1.1.1.1 }) (λ _. refl)
+    (λ p. record {
+      capacity = p.0;
+      fonts = p.1.0;
+      claims = p.1.1.0;
+      history = p.1.1.1.0;
+      turns = p.1.1.1.1;
+    }) (λ _. refl)
 
 -- the machine with these fonts and claims
 abbrev pub machine_of : {T : Type 0} → List (FontKey × T) → List (ℕ × FontKey) → Machine
@@ -82,19 +90,30 @@ abbrev pub AddsFont : {T : Type 0} → FontKey → T → List (FontKey × T) →
 AddsFont {T} k font before after = (j : FontKey) (found : T) → lookup (key_eq j) after ≡ Some found
     → ((j ≡ k) × (found ≡ font)) ⊎ (lookup (key_eq j) before ≡ Some found)
 
--- a state stands in a common part that has its capacity, where each resident font stands for its key there
-pub record StateStands {T : Type 0} (stands_for : T → FontKey → Common → Type 0) (c : Cache T) (part : Common) : Type 0 where
+-- a state stands in a common part that has its capacity, where each resident font stands for its
+-- key there
+pub record StateStands {T : Type 0} (stands_for : T → FontKey → Common → Type 0) (c : Cache T)
+    (part : Common) : Type 0 where
   pub capacity : c.capacity ≡ part.capacity
   pub reached : IsReached c
-  pub fonts : (k : FontKey) (font : T) → lookup (key_eq k) c.fonts ≡ Some font → stands_for font k part
+  pub fonts : (k : FontKey) (font : T) → lookup (key_eq k) c.fonts ≡ Some font
+      → stands_for font k part
 
 -- ---- the fields
 
-abbrev pub seen : {T A : Type 0} → List (Arc FontKey A × Arc T A) → ℕ → List Claim → List Entry → ℕ → Cache T
+abbrev pub seen : {T A : Type 0} → List (Arc FontKey A × Arc T A) → ℕ → List Claim → List Entry → ℕ
+    → Cache T
 seen fonts capacity claims entries turns =
-    record { capacity = capacity; fonts = fonts_of fonts; claims = claims_of claims; history = calls_of entries; turns = turns }
+    record {
+      capacity = capacity;
+      fonts = fonts_of fonts;
+      claims = claims_of claims;
+      history = calls_of entries;
+      turns = turns;
+    }
 
--- what holds of every state: it is the one after its history, keeps a font at least, and has room for an entry per claim
+-- what holds of every state: it is the one after its history, keeps a font at least, and has room
+-- for an entry per claim
 pub record Kept {T : Type 0} (c : Cache T) (entries claims room : ℕ) : Type 0 where
   pub reached : IsReached c
   pub some_font : 1 ≤ c.capacity

@@ -1,4 +1,5 @@
--- What contracts see of the entries, the claims and the fonts: plain values, and no places in memory.
+-- What contracts see of the entries, the claims and the fonts: plain values, and no places in
+-- memory.
 use Rattle.std.specs.Prelude.{ℕ, ◌-◌, Bool, List, map, Option, slice_get}
 use Rattle.std.specs.Option.{option_map}
 use Rattle.std.specs.Arc.{arc_value}
@@ -36,7 +37,7 @@ claims_of claims = map claim_seen claims
 abbrev pub fonts_of : {T A : Type 0} → List (Arc FontKey A × Arc T A) → List (FontKey × T)
 fonts_of fonts = map (λ f. (arc_value f.0, arc_value f.1)) fonts
 
--- the font that leaves where one is added to so many at most, with its key, and that key alone
+-- the font that leaves where one is added to n at most, with its key, and that key alone
 abbrev pub gone_font : {T : Type 0} → List (FontKey × T) → ℕ → Option (FontKey × T)
 gone_font fonts capacity = slice_get fonts (capacity - 1)
 

@@ -36,9 +36,11 @@ pub(crate) fn add_claim(
     seat: u32,
     key: &Arc<FontKey>,
 ) -> Result<(), NoMemory>
-    ensures added { OnOk result (claims_of claims.new.items ≡ (seat, arc_value key.now) ∷ claims_of claims.old.items) }
+    ensures added { OnOk result (claims_of claims.new.items ≡ (seat, arc_value key.now)
+        ∷ claims_of claims.old.items) }
     ensures more { OnOk result (vec_len claims.new ≡ vec_len claims.old + 1) }
-    ensures same { OnErr result ((claims.new.items ≡ claims.old.items) × (vec_len claims.new ≡ vec_len claims.old)) }
+    ensures same { OnErr result ((claims.new.items ≡ claims.old.items) ×
+        (vec_len claims.new ≡ vec_len claims.old)) }
 {
     let key = Arc::try_clone(key)?;
     claims.insert(0, Claim { seat, key })?;
@@ -49,7 +51,8 @@ pub(crate) fn add_claim(
 pub(crate) fn end(claims: &mut Vec<Claim>, seat: u32) -> Arc<FontKey>
     requires { IsSome (lookup (nat_eq seat) (claims_of claims.old.items)) }
     ensures key { lookup (nat_eq seat) (claims_of claims.old.items) ≡ Some (arc_value result) }
-    ensures rest { claims_of claims.new.items ≡ remove_entry (nat_eq seat) (claims_of claims.old.items) }
+    ensures rest { claims_of claims.new.items ≡ remove_entry (nat_eq seat)
+        (claims_of claims.old.items) }
     ensures fewer { vec_len claims.new + 1 ≡ vec_len claims.old }
 {
     for at in 0..claims.len() {

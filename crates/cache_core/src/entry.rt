@@ -32,7 +32,8 @@ pub enum Look<T: Drop> {
     Hit(Arc<T>),
     /// The seat has claimed the key: it loads the font, and then fills or releases.
     Claimed,
-    /// Another seat has claimed the key: the caller loads the font for itself and keeps nothing here.
+    /// Another seat has claimed the key: the caller loads the font for itself and keeps nothing
+    /// here.
     Busy,
 }
 

@@ -18,8 +18,10 @@ pub(crate) type Fonts<T> = LruCache<Arc<FontKey>, Arc<T>>;
 
 // The font of this key, if it is the newest: no other has to be looked for, and none moves.
 fn newest<'f, T: Drop>(fonts: &'f Fonts<T>, key: &Arc<FontKey>) -> Option<&'f Arc<T>>
-    ensures found { IfSome result (λ font. lookup (passes (arc_value key.now)) fonts.now.entries ≡ Some font.now) }
-    ensures first { OnSome result (promoted (passes (arc_value key.now)) fonts.now.entries ≡ fonts.now.entries) }
+    ensures found { IfSome result (λ font. lookup (passes (arc_value key.now)) fonts.now.entries
+        ≡ Some font.now) }
+    ensures first { OnSome result (promoted (passes (arc_value key.now)) fonts.now.entries
+        ≡ fonts.now.entries) }
 {
     match fonts.peek_mru() {
         Some((first, font)) if same_key(key, first) => Some(font),
@@ -35,8 +37,8 @@ fn to_front<T: Drop>(fonts: &mut Fonts<T>, key: &Arc<FontKey>)
     fonts.promote(key);
 }
 
-// The font of this key, which becomes the newest. Its place is looked for twice: once `get` has moved it, a second owner
-// that can't be had couldn't leave the order as it was.
+// The font of this key, which becomes the newest. Its place is looked for twice: once `get` has
+// moved it, a second owner that can't be had couldn't leave the order as it was.
 fn find_by_hash<T: Drop>(
     fonts: &mut Fonts<T>,
     key: &Arc<FontKey>,
@@ -90,7 +92,8 @@ fn leaver<T: Drop>(fonts: &Fonts<T>) -> Result<Option<Arc<FontKey>>, NoMemory>
     }
 }
 
-// Adds a font whose key isn't there. Gives the key that leaves for it, to note, and its font with the key.
+// Adds a font whose key isn't there. Gives the key that leaves for it, to note, and its font with
+// the key.
 pub(crate) fn store<T: Drop>(
     fonts: &mut Fonts<T>,
     key: &Arc<FontKey>,
@@ -102,7 +105,8 @@ pub(crate) fn store<T: Drop>(
     ensures left { IfOk result (λ gone. option_map evicted_seen gone.1
         ≡ gone_font (fonts_of fonts.old.entries) fonts.old.cap) }
     ensures added { OnOk result (fonts_of fonts.new.entries
-        ≡ (arc_value key.now, arc_value font) ∷ take (fonts.old.cap - 1) (fonts_of fonts.old.entries)) }
+        ≡ (arc_value key.now, arc_value font) ∷ take (fonts.old.cap - 1)
+        (fonts_of fonts.old.entries)) }
     ensures capacity { fonts.new.cap ≡ fonts.old.cap }
     ensures back { IfErr result (λ handed. handed ≡ font) }
     ensures same { OnErr result (fonts.new ≡ fonts.old) }

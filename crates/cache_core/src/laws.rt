@@ -3,9 +3,9 @@
 ghost use Rattle.cache_core.specs.Laws.{PrefixesAreLegal, KeysAreEqual, KeysAreThemselves, ClaimsAreOwn, ClaimsAreFew, ClaimsAlwaysFit, LooksAreAnswered, NoneAloneIsBusy, SoloIsOne, SoloIsThere};
 ghost use Rattle.cache_core.specs.Laws.{OwnsAreJoined, OwnsAreHistory, KeysAreLooks, PrefixesHaveCalls, CallsAreJoined};
 
-/// The prefixes of a legal history, the test of keys, what a seat's own calls tell of its claim, how
-/// often a key is claimed, what holds of the claims of a state, and which of its answers a look is
-/// given.
+/// The prefixes of a legal history, the test of keys, what a seat's own calls tell of its claim,
+/// how often a key is claimed, what holds of the claims of a state, and which of its answers a look
+/// is given.
 #[tactic(auto, using(crate::proofs::Steps::prefixes_are_legal, crate::proofs::Keys::keys_are_equal, crate::proofs::Keys::key_is_itself, crate::proofs::OwnClaims::claims_are_own, crate::proofs::FewClaims::claims_are_few))]
 pub fn histories()
     ensures prefixes { PrefixesAreLegal }
@@ -31,8 +31,8 @@ pub fn seat_calls()
     ensures joined { CallsAreJoined }
 {}
 
-/// The calls of a seat that has the cache to itself: no look is busy, and where no claim is given up
-/// the keys asked leave one history alone.
+/// The calls of a seat that has the cache to itself: no look is busy, and where no claim is given
+/// up the keys asked leave one history alone.
 pub fn solo()
     ensures busy { NoneAloneIsBusy }
     ensures one { SoloIsOne }

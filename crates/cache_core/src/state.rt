@@ -22,8 +22,9 @@ use std::marker::Model;
 use std::num::NonZeroUsize;
 use std::sync::Arc;
 
-/// The cache's fonts, claims and history. A seat looks, and where it was given the claim of a key it
-/// ends it: it fills, or releases. Each call is one turn, and adds one entry unless it is refused.
+/// The cache's fonts, claims and history. A seat looks, and where it was given the claim of a key
+/// it ends it: it fills, or releases. Each call is one turn, and adds one entry unless it is
+/// refused.
 #[derive(Drop)]
 pub struct CacheState<T: Stands> {
     resident: Fonts<T>,
@@ -40,7 +41,8 @@ impl<T: Stands> Model for CacheState<T> {
 
     ghost coded = { cache_code T.code };
 
-    ghost view = { λ s. seen s.resident.entries s.resident.cap s.claims.items s.entries.items s.turns };
+    ghost view = { λ s.
+        seen s.resident.entries s.resident.cap s.claims.items s.entries.items s.turns };
 
     ghost invariant = { λ s. Kept
         (seen s.resident.entries s.resident.cap s.claims.items s.entries.items s.turns)
@@ -75,7 +77,8 @@ fn answer<T: Stands>(
         ≡ calls_of entries.old.items ++ call seat (arc_value key.now) (answered reply) ∷ []) }
     ensures font { IfOk result (λ reply. GivesFont reply
         (lookup (key_eq (arc_value key.now)) (fonts_of resident.old.entries))) }
-    ensures fonts { IfOk result (λ _. SameFonts (fonts_of resident.old.entries) (fonts_of resident.new.entries)) }
+    ensures fonts { IfOk result (λ _. SameFonts (fonts_of resident.old.entries)
+        (fonts_of resident.new.entries)) }
     ensures same { OnErr result ((resident.new ≡ resident.old)
         × (claims.new.items ≡ claims.old.items) × (entries.new.items ≡ entries.old.items)) }
     ensures capacity { resident.new.cap ≡ resident.old.cap }
@@ -110,7 +113,7 @@ fn answer<T: Stands>(
 }
 
 impl<T: Stands> CacheState<T> {
-    /// No font, no claim and no call, for so many fonts at most: 1 to 256.
+    /// No font, no claim and no call, for n fonts at most: 1 to 256.
     pub fn new(alloc: Global, capacity: usize) -> Result<CacheState<T>, NoMemory>
         requires some_font { 1 ≤ capacity }
         requires few_fonts { capacity ≤ 256 }
@@ -130,16 +133,17 @@ impl<T: Stands> CacheState<T> {
         })
     }
 
-    /// Looks a key up for a seat that holds no claim: `Hit` with the font where it is resident, else
-    /// `Busy` where another seat claims the key, else `Claimed`. It makes room for its entry, for the
-    /// claim and for the entry that ends the claim, so that a claim can always be released.
+    /// Looks a key up for a seat that holds no claim: `Hit` with the font where it is resident,
+    /// else `Busy` where another seat claims the key, else `Claimed`. It makes room for its entry,
+    /// for the claim and for the entry that ends the claim, so that a claim can always be released.
     /// `NoMemory` changes the number of turns alone.
     pub fn look(&mut self, seat: u32, key: &Arc<FontKey>) -> Result<Look<T>, NoMemory>
         requires few_turns { self.old.turns < 2 ^ 62 }
         requires free { claim_of seat self.old.claims ≡ None }
         ensures turns { self.new.turns ≡ self.old.turns + 1 }
         ensures capacity { self.new.capacity ≡ self.old.capacity }
-        ensures taken { IfOk result (λ reply. Takes self.old.capacity (machine self.old) (machine self.new)
+        ensures taken { IfOk result (λ reply. Takes self.old.capacity (machine self.old)
+            (machine self.new)
             (call seat (arc_value key.now) (answered reply))) }
         ensures noted { IfOk result (λ reply. self.new.history
             ≡ self.old.history ++ call seat (arc_value key.now) (answered reply) ∷ []) }
@@ -161,10 +165,10 @@ impl<T: Stands> CacheState<T> {
         )
     }
 
-    /// Hands in the font of the key that the seat has claimed, which ends the claim: the key then has
-    /// this font. The answer is the key whose font left for it. `Err` means that memory was wanting:
-    /// it hands the font back and changes the number of turns alone, so that the seat still holds its
-    /// claim.
+    /// Hands in the font of the key that the seat has claimed, which ends the claim: the key then
+    /// has this font. The answer is the key whose font left for it. `Err` means that memory ran
+    /// out: it hands the font back and changes the number of turns alone, so that the seat still
+    /// holds its claim.
     pub fn fill(
         &mut self,
         seat: u32,
@@ -175,11 +179,14 @@ impl<T: Stands> CacheState<T> {
         requires claim { claim_of seat self.old.claims ≡ Some (arc_value key.now) }
         ensures turns { self.new.turns ≡ self.old.turns + 1 }
         ensures capacity { self.new.capacity ≡ self.old.capacity }
-        ensures taken { IfOk result (λ gone. Takes self.old.capacity (machine self.old) (machine self.new)
+        ensures taken { IfOk result (λ gone. Takes self.old.capacity (machine self.old)
+            (machine self.new)
             (call seat (arc_value key.now) (Filled (option_map arc_value gone)))) }
         ensures noted { IfOk result (λ gone. self.new.history
-            ≡ self.old.history ++ call seat (arc_value key.now) (Filled (option_map arc_value gone)) ∷ []) }
-        ensures fonts { IfOk result (λ _. AddsFont (arc_value key.now) (arc_value value) self.old.fonts self.new.fonts) }
+            ≡ self.old.history ++ call seat (arc_value key.now)
+            (Filled (option_map arc_value gone)) ∷ []) }
+        ensures fonts { IfOk result (λ _. AddsFont (arc_value key.now) (arc_value value)
+            self.old.fonts self.new.fonts) }
         ensures stored { IfOk result (λ _. lookup (key_eq (arc_value key.now)) self.new.fonts
             ≡ Some (arc_value value)) }
         ensures back { IfErr result (λ handed. handed ≡ value) }
@@ -195,8 +202,8 @@ impl<T: Stands> CacheState<T> {
         }
     }
 
-    /// As `fill`, and hands out the font that left with its key, so that the caller lets it go where
-    /// it likes: it may be the font's last owner.
+    /// As `fill`, and hands out the font that left with its key, so that the caller lets it go
+    /// where it likes: it may be the font's last owner.
     pub fn fill_keeping(
         &mut self,
         seat: u32,
@@ -207,12 +214,15 @@ impl<T: Stands> CacheState<T> {
         requires claim { claim_of seat self.old.claims ≡ Some (arc_value key.now) }
         ensures turns { self.new.turns ≡ self.old.turns + 1 }
         ensures capacity { self.new.capacity ≡ self.old.capacity }
-        ensures taken { IfOk result (λ gone. Takes self.old.capacity (machine self.old) (machine self.new)
+        ensures taken { IfOk result (λ gone. Takes self.old.capacity (machine self.old)
+            (machine self.new)
             (call seat (arc_value key.now) (Filled (evicted_key gone)))) }
         ensures noted { IfOk result (λ gone. self.new.history
             ≡ self.old.history ++ call seat (arc_value key.now) (Filled (evicted_key gone)) ∷ []) }
-        ensures left { IfOk result (λ gone. option_map evicted_seen gone ≡ gone_font self.old.fonts self.old.capacity) }
-        ensures fonts { IfOk result (λ _. AddsFont (arc_value key.now) (arc_value value) self.old.fonts self.new.fonts) }
+        ensures left { IfOk result (λ gone. option_map evicted_seen gone
+            ≡ gone_font self.old.fonts self.old.capacity) }
+        ensures fonts { IfOk result (λ _. AddsFont (arc_value key.now) (arc_value value)
+            self.old.fonts self.new.fonts) }
         ensures stored { IfOk result (λ _. lookup (key_eq (arc_value key.now)) self.new.fonts
             ≡ Some (arc_value value)) }
         ensures back { IfErr result (λ handed. handed ≡ value) }
@@ -241,7 +251,8 @@ impl<T: Stands> CacheState<T> {
         ensures capacity { self.new.capacity ≡ self.old.capacity }
         ensures taken { Takes self.old.capacity (machine self.old) (machine self.new)
             (call seat (arc_value key.now) Released) }
-        ensures noted { self.new.history ≡ self.old.history ++ call seat (arc_value key.now) Released ∷ [] }
+        ensures noted { self.new.history ≡ self.old.history ++ call seat (arc_value key.now)
+            Released ∷ [] }
         ensures fonts { self.new.fonts ≡ self.old.fonts }
         ensures reached { IsReached self.new }
         ensures stands { (part : Common) → StateStands T.stands_for self.old part
@@ -271,7 +282,7 @@ impl<T: Stands> CacheState<T> {
         self.turns
     }
 
-    /// The accepted calls, in order, which are a legal history. The fonts are let go.
+    /// The accepted calls, in order, which are a legal history. The fonts are dropped.
     pub fn finish(self) -> Vec<Entry>
         ensures history { calls_of result.items ≡ self.history }
         ensures reached { IsReached self }

@@ -1,8 +1,9 @@
-//! Measures how many look-ups a second the seats of one font cache make together, each in a thread of its own, and beside
-//! it the same for one cache under std's `Mutex`. Every look-up asks for the one font that is there.
+//! Measures how many look-ups a second the seats of one font cache make together, each in a thread
+//! of its own, and beside it the same for one cache under std's `Mutex`. Every look-up asks for the
+//! one font that is there.
 //!
-//! `cache_seats MILLISECONDS` prints a line for each number of seats and each amount of work between two look-ups;
-//! `cache_seats ends` makes short runs, and prints that they ended.
+//! `cache_seats MILLISECONDS` prints a line for each number of seats and each amount of work
+//! between two look-ups; `cache_seats ends` makes short runs, and prints that they ended.
 #![tactic(auto)]
 
 mod font;
@@ -29,7 +30,7 @@ const WORK: [u64; 4] = [0, 10, 35, 300];
 // How many milliseconds a short run takes.
 const SHORT: u64 = 2;
 
-// How many look-ups a second so many seats make together, by turns and under a mutex.
+// How many look-ups a second n seats make together, by turns and under a mutex.
 fn rates<R: Threads + Wait + Sync + Clock>(
     rt: &R,
     alloc: Global,

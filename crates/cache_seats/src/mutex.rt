@@ -90,7 +90,7 @@ fn all_look_ups<R: Threads + Wait + Sync>(
     );
 }
 
-/// How many look-ups a second so many threads make together.
+/// How many look-ups a second n threads make together.
 pub(crate) fn rate<R: Threads + Wait + Sync + Clock>(
     rt: &R,
     alloc: Global,

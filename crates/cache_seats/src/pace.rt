@@ -22,7 +22,7 @@ pub(crate) struct Pace {
     steps: u64,
 }
 
-// So many steps, each of which needs the one before it.
+// n steps, each of which needs the one before it.
 fn steps_from(start: u64, steps: u64) -> u64 {
     let mut x = start;
     for _ in 0..steps {
@@ -51,7 +51,7 @@ pub(crate) fn steps_a_microsecond<C: Clock>(clock: &C) -> io::Result<u64>
 }
 
 impl Pace {
-    /// A run of so many seats, with so many steps of work between two look-ups.
+    /// A run of n seats, with n steps of work between two look-ups.
     pub(crate) fn new(seats: u32, steps: u64) -> Pace {
         Pace {
             all: seats.saturating_add(1),
@@ -84,7 +84,7 @@ impl Pace {
         steps_from(x, self.steps)
     }
 
-    /// So many look-ups were made.
+    /// n look-ups were made.
     pub(crate) fn note(&self, looks: u64, x: u64) {
         self.looks.fetch_add(looks, Ordering::SeqCst);
         self.sum.fetch_add(x, Ordering::SeqCst);

@@ -51,7 +51,8 @@ fn all_look_ups<R: Threads + Wait + Sync>(
     pace: &Pace,
     all: u32,
 )
-    requires seats { All (λ s. (s.lock ≡ cache.now) × (s.view.stage ≡ Idle) × (s.view.drawn ≡ 0) × (open_claim (own s.view.number s.view.seen) ≡ None)) seats.items }
+    requires seats { All (λ s. (s.lock ≡ cache.now) × (s.view.stage ≡ Idle) × (s.view.drawn ≡ 0) ×
+        (open_claim (own s.view.number s.view.seen) ≡ None)) seats.items }
     requires some { 0 < all }
 {
     let mut seats = seats;
@@ -60,7 +61,9 @@ fn all_look_ups<R: Threads + Wait + Sync>(
         &mut seats,
         all as usize,
         &|_, seat: &mut CacheSeat<Blank>|
-            requires { (seat.old.lock ≡ cache.now) × (seat.old.view.stage ≡ Idle) × (seat.old.view.drawn ≡ 0) × (open_claim (own seat.old.view.number seat.old.view.seen) ≡ None) }
+            requires { (seat.old.lock ≡ cache.now) × (seat.old.view.stage ≡ Idle)
+                × (seat.old.view.drawn ≡ 0)
+                × (open_claim (own seat.old.view.number seat.old.view.seen) ≡ None) }
         {
             look_ups(rt, cache, seat, key, pace);
         },
@@ -76,7 +79,9 @@ fn split_off(
     requires lock { first.old.lock ≡ cache.now }
     requires first { (first.old.view.number ≡ 0) × (first.old.view.made ≡ 1) }
     requires few { all ≤ 1000 }
-    ensures seats { IfSome result (λ seats. All (λ s. (s.lock ≡ cache.now) × (s.view.stage ≡ Idle) × (s.view.drawn ≡ 0) × (open_claim (own s.view.number s.view.seen) ≡ None)) seats.items) }
+    ensures seats { IfSome result
+        (λ seats. All (λ s. (s.lock ≡ cache.now) × (s.view.stage ≡ Idle) × (s.view.drawn ≡ 0) ×
+        (open_claim (own s.view.number s.view.seen) ≡ None)) seats.items) }
 {
     let mut seats = Vec::new(alloc);
     for _i in 0..all {
@@ -86,7 +91,7 @@ fn split_off(
     Some(seats)
 }
 
-/// How many look-ups a second so many seats of one cache make together.
+/// How many look-ups a second n seats of one cache make together.
 pub(crate) fn rate<R: Threads + Wait + Sync + Clock>(
     rt: &R,
     alloc: Global,
@@ -110,7 +115,8 @@ pub(crate) fn rate<R: Threads + Wait + Sync + Clock>(
         rt,
         || by.end_after(rt, time),
         move ||
-            requires { All (λ s. (s.lock ≡ cache.now) × (s.view.stage ≡ Idle) × (s.view.drawn ≡ 0) × (open_claim (own s.view.number s.view.seen) ≡ None)) seats.items × (0 < all) }
+            requires { All (λ s. (s.lock ≡ cache.now) × (s.view.stage ≡ Idle) × (s.view.drawn ≡ 0) ×
+                (open_claim (own s.view.number s.view.seen) ≡ None)) seats.items × (0 < all) }
         {
             all_look_ups(rt, cache, seats, key, by, all);
         },

@@ -177,6 +177,6 @@ abbrev pub settings_among : ℕ → List Use → Option Settings
 settings_among workers us = if are_distinct us && list_all (is_in_range us) choices
     && nat_le (number_or 1 (codes "workers") us) workers then Some (settings_from us) else None
 
--- the settings that the arguments give with so many workers at hand, or none
+-- the settings that the arguments give with n workers at hand, or none
 unfoldable pub settings_of : ℕ → List Text → Option Settings
 settings_of workers arguments = option_and_then (settings_among workers) (uses_of arguments)

@@ -64,7 +64,7 @@ fn within(number: Option<u32>, least: u32, most: u32) -> bool
     }
 }
 
-/// The settings of a line, where each number lies in its range and there are so many workers.
+/// The settings of a line, where each number lies in its range and there are n workers.
 #[tactic(auto, unfolding(crate::specs::Settings::default_settings))]
 pub fn settings(given: &Given, workers: usize) -> Option<Settings>
     ensures { result ≡ (if are_allowed workers given.now then Some (settings_with given.now)

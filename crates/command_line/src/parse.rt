@@ -30,7 +30,7 @@ impl From<AllocError> for LineStop {
     }
 }
 
-/// The settings that `words`, the arguments after the program's name, give where there are so many
+/// The settings that `words`, the arguments after the program's name, give where there are n
 /// `workers`.
 ///
 /// A line is a list of options in any order, each at most once, and nothing else: `--res`,

@@ -129,7 +129,8 @@ held_at_v c r v place held small bounded = record {
   near = record { across = held.near.across; down = near_drifted place (round c v) };
 }
 
--- what the code makes at a new h, where `dots` is the rounded h and `hh` the column after the drift rule; and at a new v
+-- what the code makes at a new h, where `dots` is the rounded h and `hh` the column after the drift
+-- rule; and at a new v
 pub at_h_kept : (c : Fraction) (r : Registers) (h column dots hh : ℤ) → AreHeld c r → unsigned_abs h ≤ 2147483647 → unsigned_abs column ≤ 2 ^ 42
     → dots ≡ round c (to_z w64 (of_z w64 h)) → unsigned_abs dots ≤ 512 * unsigned_abs (to_z w64 (of_z w64 h)) + 1
     → hh ≡ drifted (to_z w64 (of_z w64 column)) (to_z w64 (of_z w64 dots))

@@ -111,7 +111,8 @@ after_other n f flats p q h first rest e =
     let many = counted_other f first p q in
     omega (arith, all, many.pushes, many.pops)
 
--- of the saved sets those below stay, and above them there is one more for each push and one less for each pop
+-- of the saved sets those below stay, and above them there is one more for each push and one less
+-- for each pop
 pub record Stays (t : State) (flats : List FlatCommand) (above below : List Registers) : Type 0 where
   pub more : List Registers
   pub is : t.saved ≡ more ++ below

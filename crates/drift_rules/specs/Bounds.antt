@@ -58,7 +58,8 @@ pub record IsHeldState (c : Fraction) (s : State) : Type 0 where
 abbrev pub IsWithinReach : ℤ → Type 0
 IsWithinReach z = unsigned_abs z + 2 ^ 20 ≤ 2 ^ 42
 
--- a row or a column so near that it stays there where the offset of a glyph, a number of four bytes, is taken away too
+-- a row or a column so near that it stays there where the offset of a glyph, a number of four
+-- bytes, is taken away too
 abbrev pub IsPlaceable : ℤ → Type 0
 IsPlaceable z = unsigned_abs z + 2 ^ 32 ≤ 2 ^ 42
 

@@ -3,4 +3,4 @@ pub mod Marks
 pub mod Bounds
 pub mod Stack
 pub mod Stops
-pub mod Rows
+pub mod Examples

@@ -1,5 +1,5 @@
--- How one flat command moves the registers: Knuth, DVItype, "Translation to symbolic form" (hh, vv, max_drift and out_space; push and
--- pop).
+-- How one flat command moves the registers: Knuth, DVItype, "Translation to symbolic form" (hh, vv,
+-- max_drift and out_space; push and pop).
 use Rattle.std.specs.Prelude.{◌≡◌, ℕ, ◌≤◌, ℤ, pos, negsuc, ◌+ℤ◌, ◌-ℤ◌, ◌*ℤ◌, unsigned_abs, Bool, true, false, ◌||◌, List, [], ◌∷◌, length, nat_le, int_le, int_lt, if◌then◌else◌, Result, Ok, Err}
 use Rattle.std.specs.List.{AllByRecursion}
 use Rattle.std.specs.Arc.{arc_value}
@@ -11,8 +11,8 @@ use Rattle.drift_rules.specs.declared.flat.Flat.TheVariants as code
 use Rattle.drift_rules.specs.declared.faults.PenFault.{PenFault}
 use Rattle.drift_rules.specs.declared.faults.PenFault.TheVariants.{Overflow, StackEmpty, StackDeep}
 
--- a flat command, with all that it names as a value: a character's font, code, width and whether it is put, a rule's height, width and
--- whether it is put, a motion and the space
+-- a flat command, with all that it names as a value: a character's font, code, width and whether it
+-- is put, a rule's height, width and whether it is put, a motion and the space
 pub data FlatCommand : Type 0 where
   Skip : FlatCommand
   Char : FontKey → ℕ → ℤ → Bool → FlatCommand
@@ -39,7 +39,16 @@ pub record State : Type 0 where
   pub saved : List Registers
 
 abbrev pub zeros : Registers
-zeros = record { h = pos 0; v = pos 0; w = pos 0; x = pos 0; y = pos 0; z = pos 0; hh = pos 0; vv = pos 0 }
+zeros = record {
+  h = pos 0;
+  v = pos 0;
+  w = pos 0;
+  x = pos 0;
+  y = pos 0;
+  z = pos 0;
+  hh = pos 0;
+  vv = pos 0;
+}
 
 -- a pen: the conversion that it keeps, and the state that it is in
 pub record PenView : Type 0 where
@@ -76,13 +85,15 @@ at_h c r h place = record r { h = h; hh = drifted place (round c h) }
 abbrev pub at_v : Fraction → Registers → ℤ → ℤ → Registers
 at_v c r v place = record r { v = v; vv = drifted place (round c v) }
 
--- right by p, where the pixel place moves by the rounded motion or is rounded anew; the registers take `r` for what they were, so
--- that a motion that also sets w or x has set it
+-- right by p, where the pixel place moves by the rounded motion or is rounded anew; the registers
+-- take `r` for what they were, so that a motion that also sets w or x has set it
 abbrev pub moved_right : Fraction → Registers → ℤ → ℤ → Registers
-moved_right c r p space = at_h c r (r.h +ℤ p) (if is_word_space p space then round c (r.h +ℤ p) else r.hh +ℤ round c p)
+moved_right c r p space =
+    at_h c r (r.h +ℤ p) (if is_word_space p space then round c (r.h +ℤ p) else r.hh +ℤ round c p)
 
 abbrev pub moved_down : Fraction → Registers → ℤ → ℤ → Registers
-moved_down c r p space = at_v c r (r.v +ℤ p) (if is_line_space p space then round c (r.v +ℤ p) else r.vv +ℤ round c p)
+moved_down c r p space =
+    at_v c r (r.v +ℤ p) (if is_line_space p space then round c (r.v +ℤ p) else r.vv +ℤ round c p)
 
 -- over a character or a rule of a width, whose pixels are given
 abbrev pub moved_over : Fraction → Registers → ℤ → ℤ → Registers
@@ -99,7 +110,8 @@ abbrev pub down_by : Fraction → State → Registers → ℤ → ℤ → Result
 down_by c s set p space = if_held (s.now.v +ℤ p) (record s { now = moved_down c set p space })
 
 abbrev pub over : Fraction → State → ℤ → ℤ → Result State PenFault
-over c s width pixels = if_held (s.now.h +ℤ width) (record s { now = moved_over c s.now width pixels })
+over c s width pixels =
+    if_held (s.now.h +ℤ width) (record s { now = moved_over c s.now width pixels })
 
 -- how many sets of registers may be saved
 abbrev pub MAX_SAVED : ℕ
@@ -107,13 +119,16 @@ MAX_SAVED = 1000
 
 -- all eight registers are saved, and these are the next
 abbrev pub saving : State → Registers → Result State PenFault
-saving s next = if nat_le MAX_SAVED (length s.saved) then Err StackDeep else Ok (record { now = next; saved = s.now ∷ s.saved })
+saving s next =
+    if nat_le MAX_SAVED (length s.saved) then Err StackDeep
+    else Ok (record { now = next; saved = s.now ∷ s.saved })
 
 -- the registers as a packet begins: where they were, with no motion remembered
 abbrev pub entered : Registers → Registers
 entered r = record r { w = pos 0; x = pos 0; y = pos 0; z = pos 0 }
 
--- all eight registers become those that were saved last, which are saved no longer; nothing is rounded
+-- all eight registers become those that were saved last, which are saved no longer; nothing is
+-- rounded
 abbrev pub restoring : List Registers → Result State PenFault
 restoring [] = Err StackEmpty
 restoring (r ∷ saved) = Ok (record { now = r; saved = saved })
@@ -187,8 +202,12 @@ pub record KeepsNear (c : Fraction) (s : State) : Type 0 where
 
 -- a step keeps it
 abbrev pub StepsKeepNear : Type 0
-StepsKeepNear = (c : Fraction) (s t : State) (f : FlatCommand) → KeepsNear c s → Step c s f t → KeepsNear c t
+StepsKeepNear =
+    (c : Fraction) (s t : State) (f : FlatCommand) → KeepsNear c s → Step c s f t → KeepsNear c t
 
--- so it holds in every state that a page reaches, whatever its commands and their spaces, and however they save and restore
+-- so it holds in every state that a page reaches, whatever its commands and their spaces, and
+-- however they save and restore
 abbrev pub PagesKeepNear : Type 0
-PagesKeepNear = (c : Fraction) (flats : List FlatCommand) (t : State) → Leads c at_origin flats t → KeepsNear c t
+PagesKeepNear =
+    (c : Fraction) (flats : List FlatCommand) (t : State) → Leads c at_origin flats t
+    → KeepsNear c t

@@ -2,21 +2,23 @@
 use outside::FontKey;
 use std::sync::Arc;
 
-/// A command of a page in which every virtual character is expanded. Lengths and motions are in DVI units; `space` is the size
-/// of the font that is current where the command stands, divided by 6 and rounded down, and 0 where none is.
+/// A command of a page in which every virtual character is expanded. Lengths and motions are in DVI
+/// units; `space` is the size of the font that is current where the command stands, divided by 6
+/// and rounded down, and 0 where none is.
 #[derive(Debug, Drop)]
 pub enum Flat {
     /// Nothing: a command that moves and marks nothing.
     Skip,
-    /// A character of the font with this key, with its reference point at the present place. A character that is put, not set,
-    /// moves nothing; `width` is its width.
+    /// A character of the font with this key, with its reference point at the present place. A
+    /// character that is put, not set, moves nothing; `width` is its width.
     Char {
         key: Arc<FontKey>,
         code: u8,
         width: i64,
         put: bool,
     },
-    /// A rule with its lower left corner at the present place. A rule that is put, not set, moves nothing.
+    /// A rule with its lower left corner at the present place. A rule that is put, not set, moves
+    /// nothing.
     Rule {
         height: i64,
         width: i64,
@@ -70,7 +72,8 @@ pub enum Flat {
     },
     /// All eight registers are saved, and stay as they are.
     Push,
-    /// All eight registers become those that were saved last, which are saved no longer. Nothing is rounded.
+    /// All eight registers become those that were saved last, which are saved no longer. Nothing is
+    /// rounded.
     Pop,
     /// The packet of a virtual character begins: all eight registers are saved, and w, x, y and z
     /// become 0.
@@ -90,7 +93,8 @@ pub enum Flat {
 pub enum Mark {
     /// The character's glyph, with its reference point at this dot.
     Char { hh: i64, vv: i64 },
-    /// A black rectangle of `w` columns and `h` rows, at least one of each, with its upper left dot at column `x` and row `y`.
+    /// A black rectangle of `w` columns and `h` rows, at least one of each, with its upper left dot
+    /// at column `x` and row `y`.
     Rule { x: i64, y: i64, w: i64, h: i64 },
 }
 

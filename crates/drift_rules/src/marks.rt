@@ -26,7 +26,8 @@ pub(crate) fn mark_at(conv: &Conv, now: Registers, flat: &Flat) -> Option<Mark>
     }
 }
 
-// The rectangle of a rule that has its lower left corner at the present place, where both of its sides are above zero.
+// The rectangle of a rule that has its lower left corner at the present place, where both of its
+// sides are above zero.
 #[inline(never)]
 fn rule_at(conv: &Conv, now: Registers, height: i64, width: i64) -> Option<Mark>
     requires held { AreHeld conv.now now }

@@ -24,10 +24,12 @@ pub(crate) fn moved(conv: &Conv, now: Registers, flat: &Flat) -> Result<Register
     requires reach { IsInReach (seen_flat flat.now) }
     requires no_push { is_push (seen_flat flat.now) ≡ false }
     requires no_pop { is_pop (seen_flat flat.now) ≡ false }
-    ensures after { IfOk result (λ r. (saved : List Registers) → after conv.now (record { now = now; saved = saved }) (seen_flat flat.now)
+    ensures after { IfOk result (λ r. (saved : List Registers) → after conv.now
+        (record { now = now; saved = saved }) (seen_flat flat.now)
         ≡ Ok (record { now = r; saved = saved })) }
     ensures overflow { IfErr result (λ e. (e ≡ PenFault.Overflow)
-        × ((saved : List Registers) → after conv.now (record { now = now; saved = saved }) (seen_flat flat.now) ≡ Err e)) }
+        × ((saved : List Registers) → after conv.now (record { now = now; saved = saved })
+        (seen_flat flat.now) ≡ Err e)) }
     ensures held { IfOk result (AreHeld conv.now) }
 {
     match flat {
@@ -65,7 +67,8 @@ fn right(conv: &Conv, now: Registers, by: i64, space: i64) -> Result<Registers, 
     requires held { AreHeld conv.now now }
     requires number { IsNumber by }
     requires space { IsSpace space }
-    ensures moved { IfOk result (λ r. IsTrue (is_held (now.h +ℤ by)) × (r ≡ moved_right conv.now now by space)) }
+    ensures moved { IfOk result (λ r. IsTrue (is_held (now.h +ℤ by)) ×
+        (r ≡ moved_right conv.now now by space)) }
     ensures overflow { IfErr result (λ e. (is_held (now.h +ℤ by) ≡ false) × (e ≡ PenFault.Overflow)) }
     ensures held { IfOk result (AreHeld conv.now) }
 {
@@ -82,7 +85,8 @@ fn down(conv: &Conv, now: Registers, by: i64, space: i64) -> Result<Registers, P
     requires held { AreHeld conv.now now }
     requires number { IsNumber by }
     requires space { IsSpace space }
-    ensures moved { IfOk result (λ r. IsTrue (is_held (now.v +ℤ by)) × (r ≡ moved_down conv.now now by space)) }
+    ensures moved { IfOk result (λ r. IsTrue (is_held (now.v +ℤ by)) ×
+        (r ≡ moved_down conv.now now by space)) }
     ensures overflow { IfErr result (λ e. (is_held (now.v +ℤ by) ≡ false) × (e ≡ PenFault.Overflow)) }
     ensures held { IfOk result (AreHeld conv.now) }
 {
@@ -104,8 +108,10 @@ pub(crate) fn over(
     requires held { AreHeld conv.now now }
     requires number { IsNumber width }
     requires dots { unsigned_abs dots ≤ 2 ^ 41 }
-    ensures moved { IfOk result (λ r. IsTrue (is_held (now.h +ℤ width)) × (r ≡ moved_over conv.now now width dots)) }
-    ensures overflow { IfErr result (λ e. (is_held (now.h +ℤ width) ≡ false) × (e ≡ PenFault.Overflow)) }
+    ensures moved { IfOk result (λ r. IsTrue (is_held (now.h +ℤ width)) ×
+        (r ≡ moved_over conv.now now width dots)) }
+    ensures overflow { IfErr result (λ e. (is_held (now.h +ℤ width) ≡ false) ×
+        (e ≡ PenFault.Overflow)) }
     ensures held { IfOk result (AreHeld conv.now) }
 {
     let h = now.h + width;
@@ -115,14 +121,16 @@ pub(crate) fn over(
     Ok(at_column(conv, now, h, now.hh + dots))
 }
 
-// The column after a motion right to h, before the drift rule: rounded anew, or grown by the rounded motion.
+// The column after a motion right to h, before the drift rule: rounded anew, or grown by the
+// rounded motion.
 #[inline(always)]
 fn column_right(conv: &Conv, now: Registers, h: i64, by: i64, space: i64) -> i64
     requires held { AreHeld conv.now now }
     requires h { IsNumber h }
     requires number { IsNumber by }
     requires space { IsSpace space }
-    ensures value { result ≡ (if is_word_space by space then round conv.now h else now.hh +ℤ round conv.now by) }
+    ensures value { result ≡ (if is_word_space by space then round conv.now h else now.hh
+        +ℤ round conv.now by) }
     ensures bounded { unsigned_abs result ≤ 2 ^ 42 }
 {
     if is_word_space(by, space) {
@@ -139,7 +147,8 @@ fn row_down(conv: &Conv, now: Registers, v: i64, by: i64, space: i64) -> i64
     requires v { IsNumber v }
     requires number { IsNumber by }
     requires space { IsSpace space }
-    ensures value { result ≡ (if is_line_space by space then round conv.now v else now.vv +ℤ round conv.now by) }
+    ensures value { result ≡ (if is_line_space by space then round conv.now v else now.vv
+        +ℤ round conv.now by) }
     ensures bounded { unsigned_abs result ≤ 2 ^ 42 }
 {
     if is_line_space(by, space) {

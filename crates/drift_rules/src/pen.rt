@@ -32,13 +32,15 @@ impl Model for Pen {
 
     ghost Value = { PenView };
 
-    ghost view = { λ p. record { conv = p.conv; state = record { now = p.registers; saved = p.saved } } };
+    ghost view = { λ p.
+        record { conv = p.conv; state = record { now = p.registers; saved = p.saved } } };
 
     ghost invariant = { λ p. IsHeldState p.conv (record { now = p.registers; saved = p.saved }) };
 }
 
 impl Pen {
-    /// A pen at the upper left corner of a page, with all registers 0 and none saved. It takes no memory before the first push.
+    /// A pen at the upper left corner of a page, with all registers 0 and none saved. It takes no
+    /// memory before the first push.
     pub fn new(alloc: Global, conv: Conv) -> Pen
         ensures { result ≡ record { conv = conv; state = at_origin } }
     {
@@ -58,25 +60,32 @@ impl Pen {
         }
     }
 
-    /// Takes one command, and answers with the mark that it makes at the place before it, if it makes one.
+    /// Takes one command, and answers with the mark that it makes at the place before it, if it
+    /// makes one.
     ///
-    /// The command's lengths and motions are numbers of four bytes, and a space is from 0 to 2^27. `Overflow` is answered exactly
-    /// where h or v would leave -2147483647..2147483647, `StackDeep` exactly at a push or a packet's beginning where 1000 sets of
-    /// registers are saved, and `StackEmpty` exactly at a pop or a packet's end where none is saved. `NoMemory` comes only at a push
-    /// or a packet's beginning that has no fault. After each of them the pen is as it was.
+    /// The command's lengths and motions are numbers of four bytes, and a space is from 0 to 2^27.
+    /// `Overflow` is answered exactly where h or v would leave -2147483647..2147483647, `StackDeep`
+    /// exactly at a push or a packet's beginning where 1000 sets of registers are saved, and
+    /// `StackEmpty` exactly at a pop or a packet's end where none is saved. `NoMemory` comes only
+    /// at a push or a packet's beginning that has no fault. After each of them the pen is as it
+    /// was.
     ///
     /// Knuth, DVItype, "Translation to symbolic form".
     #[inline(always)]
     pub fn step(&mut self, flat: &Flat) -> Result<Option<Mark>, PenStop>
         requires { IsInReach (seen_flat flat.now) }
 
-        // The state is the one that the rules give, and the mark is the one at the registers before the command.
-        ensures moved { IfOk result (λ _. after self.old.conv self.old.state (seen_flat flat.now) ≡ Ok self.new.state) }
-        ensures marked { IfOk result (λ mark. mark ≡ mark_of self.old.conv self.old.state.now (seen_flat flat.now)) }
+        // The state is the one that the rules give, and the mark is the one at the registers before
+        // the command.
+        ensures moved { IfOk result (λ _. after self.old.conv self.old.state (seen_flat flat.now)
+            ≡ Ok self.new.state) }
+        ensures marked { IfOk result (λ mark. mark ≡ mark_of self.old.conv self.old.state.now
+            (seen_flat flat.now)) }
         ensures paintable { IfOk result (λ mark. IfSome mark IsPaintable) }
         ensures same_conversion { self.new.conv ≡ self.old.conv }
 
-        // A fault is the one that the rules name, and only what saves registers may want memory. No stop changes anything.
+        // A fault is the one that the rules name, and only what saves registers may want memory. No
+        // stop changes anything.
         ensures fault { (fault : PenFault) → (result ≡ Err (PenStop.Fault fault))
             ↔ (after self.old.conv self.old.state (seen_flat flat.now) ≡ Err fault) }
         ensures memory { result ≡ Err PenStop.NoMemory → IsTrue (is_push (seen_flat flat.now)) }
@@ -90,8 +99,8 @@ impl Pen {
         Ok(mark)
     }
 
-    /// Sets a character of a width, and answers with its mark: what `step` does at a character that is set,
-    /// whatever its font and its code are.
+    /// Sets a character of a width, and answers with its mark: what `step` does at a character that
+    /// is set, whatever its font and its code are.
     #[inline(always)]
     pub fn set(&mut self, width: i64) -> Result<Mark, PenFault>
         requires { IsNumber width }
@@ -120,9 +129,11 @@ impl Pen {
     #[inline(always)]
     fn change(&mut self, flat: &Flat) -> Result<(), PenStop>
         requires { IsInReach (seen_flat flat.now) }
-        ensures moved { IfOk result (λ _. after self.old.conv self.old.state (seen_flat flat.now) ≡ Ok self.new.state) }
+        ensures moved { IfOk result (λ _. after self.old.conv self.old.state (seen_flat flat.now)
+            ≡ Ok self.new.state) }
         ensures same_conversion { self.new.conv ≡ self.old.conv }
-        ensures stop { IfErr result (Stops (after self.old.conv self.old.state (seen_flat flat.now)) (seen_flat flat.now)) }
+        ensures stop { IfErr result (Stops (after self.old.conv self.old.state (seen_flat flat.now))
+            (seen_flat flat.now)) }
         ensures unchanged { OnErr result (self.new ≡ self.old) }
     {
         match flat {
@@ -135,7 +146,8 @@ impl Pen {
 
     // Saves the registers.
     fn push(&mut self) -> Result<(), PenStop>
-        ensures moved { IfOk result (λ _. after self.old.conv self.old.state Push ≡ Ok self.new.state) }
+        ensures moved { IfOk result (λ _. after self.old.conv self.old.state Push
+            ≡ Ok self.new.state) }
         ensures same_conversion { self.new.conv ≡ self.old.conv }
         ensures stop { IfErr result (Stops (after self.old.conv self.old.state Push) Push) }
         ensures unchanged { OnErr result (self.new ≡ self.old) }
@@ -145,7 +157,8 @@ impl Pen {
 
     // Saves the registers; w, x, y and z become 0, as a packet begins.
     fn enter(&mut self) -> Result<(), PenStop>
-        ensures moved { IfOk result (λ _. after self.old.conv self.old.state Enter ≡ Ok self.new.state) }
+        ensures moved { IfOk result (λ _. after self.old.conv self.old.state Enter
+            ≡ Ok self.new.state) }
         ensures same_conversion { self.new.conv ≡ self.old.conv }
         ensures stop { IfErr result (Stops (after self.old.conv self.old.state Enter) Enter) }
         ensures unchanged { OnErr result (self.new ≡ self.old) }
@@ -160,7 +173,8 @@ impl Pen {
 
     // Restores the registers that were saved last.
     fn pop(&mut self) -> Result<(), PenStop>
-        ensures moved { IfOk result (λ _. after self.old.conv self.old.state Pop ≡ Ok self.new.state) }
+        ensures moved { IfOk result (λ _. after self.old.conv self.old.state Pop
+            ≡ Ok self.new.state) }
         ensures same_conversion { self.new.conv ≡ self.old.conv }
         ensures stop { IfErr result (Stops (after self.old.conv self.old.state Pop) Pop) }
         ensures unchanged { OnErr result (self.new ≡ self.old) }
@@ -180,9 +194,11 @@ impl Pen {
         requires reach { IsInReach (seen_flat flat.now) }
         requires no_push { is_push (seen_flat flat.now) ≡ false }
         requires no_pop { is_pop (seen_flat flat.now) ≡ false }
-        ensures moved { IfOk result (λ _. after self.old.conv self.old.state (seen_flat flat.now) ≡ Ok self.new.state) }
+        ensures moved { IfOk result (λ _. after self.old.conv self.old.state (seen_flat flat.now)
+            ≡ Ok self.new.state) }
         ensures same_conversion { self.new.conv ≡ self.old.conv }
-        ensures stop { IfErr result (Stops (after self.old.conv self.old.state (seen_flat flat.now)) (seen_flat flat.now)) }
+        ensures stop { IfErr result (Stops (after self.old.conv self.old.state (seen_flat flat.now))
+            (seen_flat flat.now)) }
         ensures unchanged { OnErr result (self.new ≡ self.old) }
     {
         match moved(&self.conv, self.registers, flat) {

@@ -39,8 +39,10 @@ impl Saved {
     // `StackDeep` is judged before any memory is asked for.
     pub(crate) fn push(&mut self, registers: Registers) -> Result<(), PenStop>
         ensures saved { IfOk result (λ _. self.new ≡ registers ∷ self.old) }
-        ensures deep { (result ≡ Err (PenStop.Fault PenFault.StackDeep)) ↔ (MAX_SAVED ≤ length self.old) }
-        ensures only { IfErr result (λ stop. (stop ≡ PenStop.Fault PenFault.StackDeep) ⊎ (stop ≡ PenStop.NoMemory)) }
+        ensures deep { (result ≡ Err (PenStop.Fault PenFault.StackDeep))
+            ↔ (MAX_SAVED ≤ length self.old) }
+        ensures only { IfErr result (λ stop. (stop ≡ PenStop.Fault PenFault.StackDeep) ⊎
+            (stop ≡ PenStop.NoMemory)) }
         ensures unchanged { OnErr result (self.new ≡ self.old) }
     {
         if self.sets.len() >= MAX_DEPTH {

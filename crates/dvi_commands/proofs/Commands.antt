@@ -13,8 +13,8 @@ use Rattle.dvi_commands.proofs.Prefix.{size-spelling, no_spelling_begins_another
 use Rattle.dvi_commands.proofs.Refusals.{spelled_is_not_refused, spelled_some}
 use Rattle.dvi_commands.proofs.Told.{spelling_tells_the_command, told_by_bytes}
 
-abbrev front_placed : ℕ → List ℕ → ℕ → Placed
-front_placed at bytes size = placed at (command_of (take size bytes)) (take size bytes)
+abbrev prefix_placed : ℕ → List ℕ → ℕ → Placed
+prefix_placed at bytes size = placed at (command_of (take size bytes)) (take size bytes)
 
 shorter : (b : ℕ) (bytes : List ℕ) (n : ℕ) → length (b ∷ bytes) ≤ suc n → length (drop (size_of (b ∷ bytes)) (b ∷ bytes)) ≤ n
 shorter b bytes n h =
@@ -30,7 +30,7 @@ placed_enough zero (suc n) at (b ∷ bytes) h k = absurd (omega arith)
 placed_enough (suc m) zero at (b ∷ bytes) h k = absurd (omega arith)
 placed_enough (suc m) (suc n) at (b ∷ bytes) h k =
     let size = size_of (b ∷ bytes) in
-    ap (λ (xs : List Placed). front_placed at (b ∷ bytes) size ∷ xs) (placed_enough m n (at + size) (drop size (b ∷ bytes)) (shorter b bytes m h) (shorter b bytes n k))
+    ap (λ (xs : List Placed). prefix_placed at (b ∷ bytes) size ∷ xs) (placed_enough m n (at + size) (drop size (b ∷ bytes)) (shorter b bytes m h) (shorter b bytes n k))
 
 commands_enough : (m n : ℕ) (bytes : List ℕ) → length bytes ≤ m → length bytes ≤ n → commands_in m bytes ≡ commands_in n bytes
 commands_enough zero zero bytes h k = refl
@@ -53,40 +53,40 @@ unfolding commands_of
 commands_none = refl
 
 -- the first command of bytes that begin with its spelling
-first_is : (at : ℕ) (c : DviCommand) (front rest : List ℕ) (size : ℕ) → Spells c front → length front ≡ size → front_placed at (front ++ rest) size ≡ placed at c front
-first_is at c front rest size h e =
-    ap (λ (bytes : List ℕ). placed at (command_of bytes) bytes) (take_at front rest size e)
-    ∙ ap (λ (d : DviCommand). placed at d front) (sym (told_by_bytes c front h))
+first_is : (at : ℕ) (c : DviCommand) (prefix rest : List ℕ) (size : ℕ) → Spells c prefix → length prefix ≡ size → prefix_placed at (prefix ++ rest) size ≡ placed at c prefix
+first_is at c prefix rest size h e =
+    ap (λ (bytes : List ℕ). placed at (command_of bytes) bytes) (take_at prefix rest size e)
+    ∙ ap (λ (d : DviCommand). placed at d prefix) (sym (told_by_bytes c prefix h))
 
 pub placed_first : PlacedFirst
 unfolding placed_from
 placed_first at c [] rest h = absurd (omega (arith, spelled_some c [] h))
-placed_first at c (b ∷ front) rest h =
-    let whole = b ∷ (front ++ rest) in
-    let size : size_of whole ≡ length (b ∷ front) = size-spelling c (b ∷ front) rest h in
-    let behind : drop (size_of whole) whole ≡ rest = drop_at (b ∷ front) rest (size_of whole) (sym size) in
-    let room : length rest ≤ length (front ++ rest) = omega (arith, length-append front rest) in
-    let step : placed_from at whole ≡ front_placed at whole (size_of whole) ∷ placed_in (length (front ++ rest)) (at + size_of whole) (drop (size_of whole) whole) = refl in
+placed_first at c (b ∷ prefix) rest h =
+    let whole = b ∷ (prefix ++ rest) in
+    let size : size_of whole ≡ length (b ∷ prefix) = size-spelling c (b ∷ prefix) rest h in
+    let after : drop (size_of whole) whole ≡ rest = drop_at (b ∷ prefix) rest (size_of whole) (sym size) in
+    let room : length rest ≤ length (prefix ++ rest) = omega (arith, length-append prefix rest) in
+    let step : placed_from at whole ≡ prefix_placed at whole (size_of whole) ∷ placed_in (length (prefix ++ rest)) (at + size_of whole) (drop (size_of whole) whole) = refl in
     step
-    ∙ ap (λ (p : Placed). p ∷ placed_in (length (front ++ rest)) (at + size_of whole) (drop (size_of whole) whole)) (first_is at c (b ∷ front) rest (size_of whole) h (sym size))
-    ∙ ap (λ (xs : List ℕ). placed at c (b ∷ front) ∷ placed_in (length (front ++ rest)) (at + size_of whole) xs) behind
-    ∙ ap (λ (n : ℕ). placed at c (b ∷ front) ∷ placed_in (length (front ++ rest)) (at + n) rest) size
-    ∙ ap (λ (xs : List Placed). placed at c (b ∷ front) ∷ xs) (placed_enough (length (front ++ rest)) (length rest) (at + length (b ∷ front)) rest room (omega arith))
+    ∙ ap (λ (p : Placed). p ∷ placed_in (length (prefix ++ rest)) (at + size_of whole) (drop (size_of whole) whole)) (first_is at c (b ∷ prefix) rest (size_of whole) h (sym size))
+    ∙ ap (λ (xs : List ℕ). placed at c (b ∷ prefix) ∷ placed_in (length (prefix ++ rest)) (at + size_of whole) xs) after
+    ∙ ap (λ (n : ℕ). placed at c (b ∷ prefix) ∷ placed_in (length (prefix ++ rest)) (at + n) rest) size
+    ∙ ap (λ (xs : List Placed). placed at c (b ∷ prefix) ∷ xs) (placed_enough (length (prefix ++ rest)) (length rest) (at + length (b ∷ prefix)) rest room (omega arith))
 
 pub commands_first : CommandsFirst
 unfolding commands_of
 commands_first c [] rest h = absurd (omega (arith, spelled_some c [] h))
-commands_first c (b ∷ front) rest h =
-    let whole = b ∷ (front ++ rest) in
-    let size : size_of whole ≡ length (b ∷ front) = size-spelling c (b ∷ front) rest h in
-    let behind : drop (size_of whole) whole ≡ rest = drop_at (b ∷ front) rest (size_of whole) (sym size) in
-    let room : length rest ≤ length (front ++ rest) = omega (arith, length-append front rest) in
-    let command : command_of (take (size_of whole) whole) ≡ c = ap command_of (take_at (b ∷ front) rest (size_of whole) (sym size)) ∙ sym (told_by_bytes c (b ∷ front) h) in
-    let step : commands_of whole ≡ command_of (take (size_of whole) whole) ∷ commands_in (length (front ++ rest)) (drop (size_of whole) whole) = refl in
+commands_first c (b ∷ prefix) rest h =
+    let whole = b ∷ (prefix ++ rest) in
+    let size : size_of whole ≡ length (b ∷ prefix) = size-spelling c (b ∷ prefix) rest h in
+    let after : drop (size_of whole) whole ≡ rest = drop_at (b ∷ prefix) rest (size_of whole) (sym size) in
+    let room : length rest ≤ length (prefix ++ rest) = omega (arith, length-append prefix rest) in
+    let command : command_of (take (size_of whole) whole) ≡ c = ap command_of (take_at (b ∷ prefix) rest (size_of whole) (sym size)) ∙ sym (told_by_bytes c (b ∷ prefix) h) in
+    let step : commands_of whole ≡ command_of (take (size_of whole) whole) ∷ commands_in (length (prefix ++ rest)) (drop (size_of whole) whole) = refl in
     step
-    ∙ ap (λ (d : DviCommand). d ∷ commands_in (length (front ++ rest)) (drop (size_of whole) whole)) command
-    ∙ ap (λ (xs : List ℕ). c ∷ commands_in (length (front ++ rest)) xs) behind
-    ∙ ap (λ (xs : List DviCommand). c ∷ xs) (commands_enough (length (front ++ rest)) (length rest) rest room (omega arith))
+    ∙ ap (λ (d : DviCommand). d ∷ commands_in (length (prefix ++ rest)) (drop (size_of whole) whole)) command
+    ∙ ap (λ (xs : List ℕ). c ∷ commands_in (length (prefix ++ rest)) xs) after
+    ∙ ap (λ (xs : List DviCommand). c ∷ xs) (commands_enough (length (prefix ++ rest)) (length rest) rest room (omega arith))
 
 -- ---- reading on
 
@@ -96,16 +96,16 @@ parted bytes at end h =
     let sum : at + (end - at) ≡ end = omega arith in
     sym (take-append-drop (end - at) (drop at bytes)) ∙ ap (λ (xs : List ℕ). take (end - at) (drop at bytes) ++ xs) (drop-drop (end - at) at bytes ∙ ap (λ (k : ℕ). drop k bytes) sum)
 
-reads_behind : (place : Context) (commands : List DviCommand) (whole front rest : List ℕ) (c : DviCommand) → whole ≡ front ++ rest → Spells c front → AreCommands place commands whole → Reads place rest
-reads_behind place [] whole front rest c e h are =
-    let none : length (front ++ rest) ≡ 0 = ap length (sym e ∙ are) in
-    absurd (omega (arith, none, length-append front rest, spelled_some c front h))
-reads_behind place (d ∷ commands) whole front rest c e h are =
-    let same = no_spelling_begins_another c d front are.0 rest are.1 h are.2.spelled (sym e ∙ are.2.whole) in
+reads_after : (place : Context) (commands : List DviCommand) (whole prefix rest : List ℕ) (c : DviCommand) → whole ≡ prefix ++ rest → Spells c prefix → AreCommands place commands whole → Reads place rest
+reads_after place [] whole prefix rest c e h are =
+    let none : length (prefix ++ rest) ≡ 0 = ap length (sym e ∙ are) in
+    absurd (omega (arith, none, length-append prefix rest, spelled_some c prefix h))
+reads_after place (d ∷ commands) whole prefix rest c e h are =
+    let same = no_spelling_begins_another c d prefix are.0 rest are.1 h are.2.spelled (sym e ∙ are.2.whole) in
     record { commands = commands; are = subst (AreCommands place commands) (sym same.1) are.3 }
 
 pub reads_on : (place : Context) (bytes : List ℕ) (at end : ℕ) (c : DviCommand) → at < end → Spells c (slice_range bytes at end) → Reads place (drop at bytes) → Reads place (drop end bytes)
-reads_on place bytes at end c h spelled reads = reads_behind place reads.commands (drop at bytes) (slice_range bytes at end) (drop end bytes) c (parted bytes at end h) spelled reads.are
+reads_on place bytes at end c h spelled reads = reads_after place reads.commands (drop at bytes) (slice_range bytes at end) (drop end bytes) c (parted bytes at end h) spelled reads.are
 
 not_refused : (place : Context) (commands : List DviCommand) (bytes : List ℕ) → 0 < length bytes → AreCommands place commands bytes → refusal place bytes ≡ None
 not_refused place [] bytes some are = absurd (omega (arith, ap length are))
@@ -114,7 +114,7 @@ not_refused place (d ∷ commands) bytes some are = ap (refusal place) are.2.who
 pub never_refused : (place : Context) (bytes : List ℕ) (f : CommandFault) → 0 < length bytes → Reads place bytes → refusal place bytes ≡ Some f → ⊥
 never_refused place bytes f some reads e = let none = not_refused place reads.commands bytes some reads.are in cc
 
--- the command that was read, and those behind it
+-- the command that was read, and those after it
 pub placed_on : (bytes : List ℕ) (at end start : ℕ) (c : DviCommand) → at < end → end ≤ length bytes → Spells c (slice_range bytes at end)
     → placed_from start (drop at bytes) ≡ placed start c (slice_range bytes at end) ∷ placed_from (start + (end - at)) (drop end bytes)
 placed_on bytes at end start c h inside spelled =
@@ -130,7 +130,7 @@ commands_on bytes at end c h spelled = ap commands_of (parted bytes at end h) �
 pub written_is_read_back : WrittenIsReadBack
 written_is_read_back place c rest spelled allowed = (
   record { whole = refl; spelled = spelled; allowed = allowed },
-  λ d front more begins.
-      let same = no_spelling_begins_another d c front (shortest_spelling c) more rest begins.spelled spelled (sym begins.whole) in
+  λ d prefix more begins.
+      let same = no_spelling_begins_another d c prefix (shortest_spelling c) more rest begins.spelled spelled (sym begins.whole) in
       (spelling_tells_the_command d c (shortest_spelling c) (subst (Spells d) same.0 begins.spelled) spelled, same.0),
 )

@@ -9,10 +9,10 @@ use Rattle.dvi_commands.specs.Spelling.{IsNumber, quad}
 use Rattle.dvi_commands.specs.Reading.{signed_from}
 use Rattle.dvi_commands.proofs.Motions.{AreQuadsFrom}
 
-pub bytes_behind : (n : ℕ) (x : List ℕ) → AreBytes x → AreBytes (drop n x)
-bytes_behind zero x h = h
-bytes_behind (suc n) [] h = tt
-bytes_behind (suc n) (b ∷ x) h = bytes_behind n x h.1
+pub bytes_after : (n : ℕ) (x : List ℕ) → AreBytes x → AreBytes (drop n x)
+bytes_after zero x h = h
+bytes_after (suc n) [] h = tt
+bytes_after (suc n) (b ∷ x) h = bytes_after n x h.1
 
 pub bytes_before : (n : ℕ) (x : List ℕ) → AreBytes x → AreBytes (take n x)
 bytes_before zero x h = tt
@@ -31,10 +31,10 @@ pub quad_at : (i : ℕ) (fields : List ℕ) → AreBytes fields → i + 4 ≤ le
 quad_at i fields few room =
     let piece = take 4 (drop i fields) in
     let long = four_long i fields room in
-    let again = signed_is_written_again piece (bytes_before 4 (drop i fields) (bytes_behind i fields few)) (omega (arith, long)) (omega (arith, long)) in
+    let again = signed_is_written_again piece (bytes_before 4 (drop i fields) (bytes_after i fields few)) (omega (arith, long)) (omega (arith, long)) in
     (subst (λ k. IsSigned k (signed_of piece)) long again.1, subst (λ k. number_bytes k (signed_of piece) ≡ piece) long again.0)
 
--- so many numbers of four bytes, from a place on
+-- n numbers of four bytes, from a place on
 abbrev pub numbers_from : ℕ → ℕ → List ℕ → List ℤ
 numbers_from zero i fields = []
 numbers_from (suc n) i fields = signed_from fields i ∷ numbers_from n (i + 4) fields

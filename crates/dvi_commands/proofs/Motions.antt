@@ -14,9 +14,9 @@ use Rattle.dvi_commands.specs.Refusal.{fixed_size, text_size}
 -- a motion of a row, read from all bytes of the fields
 pub motion : (before op : ℕ) (fields text : List ℕ) (z w : ℤ) → IsRow before → before + 4 < 239 → before < op → op ≤ before + 4 → length fields ≡ fixed_size op → length text ≡ text_size op fields
     → w ≡ z → IsSigned (length fields) z → number_bytes (length fields) z ≡ fields → (n : ℕ) × IsMotion n w × (op ∷ (fields ++ text) ≡ with_number before n w)
-motion before op fields text z w row top low high whole behind same fits written =
+motion before op fields text z w row top low high whole after same fits written =
     let size : length fields ≡ op - before = whole ∙ row_size before op row low high in
-    let none : text ≡ [] = no_text op fields text (omega arith) behind in
+    let none : text ≡ [] = no_text op fields text (omega arith) after in
     let opcode : op ≡ before + length fields = omega arith in
     let bytes : fields ++ text ≡ number_bytes (length fields) w = ap (λ t. fields ++ t) none ∙ append-nil fields ∙ sym written ∙ ap (number_bytes (length fields)) (sym same) in
     (length fields, (omega arith, omega arith, subst (IsSigned (length fields)) (sym same) fits), ap (λ o. o ∷ (fields ++ text)) opcode ∙ ap (λ t. (before + length fields) ∷ t) bytes)
@@ -41,7 +41,7 @@ joined i (z ∷ zs) fields h =
     append_assoc (quad z) (flat_map quad zs) (drop (i + 4 * length (z ∷ zs)) fields)
     ∙ ap (λ k. quad z ++ (flat_map quad zs ++ drop k fields)) place
     ∙ ap (λ rest. quad z ++ rest) (joined (i + 4) zs fields h.1)
-    ∙ ap (λ front. front ++ drop (i + 4) fields) h.0
+    ∙ ap (λ prefix. prefix ++ drop (i + 4) fields) h.0
     ∙ four_more i fields
 
 -- ---- commands whose fields are such numbers
@@ -74,8 +74,8 @@ all_quads zs fields h size =
 pub rule : (code op : ℕ) (fields text : List ℕ) (a b : ℤ) → op ≡ code → fixed_size code ≡ 8 → code < 239 → length fields ≡ fixed_size op → length text ≡ text_size op fields
     → AllByRecursion (IsSigned 4) (a ∷ b ∷ []) → AreQuadsFrom 0 (a ∷ b ∷ []) fields
     → (n : ℕ) × ((n ≡ 0) × IsSigned 4 (stored a) × IsSigned 4 (stored b)) × (op ∷ (fields ++ text) ≡ (code ∷ quad (stored a)) ++ quad (stored b))
-rule code op fields text a b same size low whole behind fits quads =
-    let none : text ≡ [] = no_text op fields text (omega (arith, same, low)) behind in
+rule code op fields text a b same size low whole after fits quads =
+    let none : text ≡ [] = no_text op fields text (omega (arith, same, low)) after in
     let bytes : fields ≡ quad a ++ quad b = all_quads (a ∷ b ∷ []) fields quads (whole ∙ ap fixed_size same ∙ size) in
     let both : map stored (a ∷ b ∷ []) ≡ a ∷ b ∷ [] = all_stored (a ∷ b ∷ []) fits in (
       0,
@@ -87,10 +87,10 @@ rule code op fields text a b same size low whole behind fits quads =
 bop : (counts : List ℤ) (back : ℤ) (fields : List ℕ) → length fields ≡ 44 → length counts ≡ 10 → AllByRecursion (IsSigned 4) counts → IsSigned 4 back
     → AreQuadsFrom 0 counts fields → quad back ≡ take 4 (drop 40 fields) → Spells (Bop counts back) (139 ∷ fields)
 bop counts back fields whole ten fits back_fits quads back_quad =
-    let front : flat_map quad counts ++ drop (0 + 4 * length counts) fields ≡ fields = joined 0 counts fields quads in
+    let prefix : flat_map quad counts ++ drop (0 + 4 * length counts) fields ≡ fields = joined 0 counts fields quads in
     let place : 0 + 4 * length counts ≡ 40 = omega (arith, ten) in
     let last : drop 40 fields ≡ quad back = sym (four_more 40 fields) ∙ ap (λ rest. take 4 (drop 40 fields) ++ rest) (ends 44 fields whole) ∙ append-nil (take 4 (drop 40 fields)) ∙ sym back_quad in
-    (0, (refl, ten, fits, back_fits), ap (λ t. 139 ∷ t) (sym front ∙ ap (λ k. flat_map quad counts ++ drop k fields) place ∙ ap (λ rest. flat_map quad counts ++ rest) last))
+    (0, (refl, ten, fits, back_fits), ap (λ t. 139 ∷ t) (sym prefix ∙ ap (λ k. flat_map quad counts ++ drop k fields) place ∙ ap (λ rest. flat_map quad counts ++ rest) last))
 
 pub bop_stored : (counts : List ℤ) (back : ℤ) (fields : List ℕ) → length fields ≡ 44 → length counts ≡ 10 → AllByRecursion (IsSigned 4) counts → IsSigned 4 back
     → AreQuadsFrom 0 counts fields → quad back ≡ take 4 (drop 40 fields) → Spells (Bop (map stored counts) (stored back)) (139 ∷ fields)
@@ -190,7 +190,7 @@ post_post q op id fields text opcode whole none byte last fits quads =
 
 pub post_post_stored : (q : ℤ) (op id : ℕ) (fields text : List ℕ) → op ≡ 249 → length fields ≡ fixed_size op → length text ≡ text_size op fields → id < 256 → id ≡ slice_index fields 4
     → AllByRecursion (IsSigned 4) (q ∷ []) → AreQuadsFrom 0 (q ∷ []) fields → Spells (PostPost (stored q) id) (op ∷ (fields ++ text))
-post_post_stored q op id fields text opcode whole behind byte last fits quads =
+post_post_stored q op id fields text opcode whole after byte last fits quads =
     let size : length fields ≡ 5 = whole ∙ ap fixed_size opcode in
-    let none : text ≡ [] = nothing text (behind ∙ ap (λ o. text_size o fields) opcode) in
+    let none : text ≡ [] = nothing text (after ∙ ap (λ o. text_size o fields) opcode) in
     subst (λ z. Spells (PostPost z id) (op ∷ (fields ++ text))) (sym (stored_is q fits.0)) (post_post q op id fields text opcode size none byte last fits quads)

@@ -17,12 +17,12 @@ use Rattle.dvi_commands.proofs.Refusals.{spelled_is_not_refused}
 use Rattle.dvi_commands.proofs.Told.{spelling_tells_the_command}
 use Rattle.dvi_commands.proofs.Commands.{parted}
 
-pub front_of : (bytes : List ℕ) (at : ℕ) → at < length bytes → drop at bytes ≡ slice_index bytes at ∷ drop (at + 1) bytes
-front_of bytes at h = drop-cons bytes at 0 h ∙ ap (λ k. slice_index bytes at ∷ drop k bytes) (sym (add-one at))
+pub prefix_of : (bytes : List ℕ) (at : ℕ) → at < length bytes → drop at bytes ≡ slice_index bytes at ∷ drop (at + 1) bytes
+prefix_of bytes at h = drop-cons bytes at 0 h ∙ ap (λ k. slice_index bytes at ∷ drop k bytes) (sym (add-one at))
 
--- all that stands behind a place, as the code writes it
-pub behind_place : (bytes : List ℕ) (i : ℕ) → take (length bytes - i) (drop i bytes) ≡ drop i bytes
-behind_place bytes i = take_all (length bytes - i) (drop i bytes) (omega (arith, length-drop i bytes))
+-- all that stands after a place, as the code writes it
+pub after_place : (bytes : List ℕ) (i : ℕ) → take (length bytes - i) (drop i bytes) ≡ drop i bytes
+after_place bytes i = take_all (length bytes - i) (drop i bytes) (omega (arith, length-drop i bytes))
 
 -- ---- refusals
 
@@ -32,67 +32,67 @@ not_true false h = refl
 
 pub misplaced : (place : Context) (bytes : List ℕ) (at : ℕ) → at < length bytes → slice_index bytes at ≤ 249 → may_stand place (slice_index bytes at) ≡ false
     → refusal place (drop at bytes) ≡ Some (Misplaced (slice_index bytes at))
-misplaced place bytes at h low refused = ap (refusal place) (front_of bytes at h) ∙ rw (le-ltb 249 (slice_index bytes at) low, refused) refl
+misplaced place bytes at h low refused = ap (refusal place) (prefix_of bytes at h) ∙ rw (le-ltb 249 (slice_index bytes at) low, refused) refl
 
 pub cut_fields : (place : Context) (bytes : List ℕ) (at : ℕ) → at < length bytes → slice_index bytes at ≤ 249 → may_stand place (slice_index bytes at) ≡ true
     → length (drop (at + 1) bytes) < fixed_size (slice_index bytes at) → refusal place (drop at bytes) ≡ Some Short
 cut_fields place bytes at h low allowed cut =
-    ap (refusal place) (front_of bytes at h)
+    ap (refusal place) (prefix_of bytes at h)
     ∙ rw (le-ltb 249 (slice_index bytes at) low, allowed, lt-ltb (length (drop (at + 1) bytes)) (fixed_size (slice_index bytes at)) cut) refl
 
--- ---- the fields tell the length of the text, whatever stands behind them
+-- ---- the fields tell the length of the text, whatever stands after them
 
 abbrev Told : List ℕ → ℕ → Type 0
-Told behind op = (text_size op (take (fixed_size op) behind) ≡ text_size op behind) × (tells_negative_length op (take (fixed_size op) behind) ≡ tells_negative_length op behind)
+Told after op = (text_size op (take (fixed_size op) after) ≡ text_size op after) × (tells_negative_length op (take (fixed_size op) after) ≡ tells_negative_length op after)
 
-plain_told : (behind : List ℕ) (op : ℕ) → op < 239 → Told behind op
-plain_told behind op low =
+plain_told : (after : List ℕ) (op : ℕ) → op < 239 → Told after op
+plain_told after op low =
     let special : is_in_range 239 242 op ≡ false = grind arith in
     let define : is_in_range 243 246 op ≡ false = grind arith in
     let preamble : (op == 247) ≡ false = ne_eqb op 247 (λ same. omega (arith, same, low)) in
     let four : (op == 242) ≡ false = ne_eqb op 242 (λ same. omega (arith, same, low)) in
     (rw (special, define, preamble) refl, rw four refl)
 
-again : (n : ℕ) (behind : List ℕ) → take n (take n behind) ≡ take n behind
-again n behind = take-take n n behind (omega arith)
+again : (n : ℕ) (after : List ℕ) → take n (take n after) ≡ take n after
+again n after = take-take n n after (omega arith)
 
-special_told : (behind : List ℕ) (n : ℕ) → 1 ≤ n → n ≤ 4 → Told behind (238 + n)
-special_told behind n low high =
-    by_width (λ n. Told behind (238 + n)) (rw (again 1 behind) refl, refl) (rw (again 2 behind) refl, refl) (rw (again 3 behind) refl, refl) (rw (again 4 behind) refl, rw (again 4 behind) refl) n low high
+special_told : (after : List ℕ) (n : ℕ) → 1 ≤ n → n ≤ 4 → Told after (238 + n)
+special_told after n low high =
+    by_width (λ n. Told after (238 + n)) (rw (again 1 after) refl, refl) (rw (again 2 after) refl, refl) (rw (again 3 after) refl, refl) (rw (again 4 after) refl, rw (again 4 after) refl) n low high
 
-lengths_told : (n : ℕ) (behind : List ℕ) → slice_index (take (n + 14) behind) (n + 12) + slice_index (take (n + 14) behind) (n + 13) ≡ slice_index behind (n + 12) + slice_index behind (n + 13)
-lengths_told n behind = rw (get_or-take (n + 14) behind (n + 12) 0 (omega arith), get_or-take (n + 14) behind (n + 13) 0 (omega arith)) refl
+lengths_told : (n : ℕ) (after : List ℕ) → slice_index (take (n + 14) after) (n + 12) + slice_index (take (n + 14) after) (n + 13) ≡ slice_index after (n + 12) + slice_index after (n + 13)
+lengths_told n after = rw (get_or-take (n + 14) after (n + 12) 0 (omega arith), get_or-take (n + 14) after (n + 13) 0 (omega arith)) refl
 
-define_told : (behind : List ℕ) (n : ℕ) → 1 ≤ n → n ≤ 4 → Told behind (242 + n)
-define_told behind n low high =
-    by_width (λ n. Told behind (242 + n)) (lengths_told 1 behind, refl) (lengths_told 2 behind, refl) (lengths_told 3 behind, refl) (lengths_told 4 behind, refl) n low high
+define_told : (after : List ℕ) (n : ℕ) → 1 ≤ n → n ≤ 4 → Told after (242 + n)
+define_told after n low high =
+    by_width (λ n. Told after (242 + n)) (lengths_told 1 after, refl) (lengths_told 2 after, refl) (lengths_told 3 after, refl) (lengths_told 4 after, refl) n low high
 
-pub told : (op : ℕ) (behind : List ℕ) → op ≤ 249 → Told behind op
-told op behind known = by_kind (Told behind) op (plain_told behind op) (special_told behind) (define_told behind) (get_or-take 14 behind 13 0 (omega arith), refl) (refl, refl) (refl, refl) known
+pub told : (op : ℕ) (after : List ℕ) → op ≤ 249 → Told after op
+told op after known = by_kind (Told after) op (plain_told after op) (special_told after) (define_told after) (get_or-take 14 after 13 0 (omega arith), refl) (refl, refl) (refl, refl) known
 
 pub negative : (place : Context) (bytes : List ℕ) (at size : ℕ) (fields : List ℕ) → at < length bytes → slice_index bytes at ≤ 249 → may_stand place (slice_index bytes at) ≡ true
     → size ≡ fixed_size (slice_index bytes at) → size ≤ length (drop (at + 1) bytes) → fields ≡ take size (drop (at + 1) bytes)
     → tells_negative_length (slice_index bytes at) fields ≡ true → refusal place (drop at bytes) ≡ Some NegativeLength
-negative place bytes at size fields h low allowed sized whole front tells =
+negative place bytes at size fields h low allowed sized whole prefix tells =
     let op = slice_index bytes at in
-    let behind = drop (at + 1) bytes in
-    let same : tells_negative_length op behind ≡ true = sym ((told op behind low).1) ∙ sym (ap (tells_negative_length op) (front ∙ ap (λ k. take k behind) sized)) ∙ tells in
-    let room : fixed_size op ≤ length behind = omega (arith, sized, whole) in
-    ap (refusal place) (front_of bytes at h) ∙ rw (le-ltb 249 op low, allowed, le-ltb (length behind) (fixed_size op) room, same) refl
+    let after = drop (at + 1) bytes in
+    let same : tells_negative_length op after ≡ true = sym ((told op after low).1) ∙ sym (ap (tells_negative_length op) (prefix ∙ ap (λ k. take k after) sized)) ∙ tells in
+    let room : fixed_size op ≤ length after = omega (arith, sized, whole) in
+    ap (refusal place) (prefix_of bytes at h) ∙ rw (le-ltb 249 op low, allowed, le-ltb (length after) (fixed_size op) room, same) refl
 
 pub cut_text : (place : Context) (bytes : List ℕ) (at size : ℕ) (fields : List ℕ) → at < length bytes → slice_index bytes at ≤ 249 → may_stand place (slice_index bytes at) ≡ true
     → size ≡ fixed_size (slice_index bytes at) → size ≤ length (drop (at + 1) bytes) → fields ≡ take size (drop (at + 1) bytes) → tells_negative_length (slice_index bytes at) fields ≡ false
     → length (drop (at + 1) bytes) < size + text_size (slice_index bytes at) fields → refusal place (drop at bytes) ≡ Some Short
-cut_text place bytes at size fields h low allowed sized whole front tells cut =
+cut_text place bytes at size fields h low allowed sized whole prefix tells cut =
     let op = slice_index bytes at in
-    let behind = drop (at + 1) bytes in
-    let same_fields : fields ≡ take (fixed_size op) behind = front ∙ ap (λ k. take k behind) sized in
-    let not_negative : tells_negative_length op behind ≡ false = sym ((told op behind low).1) ∙ sym (ap (tells_negative_length op) same_fields) ∙ tells in
-    let same : text_size op fields ≡ text_size op behind = ap (text_size op) same_fields ∙ (told op behind low).0 in
-    let room : fixed_size op ≤ length behind = omega (arith, sized, whole) in
-    let short : length behind < fixed_size op + text_size op behind = omega (arith, cut, same, sized) in
-    ap (refusal place) (front_of bytes at h)
-    ∙ rw (le-ltb 249 op low, allowed, le-ltb (length behind) (fixed_size op) room, not_negative, lt-ltb (length behind) (fixed_size op + text_size op behind) short) refl
+    let after = drop (at + 1) bytes in
+    let same_fields : fields ≡ take (fixed_size op) after = prefix ∙ ap (λ k. take k after) sized in
+    let not_negative : tells_negative_length op after ≡ false = sym ((told op after low).1) ∙ sym (ap (tells_negative_length op) same_fields) ∙ tells in
+    let same : text_size op fields ≡ text_size op after = ap (text_size op) same_fields ∙ (told op after low).0 in
+    let room : fixed_size op ≤ length after = omega (arith, sized, whole) in
+    let short : length after < fixed_size op + text_size op after = omega (arith, cut, same, sized) in
+    ap (refusal place) (prefix_of bytes at h)
+    ∙ rw (le-ltb 249 op low, allowed, le-ltb (length after) (fixed_size op) room, not_negative, lt-ltb (length after) (fixed_size op + text_size op after) short) refl
 
 -- ---- what was read
 
@@ -100,25 +100,25 @@ whole_command : (bytes : List ℕ) (at size len : ℕ) → at < length bytes
     → slice_index bytes at ∷ (take size (drop (at + 1) bytes) ++ take len (drop size (drop (at + 1) bytes))) ≡ slice_range bytes at (at + 1 + size + len)
 whole_command bytes at size len h =
     let end : at + 1 + size + len - at ≡ suc (size + len) = omega arith in
-    sym (ap (λ n. take n (drop at bytes)) end ∙ ap (take (suc (size + len))) (front_of bytes at h) ∙ ap (λ t. slice_index bytes at ∷ t) (take-add size len (drop (at + 1) bytes)))
+    sym (ap (λ n. take n (drop at bytes)) end ∙ ap (take (suc (size + len))) (prefix_of bytes at h) ∙ ap (λ t. slice_index bytes at ∷ t) (take-add size len (drop (at + 1) bytes)))
 
-pub read_command_is : (bytes : List ℕ) (at size len : ℕ) (fields behind : List ℕ) (c : DviCommand) → at < length bytes → fields ≡ take size (drop (at + 1) bytes) → behind ≡ drop size (drop (at + 1) bytes)
-    → Spells c (slice_index bytes at ∷ (fields ++ take len behind)) → Spells c (slice_range bytes at (at + 1 + size + len))
-read_command_is bytes at size len fields behind c h front back spelled =
-    let same : slice_index bytes at ∷ (fields ++ take len behind) ≡ slice_range bytes at (at + 1 + size + len) =
-    ap (λ x. slice_index bytes at ∷ (x ++ take len behind)) front ∙ ap (λ x. slice_index bytes at ∷ (take size (drop (at + 1) bytes) ++ take len x)) back ∙ whole_command bytes at size len h in
+pub read_command_is : (bytes : List ℕ) (at size len : ℕ) (fields after : List ℕ) (c : DviCommand) → at < length bytes → fields ≡ take size (drop (at + 1) bytes) → after ≡ drop size (drop (at + 1) bytes)
+    → Spells c (slice_index bytes at ∷ (fields ++ take len after)) → Spells c (slice_range bytes at (at + 1 + size + len))
+read_command_is bytes at size len fields after c h prefix back spelled =
+    let same : slice_index bytes at ∷ (fields ++ take len after) ≡ slice_range bytes at (at + 1 + size + len) =
+    ap (λ x. slice_index bytes at ∷ (x ++ take len after)) prefix ∙ ap (λ x. slice_index bytes at ∷ (take size (drop (at + 1) bytes) ++ take len x)) back ∙ whole_command bytes at size len h in
     subst (Spells c) same spelled
 
 -- bytes that are refused begin with no command
-pub refused_begins : (place : Context) (bytes : List ℕ) (fault : CommandFault) (c : DviCommand) (front rest : List ℕ) → refusal place bytes ≡ Some fault → Begins place c front rest bytes → ⊥
-refused_begins place bytes fault c front rest refused begins =
-    let none = ap (refusal place) begins.whole ∙ spelled_is_not_refused place c front rest begins.spelled begins.allowed in
+pub refused_begins : (place : Context) (bytes : List ℕ) (fault : CommandFault) (c : DviCommand) (prefix rest : List ℕ) → refusal place bytes ≡ Some fault → Begins place c prefix rest bytes → ⊥
+refused_begins place bytes fault c prefix rest refused begins =
+    let none = ap (refusal place) begins.whole ∙ spelled_is_not_refused place c prefix rest begins.spelled begins.allowed in
     cc
 
 -- what was read is the command with which the bytes begin
-pub read_begins : (place : Context) (bytes : List ℕ) (at end : ℕ) (d c : DviCommand) (front rest : List ℕ) → at < end → end ≤ length bytes → Spells d (slice_range bytes at end)
-    → Begins place c front rest (drop at bytes) → (d ≡ c) × (end ≡ at + length front)
-read_begins place bytes at end d c front rest h inside spelled begins =
-    let same = no_spelling_begins_another d c (slice_range bytes at end) front (drop end bytes) rest spelled begins.spelled (sym (parted bytes at end h) ∙ begins.whole) in
+pub read_begins : (place : Context) (bytes : List ℕ) (at end : ℕ) (d c : DviCommand) (prefix rest : List ℕ) → at < end → end ≤ length bytes → Spells d (slice_range bytes at end)
+    → Begins place c prefix rest (drop at bytes) → (d ≡ c) × (end ≡ at + length prefix)
+read_begins place bytes at end d c prefix rest h inside spelled begins =
+    let same = no_spelling_begins_another d c (slice_range bytes at end) prefix (drop end bytes) rest spelled begins.spelled (sym (parted bytes at end h) ∙ begins.whole) in
     let size : length (slice_range bytes at end) ≡ end - at = grind (arith, length-take, length-drop) in
-    (spelling_tells_the_command d c front (subst (Spells d) same.0 spelled) begins.spelled, omega (arith, size, ap length same.0))
+    (spelling_tells_the_command d c prefix (subst (Spells d) same.0 spelled) begins.spelled, omega (arith, size, ap length same.0))

@@ -1,4 +1,4 @@
--- Opcodes by what stands behind them: no text, a special's, a definition's, or that of a preamble.
+-- Opcodes by what stands after them: no text, a special's, a definition's, or that of a preamble.
 use Rattle.std.proofs.Common.{◌≡◌, ℕ, zero, suc, ◌+◌, ◌-◌, ◌<◌, ◌≤◌, ◌⊎◌, true, false, List, [], ◌∷◌, length, refl, sym, ap, subst, ◌∙◌, arith, inl, inr}
 use Rattle.std.specs.Prelude.{◌==◌, nat_le}
 use Rattle.std.specs.Int.{is_in_range}
@@ -32,7 +32,7 @@ kinds P op plain special define p7 p8 p9 known (inr a) (inr b) (inr c) =
 pub by_kind : (P : ℕ → Type 0) (op : ℕ) → (op < 239 → P op) → ((n : ℕ) → 1 ≤ n → n ≤ 4 → P (238 + n)) → ((n : ℕ) → 1 ≤ n → n ≤ 4 → P (242 + n)) → P 247 → P 248 → P 249 → op ≤ 249 → P op
 by_kind P op plain special define p7 p8 p9 known = kinds P op plain special define p7 p8 p9 known (leb_tells op 238) (leb_tells op 242) (leb_tells op 246)
 
--- the opcodes of a row stand behind this one: their numbers have one to four bytes
+-- the opcodes of a row stand after this one: their numbers have one to four bytes
 abbrev pub IsRow : ℕ → Type 0
 IsRow before = agree_below (λ k. fixed_size (before + suc k) == suc k) (λ _. true) 4 ≡ true
 

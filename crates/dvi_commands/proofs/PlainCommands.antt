@@ -10,8 +10,8 @@ use Rattle.dvi_commands.specs.Spelling.{DviCommand, Spells}
 use Rattle.dvi_commands.specs.Refusal.{fixed_size, may_stand, refusal, size_of, tells_negative_length, text_size}
 use Rattle.dvi_commands.specs.Reading.{Begins, command_of}
 use Rattle.dvi_commands.specs.declared.command.Context.TheVariants as context
-use Rattle.dvi_commands.proofs.FieldNumbers.{bytes_behind}
-use Rattle.dvi_commands.proofs.OneCommand.{front_of}
+use Rattle.dvi_commands.proofs.FieldNumbers.{bytes_after}
+use Rattle.dvi_commands.proofs.OneCommand.{prefix_of}
 use Rattle.dvi_commands.proofs.Prefix.{size-spelling}
 use Rattle.dvi_commands.proofs.Refusals.{spelled_some}
 use Rattle.dvi_commands.proofs.Told.{told_by_bytes}
@@ -55,11 +55,11 @@ has_length op some = by (is_plain_opcode op) some
 
 -- ---- bytes that begin with a command, by its opcode
 
-plain_by_bytes : (c : DviCommand) (front rest fields : List ℕ) (op : ℕ) → op < 256 → Spells c front → op ∷ fields ≡ front ++ rest → is_plain c ≡ is_plain_opcode op
+plain_by_bytes : (c : DviCommand) (prefix rest fields : List ℕ) (op : ℕ) → op < 256 → Spells c prefix → op ∷ fields ≡ prefix ++ rest → is_plain c ≡ is_plain_opcode op
 plain_by_bytes c [] rest fields op byte h e = absurd (omega (arith, spelled_some c [] h))
-plain_by_bytes c (b ∷ front) rest fields op byte h e =
+plain_by_bytes c (b ∷ prefix) rest fields op byte h e =
     let first : b ≡ op = cc in
-    ap is_plain (told_by_bytes c (b ∷ front) h) ∙ ap (λ (k : ℕ). is_plain (command_of (k ∷ front))) first ∙ opcode_tells op front byte
+    ap is_plain (told_by_bytes c (b ∷ prefix) h) ∙ ap (λ (k : ℕ). is_plain (command_of (k ∷ prefix))) first ∙ opcode_tells op prefix byte
 
 no_length : (op : ℕ) → plain_size op ≡ 0 → is_plain_opcode op ≡ false
 no_length op e = by (is_plain_opcode op) e
@@ -75,38 +75,38 @@ at_most op = by (is_plain_opcode op)
     by true = omega arith
     by false = omega arith
 
--- an opcode and what stands behind it
+-- an opcode and what stands after it
 module _ (op : ℕ) (fields : List ℕ) (few : AreBytes (op ∷ fields)) where
-  -- the front of the bytes, as long as the opcode tells
-  plain_front : is_plain_opcode op ≡ true → fixed_size op ≤ length fields
+  -- the beginning of the bytes, as long as the opcode tells
+  plain_prefix : is_plain_opcode op ≡ true → fixed_size op ≤ length fields
       → (c : DviCommand) × IsTrue (is_plain c) × (may_stand context.Page op ≡ true) × Spells c (take (suc (fixed_size op)) (op ∷ fields))
-  plain_front is room =
+  plain_prefix is room =
       let none = not_refused op fields few.0 is room in
       let found = unrefused_is_spelled context.Page (op ∷ fields) few none in
       let text : text_size op fields ≡ 0 = no_text_size op fields (simple op few.0 is).0 in
       let size : length found.1 ≡ suc (fixed_size op) =
       sym (size-spelling found.0 found.1 found.2 found.3.spelled) ∙ ap size_of (sym found.3.whole) ∙ omega (arith, text) in
-      let front : take (suc (fixed_size op)) (op ∷ fields) ≡ found.1 = ap (λ (b : List ℕ). take (suc (fixed_size op)) b) found.3.whole ∙ take_at found.1 found.2 (suc (fixed_size op)) size in
+      let prefix : take (suc (fixed_size op)) (op ∷ fields) ≡ found.1 = ap (λ (b : List ℕ). take (suc (fixed_size op)) b) found.3.whole ∙ take_at found.1 found.2 (suc (fixed_size op)) size in
       let plain : is_plain found.0 ≡ true = plain_by_bytes found.0 found.1 found.2 fields op few.0 found.3.spelled found.3.whole ∙ is in
-      (found.0, plain, (simple op few.0 is).1, subst (Spells found.0) (sym front) found.3.spelled)
+      (found.0, plain, (simple op few.0 is).1, subst (Spells found.0) (sym prefix) found.3.spelled)
 
   -- what begins with another opcode, or is shorter, begins with no plain command
-  not_plain_front : (n : ℕ) (c : DviCommand) (front rest : List ℕ) → n ≡ plain_size op → (n ≡ 0) ⊎ (suc (length fields) < n) → Spells c front → op ∷ fields ≡ front ++ rest → is_plain c ≡ false
-  not_plain_front n c front rest size (inl none) spelled whole =
-      plain_by_bytes c front rest fields op few.0 spelled whole ∙ no_length op (sym size ∙ none)
-  not_plain_front n c front rest size (inr cut) spelled whole =
-      let sized : size_of (op ∷ fields) ≡ length front = ap size_of whole ∙ size-spelling c front rest spelled in
-      let room : suc (length fields) ≡ length front + length rest = ap length whole ∙ length-append front rest in
+  not_plain_prefix : (n : ℕ) (c : DviCommand) (prefix rest : List ℕ) → n ≡ plain_size op → (n ≡ 0) ⊎ (suc (length fields) < n) → Spells c prefix → op ∷ fields ≡ prefix ++ rest → is_plain c ≡ false
+  not_plain_prefix n c prefix rest size (inl none) spelled whole =
+      plain_by_bytes c prefix rest fields op few.0 spelled whole ∙ no_length op (sym size ∙ none)
+  not_plain_prefix n c prefix rest size (inr cut) spelled whole =
+      let sized : size_of (op ∷ fields) ≡ length prefix = ap size_of whole ∙ size-spelling c prefix rest spelled in
+      let room : suc (length fields) ≡ length prefix + length rest = ap length whole ∙ length-append prefix rest in
       absurd (omega (arith, sized, room, at_most op, size, cut))
 
 -- ---- a place of bytes
 
 module _ (bytes : List ℕ) (at n : ℕ) (few : AreBytes bytes) (here : at < length bytes) (length_is : n ≡ plain_size (slice_index bytes at)) where
   whole : drop at bytes ≡ slice_index bytes at ∷ drop (at + 1) bytes
-  whole = front_of bytes at here
+  whole = prefix_of bytes at here
 
   few_there : AreBytes (slice_index bytes at ∷ drop (at + 1) bytes)
-  few_there = subst AreBytes whole (bytes_behind at bytes few)
+  few_there = subst AreBytes whole (bytes_after at bytes few)
 
   long : length (drop (at + 1) bytes) ≡ length bytes - (at + 1)
   long = length-drop (at + 1) bytes
@@ -116,22 +116,22 @@ module _ (bytes : List ℕ) (at n : ℕ) (few : AreBytes bytes) (here : at < len
   plain_here some room =
       let is : is_plain_opcode (slice_index bytes at) ≡ true = has_length (slice_index bytes at) (λ none. some (length_is ∙ none)) in
       let size : n ≡ suc (fixed_size (slice_index bytes at)) = length_is ∙ rw is refl in
-      let found = plain_front (slice_index bytes at) (drop (at + 1) bytes) few_there is (omega (arith, long, size, room)) in
+      let found = plain_prefix (slice_index bytes at) (drop (at + 1) bytes) few_there is (omega (arith, long, size, room)) in
       let span : suc (fixed_size (slice_index bytes at)) ≡ at + n - at = omega (arith, size) in
-      let front : take (suc (fixed_size (slice_index bytes at))) (slice_index bytes at ∷ drop (at + 1) bytes) ≡ slice_range bytes at (at + n) =
+      let prefix : take (suc (fixed_size (slice_index bytes at))) (slice_index bytes at ∷ drop (at + 1) bytes) ≡ slice_range bytes at (at + n) =
       ap (λ (k : ℕ). take k (slice_index bytes at ∷ drop (at + 1) bytes)) span ∙ ap (λ (b : List ℕ). take (at + n - at) b) (sym whole) in
       record {
         command = found.0;
         plain = found.1;
         some = omega (arith, size);
         within = omega (arith, room, here);
-        spelled = subst (Spells found.0) front found.3;
+        spelled = subst (Spells found.0) prefix found.3;
         allowed = found.2;
       }
 
   -- where it is not, no plain command does
-  pub none_plain : (c : DviCommand) (front rest : List ℕ) → (n ≡ 0) ⊎ (length bytes - at < n) → Begins context.Page c front rest (drop at bytes) → is_plain c ≡ false
-  none_plain c front rest (inl none) begins =
-      not_plain_front (slice_index bytes at) (drop (at + 1) bytes) few_there n c front rest length_is (inl none) begins.spelled (sym whole ∙ begins.whole)
-  none_plain c front rest (inr cut) begins =
-      not_plain_front (slice_index bytes at) (drop (at + 1) bytes) few_there n c front rest length_is (inr (omega (arith, long, cut, here))) begins.spelled (sym whole ∙ begins.whole)
+  pub none_plain : (c : DviCommand) (prefix rest : List ℕ) → (n ≡ 0) ⊎ (length bytes - at < n) → Begins context.Page c prefix rest (drop at bytes) → is_plain c ≡ false
+  none_plain c prefix rest (inl none) begins =
+      not_plain_prefix (slice_index bytes at) (drop (at + 1) bytes) few_there n c prefix rest length_is (inl none) begins.spelled (sym whole ∙ begins.whole)
+  none_plain c prefix rest (inr cut) begins =
+      not_plain_prefix (slice_index bytes at) (drop (at + 1) bytes) few_there n c prefix rest length_is (inr (omega (arith, long, cut, here))) begins.spelled (sym whole ∙ begins.whole)

@@ -10,7 +10,8 @@ use Rattle.dvi_commands.specs.SpellingLaws.{SpelledIsNotRefused}
 use Rattle.dvi_commands.specs.declared.command.Context.{Context}
 use Rattle.dvi_commands.proofs.Prefix.{by_width, wide, size-spelling, four_bytes, signed_four}
 
--- the opcode is one of a command, and if it is that of a special with four bytes of length, the length is not negative
+-- the opcode is one of a command, and if it is that of a special with four bytes of length, the
+-- length is not negative
 abbrev Calm : List ℕ → Type 0
 Calm [] = ⊥
 Calm (op ∷ fields) = (nat_lt 249 op ≡ false) × (tells_negative_length op fields ≡ false)

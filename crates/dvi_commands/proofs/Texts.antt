@@ -1,4 +1,4 @@
--- Specials and definitions of fonts: a text behind the fields that tell its length.
+-- Specials and definitions of fonts: a text after the fields that tell its length.
 use Rattle.std.proofs.Common.{◌≡◌, ℕ, suc, ◌+◌, ◌-◌, ◌^◌, ◌<◌, ◌≤◌, ℤ, pos, negsuc, false, List, [], ◌∷◌, ◌++◌, length, take, drop, refl, sym, ap, subst, ◌∙◌, arith, inl, inr, append_assoc, drop-cons, length-drop, length-take}
 use Rattle.std.specs.Prelude.{slice_index, int_lt}
 use Rattle.std.specs.List.{flat_map}
@@ -99,9 +99,9 @@ pub definition : (fields name number others : List ℕ) (w size design : ℤ) (c
     → check < 256 ^ length (take 4 others) → number_bytes (length (take 4 others)) (pos check) ≡ take 4 others → IsSigned 4 size → IsSigned 4 design → quad size ≡ take 4 (drop 4 others) → quad design ≡ take 4 (drop 8 others)
     → ((k : ℕ) → slice_index fields k < 256)
     → Spells (Define (record { number = w; check = check; size = size; design = design; area = slice_index others 12; name = name })) ((228 + length fields) ∷ (fields ++ name))
-definition fields name number others w size design check some text front back fits written check_fits check_bytes size_fits design_fits size_bytes design_bytes bytes =
+definition fields name number others w size design check some text prefix back fits written check_fits check_bytes size_fits design_fits size_bytes design_bytes bytes =
     let n = length number in
-    let width : n ≡ length fields - 14 = grind (arith, length-take, ap length front) in
+    let width : n ≡ length fields - 14 = grind (arith, length-take, ap length prefix) in
     let whole : length others ≡ 14 = omega (arith, length-drop (length fields - 14) fields, ap length back) in
     let area_place : length fields - 14 + 12 ≡ length fields - 2 = omega (arith, some) in
     let rest_place : length fields - 14 + 13 ≡ length fields - 1 = omega (arith, some) in
@@ -112,7 +112,7 @@ definition fields name number others w size design check some text front back fi
     let check_small : check < 256 ^ 4 = subst (λ k. check < 256 ^ k) check_size check_fits in
     let check_written : number_bytes 4 (pos check) ≡ take 4 others = subst (λ k. number_bytes k (pos check) ≡ take 4 others) check_size check_bytes in
     let quads : AreQuadsFrom 0 (pos check ∷ size ∷ design ∷ []) others = (check_written, (size_bytes, (design_bytes, tt))) in
-    let joined_fields : fields ≡ number ++ others = sym (ap (λ x. x ++ others) front ∙ ap (λ x. take (length fields - 14) fields ++ x) back ∙ take-append-drop (length fields - 14) fields) in
+    let joined_fields : fields ≡ number ++ others = sym (ap (λ x. x ++ others) prefix ∙ ap (λ x. take (length fields - 14) fields ++ x) back ∙ take-append-drop (length fields - 14) fields) in
     let opcode : 228 + length fields ≡ 242 + n = omega (arith, width, some) in (
       n,
       (fits, record { check = omega (arith, check_small); size = size_fits; design = design_fits; area = omega (arith, lengths); area_fits = omega (arith, area, bytes (length fields - 2)); name_fits = omega (arith, lengths, rest, bytes (length fields - 1)) }),

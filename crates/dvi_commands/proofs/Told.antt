@@ -42,9 +42,9 @@ rule_again make a b ha hb = ap (λ x. make x (signed_of (quad b))) (quad_again a
 bop_again : (counts : List ℤ) (back : ℤ) → length counts ≡ 10 → AllByRecursion (IsSigned 4) counts → IsSigned 4 back
     → Bop (quads 10 (flat_map quad counts ++ quad back)) (signed_from (flat_map quad counts ++ quad back) 40) ≡ Bop counts back
 bop_again counts back ten all h =
-    let behind : drop 40 (flat_map quad counts ++ quad back) ≡ quad back = drop_at (flat_map quad counts) (quad back) 40 (omega (arith, length-quads counts, ten)) in
+    let after : drop 40 (flat_map quad counts ++ quad back) ≡ quad back = drop_at (flat_map quad counts) (quad back) 40 (omega (arith, length-quads counts, ten)) in
     let first : quads 10 (flat_map quad counts ++ quad back) ≡ counts = ap (λ (k : ℕ). quads k (flat_map quad counts ++ quad back)) (sym ten) ∙ quads_again counts (quad back) all in
-    let second : signed_from (flat_map quad counts ++ quad back) 40 ≡ back = ap (λ (x : List ℕ). signed_of (take 4 x)) behind ∙ quad_again back h in
+    let second : signed_from (flat_map quad counts ++ quad back) 40 ≡ back = ap (λ (x : List ℕ). signed_of (take 4 x)) after ∙ quad_again back h in
     ap (λ x. Bop x (signed_from (flat_map quad counts ++ quad back) 40)) first ∙ ap (Bop counts) second
 
 abbrev made : ℤ → ℕ → ℤ → ℤ → ℕ → List ℕ → DviCommand

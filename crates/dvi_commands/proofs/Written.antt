@@ -3,7 +3,7 @@ use Rattle.std.proofs.Common.{◌≡◌, ℕ, zero, suc, ◌+◌, ◌-◌, ◌�
 use Rattle.std.specs.List.{flat_map, AllByRecursion}
 use Rattle.big_endian.specs.Numbers.{number_bytes, IsSigned}
 use Rattle.dvi_commands.specs.Spelling.{IsNumber, quad}
-use Rattle.dvi_commands.proofs.OneCommand.{behind_place}
+use Rattle.dvi_commands.proofs.OneCommand.{after_place}
 use Rattle.dvi_commands.proofs.Texts.{regroup}
 
 -- ---- numbers of four bytes
@@ -33,7 +33,7 @@ are_elements n zs h = from_place n 0 zs (omega (arith, h))
 pub cons_is : {X : Type 0} {x y : X} {xs ys : List X} → x ≡ y → xs ≡ ys → x ∷ xs ≡ y ∷ ys
 cons_is {x = x} {y = y} {xs = xs} {ys = ys} e es = ap (λ z. z ∷ xs) e ∙ ap (λ zs. y ∷ zs) es
 
--- texts with another behind them
+-- texts with another after them
 abbrev pub chain : List (List ℕ) → List ℕ → List ℕ
 chain [] rest = rest
 chain (text ∷ texts) rest = text ++ chain texts rest
@@ -42,7 +42,7 @@ chain_quads : (zs : List ℤ) (rest : List ℕ) → chain (map quad zs) rest ≡
 chain_quads [] rest = refl
 chain_quads (z ∷ zs) rest = ap (λ t. quad z ++ t) (chain_quads zs rest)
 
--- the bytes of all elements, with a text behind them
+-- the bytes of all elements, with a text after them
 pub quads_written : (n : ℕ) (zs : List ℤ) (texts : List (List ℕ)) (rest : List ℕ) → length zs ≡ n → texts ≡ map quad (elements n 0 zs) → chain texts rest ≡ flat_map quad zs ++ rest
 quads_written n zs texts rest h e = ap (λ (t : List (List ℕ)). chain t rest) (e ∙ ap (map quad) (sym (are_elements n zs h))) ∙ chain_quads zs rest
 
@@ -63,14 +63,14 @@ last_of_four (suc n) (negsuc m) (inl h) = elim h.2 [ ]
 
 -- as the code takes them
 pub number_written : (n : ℕ) (z : ℤ) (four : List ℕ) → IsNumber n z → four ≡ quad z → take (4 - (4 - n)) (drop (4 - n) four) ≡ number_bytes n z
-number_written n z four h e = ap (λ (x : List ℕ). take (4 - (4 - n)) (drop (4 - n) x)) e ∙ behind_place (quad z) (4 - n) ∙ last_of_four n z h
+number_written n z four h e = ap (λ (x : List ℕ). take (4 - (4 - n)) (drop (4 - n) x)) e ∙ after_place (quad z) (4 - n) ∙ last_of_four n z h
 
-pub pairs_written : (front bytes1 bytes2 : List ℕ) (m k : ℕ) → bytes1 ≡ number_bytes 2 (pos m) → bytes2 ≡ number_bytes 2 (pos k)
-    → front ++ (bytes1 ++ (bytes2 ++ [])) ≡ (front ++ number_bytes 2 (pos m)) ++ number_bytes 2 (pos k)
-pairs_written front bytes1 bytes2 m k e1 e2 =
-    ap (λ x. front ++ (x ++ (bytes2 ++ []))) e1
-    ∙ ap (λ x. front ++ (number_bytes 2 (pos m) ++ (x ++ []))) e2
-    ∙ sym (append_assoc front (number_bytes 2 (pos m)) (number_bytes 2 (pos k)))
+pub pairs_written : (prefix bytes1 bytes2 : List ℕ) (m k : ℕ) → bytes1 ≡ number_bytes 2 (pos m) → bytes2 ≡ number_bytes 2 (pos k)
+    → prefix ++ (bytes1 ++ (bytes2 ++ [])) ≡ (prefix ++ number_bytes 2 (pos m)) ++ number_bytes 2 (pos k)
+pairs_written prefix bytes1 bytes2 m k e1 e2 =
+    ap (λ x. prefix ++ (x ++ (bytes2 ++ []))) e1
+    ∙ ap (λ x. prefix ++ (number_bytes 2 (pos m) ++ (x ++ []))) e2
+    ∙ sym (append_assoc prefix (number_bytes 2 (pos m)) (number_bytes 2 (pos k)))
 
 -- ---- the definition of a font
 

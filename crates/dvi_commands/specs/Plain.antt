@@ -1,5 +1,5 @@
--- Plain commands: those of a page that set, move, save or restore the registers, choose a font or do
--- nothing, and so change nothing of a document but how far it is read.
+-- Plain commands: those of a page that set, move, save or restore the registers, choose a font or
+-- do nothing, and so change nothing of a document but how far it is read.
 use Rattle.std.specs.Prelude.{ℕ, suc, ◌<◌, ◌≤◌, Bool, true, false, ◌||◌, nat_le, if◌then◌else◌, List, length, slice_index, slice_range, IsTrue}
 use Rattle.std.specs.Int.{is_in_range}
 use Rattle.dvi_commands.specs.Spelling.{DviCommand, Bop, Eop, Special, Define, Pre, Post, PostPost, Spells}
@@ -25,7 +25,8 @@ is_plain_opcode op = nat_le op 138 || is_in_range 141 238 op
 abbrev pub plain_size : ℕ → ℕ
 plain_size op = if is_plain_opcode op then suc (fixed_size op) else 0
 
--- a plain command stands at a place of the bytes, where a page may have it, and another place is behind it
+-- a plain command stands at a place of the bytes, where a page may have it, and another place is
+-- after it
 pub record IsPlainTo (bytes : List ℕ) (at next : ℕ) : Type 0 where
   pub command : DviCommand
   pub plain : IsTrue (is_plain command)

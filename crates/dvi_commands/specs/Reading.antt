@@ -1,6 +1,7 @@
--- Bytes as commands: which command a spelling is of, and which commands bytes are, one after another. Knuth, DVItype,
--- "Device-independent file format". Since no spelling begins another and a spelling tells its command, these functions are the
--- inverse of `spelling`, as the laws say; of bytes that are no commands they say nothing.
+-- Bytes as commands: which command a spelling is of, and which commands bytes are, one after
+-- another. Knuth, DVItype, "Device-independent file format". Since no spelling begins another and a
+-- spelling tells its command, these functions are the inverse of `spelling`, as the laws say; of
+-- bytes that are no commands they say nothing.
 use Rattle.std.specs.Prelude.{◌≡◌, ℕ, zero, suc, ◌+◌, ◌-◌, ◌==◌, ℤ, pos, List, [], ◌∷◌, ◌++◌, length, take, drop, nat_le, if◌then◌else◌, slice_index, IsTrue}
 use Rattle.big_endian.specs.Numbers.{unsigned_of, signed_of}
 use Rattle.dvi_commands.specs.Spelling.{DviCommand, Definition, Set, Put, SetRule, PutRule, Nop, Bop, Eop, Push, Pop, Right, W0, W, X0, X, Down, Y0, Y, Z0, Z, Font, Special, Define, Pre, Post, PostPost, Spells}
@@ -17,14 +18,23 @@ signed_from fields i = signed_of (take 4 (drop i fields))
 abbrev pub code : ℕ → List ℕ → ℤ
 code n fields = if n == 4 then signed_of (take 4 fields) else pos (unsigned_of (take n fields))
 
--- so many numbers of four bytes
+-- n numbers of four bytes
 abbrev pub quads : ℕ → List ℕ → List ℤ
 quads zero fields = []
 quads (suc n) fields = signed_of (take 4 fields) ∷ quads n (drop 4 fields)
 
 -- the definition of a font whose number has n bytes
 abbrev pub definition_in : ℕ → List ℕ → Definition
-definition_in n f = record { number = code n f; check = unsigned_of (take 4 (drop n f)); size = signed_from f (n + 4); design = signed_from f (n + 8); area = slice_index f (n + 12); name = drop (n + 14) f }
+definition_in n f =
+    record {
+      number = code n f;
+      check = unsigned_of (take 4 (drop n f));
+      size = signed_from f (n + 4);
+      design = signed_from f (n + 8);
+      area =
+          slice_index f (n + 12);
+      name = drop (n + 14) f;
+    }
 
 -- the command of a spelling
 abbrev pub command_of : List ℕ → DviCommand
@@ -54,8 +64,26 @@ command_of (op ∷ f) =
     else if nat_le op 238 then Font (code (op - 234) f)
     else if nat_le op 242 then Special (drop (op - 238) f)
     else if nat_le op 246 then Define (definition_in (op - 242) f)
-    else if nat_le op 247 then Pre (record { id = slice_index f 0; num = signed_from f 1; den = signed_from f 5; mag = signed_from f 9; text = drop 14 f })
-    else if nat_le op 248 then Post (record { back = signed_from f 0; num = signed_from f 4; den = signed_from f 8; mag = signed_from f 12; tallest = signed_from f 16; widest = signed_from f 20; deepest = unsigned_of (take 2 (drop 24 f)); pages = unsigned_of (take 2 (drop 26 f)) })
+    else if nat_le op 247
+    then Pre (record {
+      id = slice_index f 0;
+      num = signed_from f 1;
+      den = signed_from f 5;
+      mag = signed_from f 9;
+      text = drop 14 f;
+    })
+    else if nat_le op 248
+    then Post (record {
+      back = signed_from f 0;
+      num = signed_from f 4;
+      den = signed_from f 8;
+      mag = signed_from f 12;
+      tallest = signed_from f 16;
+      widest = signed_from f 20;
+      deepest =
+          unsigned_of (take 2 (drop 24 f));
+      pages = unsigned_of (take 2 (drop 26 f));
+    })
     else PostPost (signed_from f 0) (slice_index f 4)
 
 -- ---- the commands of bytes
@@ -69,13 +97,14 @@ pub record Placed : Type 0 where
 abbrev pub placed : ℕ → DviCommand → List ℕ → Placed
 placed at c bytes = record { at = at; command = c; bytes = bytes }
 
--- at most so many commands of the bytes, the first of which stands at a position
+-- at most n commands of the bytes, the first of which stands at a position
 abbrev pub placed_in : ℕ → ℕ → List ℕ → List Placed
 placed_in zero at bytes = []
 placed_in (suc n) at [] = []
 placed_in (suc n) at (b ∷ bytes) =
     let size = size_of (b ∷ bytes) in
-    placed at (command_of (take size (b ∷ bytes))) (take size (b ∷ bytes)) ∷ placed_in n (at + size) (drop size (b ∷ bytes))
+    placed at (command_of (take size (b ∷ bytes))) (take size (b ∷ bytes)) ∷ placed_in n (at + size)
+    (drop size (b ∷ bytes))
 
 -- the commands of the bytes, which begin at a position
 unfoldable pub placed_from : ℕ → List ℕ → List Placed
@@ -95,29 +124,33 @@ commands_of bytes = commands_in (length bytes) bytes
 -- ---- bytes that are whole commands
 
 -- the bytes begin with a spelling of a command that may stand there
-pub record Begins (place : Context) (c : DviCommand) (front rest bytes : List ℕ) : Type 0 where
-  pub whole : bytes ≡ front ++ rest
-  pub spelled : Spells c front
-  pub allowed : IsTrue (may_stand place (slice_index front 0))
+pub record Begins (place : Context) (c : DviCommand) (prefix rest bytes : List ℕ) : Type 0 where
+  pub whole : bytes ≡ prefix ++ rest
+  pub spelled : Spells c prefix
+  pub allowed : IsTrue (may_stand place (slice_index prefix 0))
 
 -- the bytes are these commands, one after another, each where it may stand
 abbrev pub AreCommands : Context → List DviCommand → List ℕ → Type 0
 AreCommands place [] bytes = bytes ≡ []
-AreCommands place (c ∷ commands) bytes = (front : List ℕ) × (rest : List ℕ) × Begins place c front rest bytes × AreCommands place commands rest
+AreCommands place (c ∷ commands) bytes =
+    (prefix : List ℕ) × (rest : List ℕ) × Begins place c prefix rest bytes
+    × AreCommands place commands rest
 
 -- the bytes are read to their end, each command where it may stand
 pub record Reads (place : Context) (bytes : List ℕ) : Type 0 where
   pub commands : List DviCommand
   pub are : AreCommands place commands bytes
 
--- ---- laws: bytes that begin with a spelling of a command are that command and those behind it
+-- ---- laws: bytes that begin with a spelling of a command are that command and those after it
 
 abbrev pub PlacedFirst : Type 0
-PlacedFirst = (at : ℕ) (c : DviCommand) (front rest : List ℕ) → Spells c front
-    → placed_from at (front ++ rest) ≡ placed at c front ∷ placed_from (at + length front) rest
+PlacedFirst = (at : ℕ) (c : DviCommand) (prefix rest : List ℕ) → Spells c prefix
+    → placed_from at (prefix ++ rest) ≡ placed at c prefix ∷ placed_from (at + length prefix) rest
 
 abbrev pub CommandsFirst : Type 0
-CommandsFirst = (c : DviCommand) (front rest : List ℕ) → Spells c front → commands_of (front ++ rest) ≡ c ∷ commands_of rest
+CommandsFirst =
+    (c : DviCommand) (prefix rest : List ℕ) → Spells c prefix
+    → commands_of (prefix ++ rest) ≡ c ∷ commands_of rest
 
-abbrev pub NothingBehindTheLast : Type 0
-NothingBehindTheLast = ((at : ℕ) → placed_from at [] ≡ []) × (commands_of [] ≡ [])
+abbrev pub NothingAfterTheLast : Type 0
+NothingAfterTheLast = ((at : ℕ) → placed_from at [] ≡ []) × (commands_of [] ≡ [])

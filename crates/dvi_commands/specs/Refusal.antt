@@ -1,4 +1,5 @@
--- Where a command may stand, and what is no command: Knuth, DVItype, "Device-independent file format".
+-- Where a command may stand, and what is no command: Knuth, DVItype, "Device-independent file
+-- format".
 use Rattle.std.specs.Prelude.{ℕ, ◌+◌, ◌-◌, ℤ, pos, Bool, not, ◌&&◌, ◌||◌, List, [], ◌∷◌, length, take, nat_lt, nat_le, ◌==◌, if◌then◌else◌, slice_index, int_lt, unsigned_abs, Option, Some, None}
 use Rattle.std.specs.Int.{is_in_range}
 use Rattle.big_endian.specs.Numbers.{unsigned_of, signed_of}
@@ -19,8 +20,9 @@ may_stand context.Page op = nat_le op 138 || is_in_range 140 246 op
 may_stand context.Packet op = nat_le op 138 || is_in_range 141 242 op
 may_stand context.Post op = op == 138 || is_in_range 243 246 op || op == 249
 
--- where the opcode is at most the first number, its fields but for texts have the second number of bytes. A row of opcodes that
--- differ in the width of a number is written by the opcode less the one before the row.
+-- where the opcode is at most the first number, its fields but for texts have the second number of
+-- bytes. A row of opcodes that differ in the width of a number is written by the opcode less the
+-- one before the row.
 abbrev pub fixed_size : ℕ → ℕ
 fixed_size op =
     if nat_le op 127 then 0
@@ -48,7 +50,8 @@ fixed_size op =
 
 -- the length that a special's field tells: up to three bytes unsigned, four signed
 abbrev pub told_length : ℕ → List ℕ → ℤ
-told_length op fields = if op == 242 then signed_of (take 4 fields) else pos (unsigned_of (take (op - 238) fields))
+told_length op fields =
+    if op == 242 then signed_of (take 4 fields) else pos (unsigned_of (take (op - 238) fields))
 
 -- only a length of four bytes can be negative
 abbrev pub tells_negative_length : ℕ → List ℕ → Bool
@@ -57,12 +60,15 @@ tells_negative_length op fields = op == 242 && int_lt (told_length op fields) (p
 -- how many bytes of text the fixed fields tell, none where the length is negative
 abbrev pub text_size : ℕ → List ℕ → ℕ
 text_size op fields =
-    if is_in_range 239 242 op then (if int_lt (told_length op fields) (pos 0) then 0 else unsigned_abs (told_length op fields))
-    else if is_in_range 243 246 op then slice_index fields (op - 242 + 12) + slice_index fields (op - 242 + 13)
+    if is_in_range 239 242 op then (if int_lt (told_length op fields) (pos 0) then 0
+    else unsigned_abs (told_length op fields))
+    else if is_in_range 243 246 op then slice_index fields (op - 242 + 12) + slice_index fields
+    (op - 242 + 13)
     else if op == 247 then slice_index fields 13
     else 0
 
--- why the bytes do not begin with a command that may stand there, in the order in which the causes come
+-- why the bytes do not begin with a command that may stand there, in the order in which the causes
+-- come
 abbrev pub refusal : Context → List ℕ → Option CommandFault
 refusal place [] = Some Short
 refusal place (op ∷ fields) =

@@ -1,6 +1,7 @@
 -- The commands of a DVI file and their spellings: Knuth, DVItype, "Device-independent file format".
--- A command is seen here without where its texts lie in memory. Most commands have several spellings, since a field may be
--- wider than it has to be: `spelling n` is the one whose number has n bytes, or, at 0, the one without a number.
+-- A command is seen here without where its texts lie in memory. Most commands have several
+-- spellings, since a field may be wider than it has to be: `spelling n` is the one whose number has
+-- n bytes, or, at 0, the one without a number.
 use Rattle.std.specs.Prelude.{◌≡◌, ℕ, zero, suc, ◌+◌, ◌-◌, ◌^◌, ◌<◌, ◌≤◌, ◌⊎◌, ℤ, pos, negsuc, List, [], ◌∷◌, ◌++◌, length}
 use Rattle.std.specs.List.{flat_map, AllByRecursion}
 use Rattle.big_endian.specs.Numbers.{IsUnsigned, IsSigned, number_bytes}
@@ -8,7 +9,7 @@ use Rattle.dvi_commands.specs.declared.command.Command.{Command}
 use Rattle.dvi_commands.specs.declared.command.FontDef.{FontDef}
 use Rattle.dvi_commands.specs.declared.command.Command.TheVariants as lent
 
--- the definition of a font; the name has the area in front
+-- the definition of a font; the name begins with the area
 pub record Definition : Type 0 where
   pub number : ℤ
   pub check : ℕ
@@ -34,7 +35,8 @@ pub record Postamble : Type 0 where
   pub deepest : ℕ
   pub pages : ℕ
 
--- each field of a definition but the number holds what is put into it. A text is a part of the bytes, and needs no bound.
+-- each field of a definition but the number holds what is put into it. A text is a part of the
+-- bytes, and needs no bound.
 pub record FieldsFit (d : Definition) : Type 0 where
   pub check : d.check < 2 ^ 32
   pub size : IsSigned 4 d.size
@@ -110,9 +112,13 @@ spelling (Z a) n = with_number 166 n a
 spelling (Font k) zero = with_small 171 k
 spelling (Font k) (suc n) = with_number 234 (suc n) k
 spelling (Special text) n = with_number 238 n (pos (length text)) ++ text
-spelling (Define d) n = with_number 242 n d.number ++ number_bytes 4 (pos d.check) ++ quad d.size ++ quad d.design ++ d.area ∷ (length d.name - d.area) ∷ d.name
+spelling (Define d) n =
+    with_number 242 n d.number ++ number_bytes 4 (pos d.check) ++ quad d.size ++ quad d.design
+    ++ d.area ∷ (length d.name - d.area) ∷ d.name
 spelling (Pre p) n = 247 ∷ p.id ∷ quad p.num ++ quad p.den ++ quad p.mag ++ length p.text ∷ p.text
-spelling (Post p) n = 248 ∷ quad p.back ++ quad p.num ++ quad p.den ++ quad p.mag ++ quad p.tallest ++ quad p.widest ++ number_bytes 2 (pos p.deepest) ++ number_bytes 2 (pos p.pages)
+spelling (Post p) n =
+    248 ∷ quad p.back ++ quad p.num ++ quad p.den ++ quad p.mag ++ quad p.tallest ++ quad p.widest
+    ++ number_bytes 2 (pos p.deepest) ++ number_bytes 2 (pos p.pages)
 spelling (PostPost q id) n = 249 ∷ quad q ++ id ∷ []
 
 -- a number from 0 up to top
@@ -120,7 +126,8 @@ abbrev pub IsSmall : ℕ → ℤ → Type 0
 IsSmall top (pos m) = m ≤ top
 IsSmall top (negsuc m) = ⊥
 
--- the number of a character, a font or a special: up to three bytes hold it unsigned, four bytes signed
+-- the number of a character, a font or a special: up to three bytes hold it unsigned, four bytes
+-- signed
 abbrev pub IsNumber : ℕ → ℤ → Type 0
 IsNumber n z = ((1 ≤ n) × (n ≤ 3) × IsUnsigned n z) ⊎ ((n ≡ 4) × IsSigned 4 z)
 
@@ -128,14 +135,16 @@ IsNumber n z = ((1 ≤ n) × (n ≤ 3) × IsUnsigned n z) ⊎ ((n ≡ 4) × IsSi
 abbrev pub IsMotion : ℕ → ℤ → Type 0
 IsMotion n z = (1 ≤ n) × (n ≤ 4) × IsSigned n z
 
--- the command can be spelled with a number of n bytes: n is one of its row, and each field holds what is put into it
+-- the command can be spelled with a number of n bytes: n is one of its row, and each field holds
+-- what is put into it
 abbrev pub HasWidth : DviCommand → ℕ → Type 0
 HasWidth (Set c) zero = IsSmall 127 c
 HasWidth (Set c) (suc n) = IsNumber (suc n) c
 HasWidth (SetRule a b) n = (n ≡ 0) × IsSigned 4 a × IsSigned 4 b
 HasWidth (Put c) n = IsNumber n c
 HasWidth (PutRule a b) n = (n ≡ 0) × IsSigned 4 a × IsSigned 4 b
-HasWidth (Bop counts back) n = (n ≡ 0) × (length counts ≡ 10) × AllByRecursion (IsSigned 4) counts × IsSigned 4 back
+HasWidth (Bop counts back) n =
+    (n ≡ 0) × (length counts ≡ 10) × AllByRecursion (IsSigned 4) counts × IsSigned 4 back
 HasWidth (Right b) n = IsMotion n b
 HasWidth (W b) n = IsMotion n b
 HasWidth (X b) n = IsMotion n b
@@ -146,8 +155,12 @@ HasWidth (Font k) zero = IsSmall 63 k
 HasWidth (Font k) (suc n) = IsNumber (suc n) k
 HasWidth (Special text) n = IsNumber n (pos (length text))
 HasWidth (Define d) n = IsNumber n d.number × FieldsFit d
-HasWidth (Pre p) n = (n ≡ 0) × (p.id < 256) × IsSigned 4 p.num × IsSigned 4 p.den × IsSigned 4 p.mag × (length p.text < 256)
-HasWidth (Post p) n = (n ≡ 0) × AllByRecursion (IsSigned 4) (p.back ∷ p.num ∷ p.den ∷ p.mag ∷ p.tallest ∷ p.widest ∷ []) × (p.deepest < 2 ^ 16) × (p.pages < 2 ^ 16)
+HasWidth (Pre p) n =
+    (n ≡ 0) × (p.id < 256) × IsSigned 4 p.num × IsSigned 4 p.den × IsSigned 4 p.mag
+    × (length p.text < 256)
+HasWidth (Post p) n =
+    (n ≡ 0) × AllByRecursion (IsSigned 4) (p.back ∷ p.num ∷ p.den ∷ p.mag ∷ p.tallest ∷ p.widest
+    ∷ []) × (p.deepest < 2 ^ 16) × (p.pages < 2 ^ 16)
 HasWidth (PostPost q id) n = (n ≡ 0) × IsSigned 4 q × (id < 256)
 HasWidth Nop n = n ≡ 0
 HasWidth Eop n = n ≡ 0
@@ -165,7 +178,15 @@ Spells c bytes = (n : ℕ) × HasWidth c n × (bytes ≡ spelling c n)
 -- ---- a command of the code
 
 abbrev pub seen_definition : FontDef → Definition
-seen_definition d = record { number = d.number; check = d.check; size = d.size; design = d.design; area = d.area; name = d.name.now }
+seen_definition d =
+    record {
+      number = d.number;
+      check = d.check;
+      size = d.size;
+      design = d.design;
+      area = d.area;
+      name = d.name.now;
+    }
 
 abbrev pub seen : Command → DviCommand
 seen (lent.Set c) = Set c
@@ -190,6 +211,17 @@ seen (lent.Z a) = Z a
 seen (lent.Font k) = Font k
 seen (lent.Special text) = Special text.now
 seen (lent.Define d) = Define (seen_definition d)
-seen (lent.Pre id num den mag text) = Pre (record { id = id; num = num; den = den; mag = mag; text = text.now })
-seen (lent.Post back num den mag tallest widest deepest pages) = Post (record { back = back; num = num; den = den; mag = mag; tallest = tallest; widest = widest; deepest = deepest; pages = pages })
+seen (lent.Pre id num den mag text) =
+    Pre (record { id = id; num = num; den = den; mag = mag; text = text.now })
+seen (lent.Post back num den mag tallest widest deepest pages) =
+    Post (record {
+      back = back;
+      num = num;
+      den = den;
+      mag = mag;
+      tallest = tallest;
+      widest = widest;
+      deepest = deepest;
+      pages = pages;
+    })
 seen (lent.PostPost q id) = PostPost q id

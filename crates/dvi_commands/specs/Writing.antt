@@ -1,4 +1,5 @@
--- What can be written: a text that the field for its length holds. Knuth, DVItype, "Device-independent file format".
+-- What can be written: a text that the field for its length holds. Knuth, DVItype,
+-- "Device-independent file format".
 use Rattle.std.specs.Prelude.{ℕ, ◌-◌, ◌^◌, ◌≤◌, List, length, flat_map}
 use Rattle.std.specs.Borrow.{Bor}
 use Rattle.dvi_commands.specs.Spelling.{DviCommand, Define, Pre, Special}
@@ -17,7 +18,7 @@ abbrev pub IsTextShort : DviCommand → Type 0
 IsTextShort (Pre p) = length p.text ≤ 255
 IsTextShort _ = Unit {0}
 
--- the area of a font stands in front of its name
+-- the area of a font stands before its name
 abbrev pub IsAreaInName : DviCommand → Type 0
 IsAreaInName (Define d) = d.area ≤ length d.name
 IsAreaInName _ = Unit {0}

@@ -2,8 +2,8 @@
 
 use thiserror::Error;
 
-/// The definition of a font. The name has the area in front, of which `area` is the length. The checksum
-/// is that of the font's TFM file; the two sizes are in DVI units.
+/// The definition of a font. The name begins with the area, of which `area` is the length. The
+/// checksum is that of the font's TFM file; the two sizes are in DVI units.
 #[derive(Clone, Copy, Debug, PartialEq, Eq)]
 pub struct FontDef<'a> {
     pub number: i32,
@@ -14,8 +14,8 @@ pub struct FontDef<'a> {
     pub name: &'a [u8],
 }
 
-/// A command, with its texts where they lie in the bytes. Heights, widths and motions are in DVI units, down
-/// and to the right.
+/// A command, with its texts where they lie in the bytes. Heights, widths and motions are in DVI
+/// units, down and to the right.
 #[derive(Clone, Copy, Debug, PartialEq, Eq)]
 pub enum Command<'a> {
     /// Sets the character with the code and moves to the right by its width.
@@ -71,8 +71,8 @@ pub enum Command<'a> {
     Special(&'a [u8]),
     /// Defines a font.
     Define(FontDef<'a>),
-    /// Begins a document: the version of the format, the unit as the fraction num / den of 10^-7 meters,
-    /// the magnification in thousandths, and a comment.
+    /// Begins a document: the version of the format, the unit as the fraction num / den of 10^-7
+    /// meters, the magnification in thousandths, and a comment.
     Pre {
         id: u8,
         num: i32,
@@ -80,8 +80,9 @@ pub enum Command<'a> {
         mag: i32,
         text: &'a [u8],
     },
-    /// Ends the pages: the position of the last page's beginning, or -1, the preamble's numbers again, the
-    /// greatest height and width of a page, the greatest depth of the stack, and the number of pages.
+    /// Ends the pages: the position of the last page's beginning, or -1, the preamble's numbers
+    /// again, the greatest height and width of a page, the greatest depth of the stack, and the
+    /// number of pages.
     Post {
         back: i32,
         num: i32,
@@ -99,8 +100,8 @@ pub enum Command<'a> {
     },
 }
 
-/// Where a command stands: before the preamble, between pages, on a page, in the packet of a virtual
-/// font's character, or behind the start of the postamble.
+/// Where a command stands: before the preamble, between pages, on a page, in the packet of a
+/// virtual font's character, or after the start of the postamble.
 #[derive(Clone, Copy, Debug, PartialEq, Eq)]
 pub enum Context {
     Start,

@@ -57,7 +57,8 @@ fn beginning_of_page<'a>(fields: &[u8]) -> Command<'a>
 fn definition<'a>(fields: &[u8], name: &'a [u8]) -> Command<'a>
     requires some { 15 ≤ length fields.now }
     requires few { length fields.now ≤ 18 }
-    requires text { length name.now ≡ slice_index fields.now (length fields.now - 2) + slice_index fields.now (length fields.now - 1) }
+    requires text { length name.now ≡ slice_index fields.now (length fields.now - 2)
+        + slice_index fields.now (length fields.now - 1) }
     ensures { Spells (seen result) ((228 + length fields.now) ∷ fields.now ++ name.now) }
 {
     let (number, others) = fields.split_at(fields.len() - 14);

@@ -1,11 +1,11 @@
 //! Laws over spellings, each the contract of a function without a body.
 
-ghost use Rattle.dvi_commands.specs.Reading.{CommandsFirst, NothingBehindTheLast, PlacedFirst};
+ghost use Rattle.dvi_commands.specs.Reading.{CommandsFirst, NothingAfterTheLast, PlacedFirst};
 ghost use Rattle.dvi_commands.specs.SpellingLaws.{NoSpellingBeginsAnother, NoSpellingIsAProperPrefix, ShortestIsLeast, SpelledIsNotRefused, SpellingTellsTheCommand, UnrefusedIsSpelled, WrittenIsReadBack};
 
-/// No spelling of a command is a proper prefix of another spelling, a spelling tells its command, what
-/// spells a command is not refused where it may stand, and bytes that are not refused begin with a
-/// spelling of a command.
+/// No spelling of a command is a proper prefix of another spelling, a spelling tells its command,
+/// what spells a command is not refused where it may stand, and bytes that are not refused begin
+/// with a spelling of a command.
 pub fn spellings()
     ensures apart { NoSpellingBeginsAnother }
     ensures no_prefix { NoSpellingIsAProperPrefix }
@@ -24,10 +24,10 @@ pub fn written_commands()
     ensures { WrittenIsReadBack }
 {}
 
-/// Bytes that begin with a spelling of a command are that command and those of the rest, and no bytes are
-/// no command.
+/// Bytes that begin with a spelling of a command are that command and those of the rest, and no
+/// bytes are no command.
 pub fn first_command()
     ensures placed { PlacedFirst }
     ensures commands { CommandsFirst }
-    ensures end { NothingBehindTheLast }
+    ensures end { NothingAfterTheLast }
 {}

@@ -1,9 +1,9 @@
 //! The commands of a DVI file: which bytes are which command, and reading one command at a place.
 //!
 //! Knuth, DVItype, "Device-independent file format". A command may have several spellings, since a
-//! number may stand in more bytes than it needs; no spelling begins another, so bytes are read from the
-//! left without a choice. What stands where in a document is not known here, but for the context in
-//! which a command may stand.
+//! number may stand in more bytes than it needs; no spelling begins another, so bytes are read from
+//! the left without a choice. What stands where in a document is not known here, but for the
+//! context in which a command may stand.
 #![tactic(auto)]
 
 pub mod command;

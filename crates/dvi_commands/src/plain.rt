@@ -35,19 +35,19 @@ fn plain_length(opcode: u8) -> usize
     PLAIN_LENGTHS[opcode as usize] as usize
 }
 
-/// The place after the plain command at a place of a page: one that sets, moves, saves or restores the
-/// registers, chooses a font or does nothing.
+/// The place after the plain command at a place of a page: one that sets, moves, saves or restores
+/// the registers, chooses a font or does nothing.
 ///
-/// `None` where no such command begins, or the one that begins isn't all there. The opcode tells the
-/// length, so the fields aren't read.
+/// `None` where no such command begins, or the one that begins isn't all there. The opcode tells
+/// the length, so the fields aren't read.
 #[inline]
 pub fn plain_end(bytes: &[u8], at: usize) -> Option<usize>
     requires { at ≤ length bytes.now }
     ensures plain { IfSome result (λ next. IsPlainTo bytes.now at next) }
 
     // Where a plain command begins, its place is found.
-    ensures other { IsNone result → (c : DviCommand) (front rest : List ℕ)
-        → Begins context.Page c front rest (drop at bytes.now) → IsFalse (is_plain c) }
+    ensures other { IsNone result → (c : DviCommand) (prefix rest : List ℕ)
+        → Begins context.Page c prefix rest (drop at bytes.now) → IsFalse (is_plain c) }
 {
     if at == bytes.len() {
         return None;

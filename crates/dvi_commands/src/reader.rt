@@ -61,7 +61,7 @@ fn field_size(opcode: u8) -> usize
     FIELD_SIZES[opcode as usize] as usize
 }
 
-/// How long the text behind the fields is, or `None` where the length of a special is negative.
+/// How long the text after the fields is, or `None` where the length of a special is negative.
 fn text_length(opcode: u8, fields: &[u8]) -> Option<usize>
     requires known { opcode ≤ LAST_OPCODE }
     requires whole { length fields.now ≡ fixed_size opcode }
@@ -80,12 +80,12 @@ fn text_length(opcode: u8, fields: &[u8]) -> Option<usize>
     }
 }
 
-/// Reads the command at a place, and gives it with the place behind it.
+/// Reads the command at a place, and gives it with the place after it.
 ///
 /// The fault is the first of these that applies: `Short` where no byte is left; `Undefined` for an
-/// opcode of no command; `Misplaced` where the command may not stand in the context; `Short` where its
-/// fields aren't all there; `NegativeLength` for a special of negative length; `Short` where its text
-/// isn't all there. Takes no memory.
+/// opcode of no command; `Misplaced` where the command may not stand in the context; `Short` where
+/// its fields aren't all there; `NegativeLength` for a special of negative length; `Short` where
+/// its text isn't all there. Takes no memory.
 #[inline(always)]
 pub fn read_command<'a>(
     bytes: &'a [u8],
@@ -99,8 +99,9 @@ pub fn read_command<'a>(
     ensures refused { IfErr result (λ fault. refusal context (drop at bytes.now) ≡ Some fault) }
 
     // Whatever command the bytes begin with is read as that command.
-    ensures found { (c : DviCommand) (front rest : List ℕ) → Begins context c front rest (drop at bytes.now)
-        → IsOkAnd result (λ r. (seen r.0 ≡ c) × (r.1 ≡ at + length front)) }
+    ensures found { (c : DviCommand) (prefix rest : List ℕ)
+        → Begins context c prefix rest (drop at bytes.now)
+        → IsOkAnd result (λ r. (seen r.0 ≡ c) × (r.1 ≡ at + length prefix)) }
 {
     if at == bytes.len() {
         return Err(CommandFault::Short);
@@ -116,24 +117,24 @@ pub fn read_command<'a>(
     if opcode <= LAST_SMALL_CHARACTER {
         return Ok((small_character(opcode), at + 1));
     }
-    let behind = &bytes[at + 1..];
+    let after = &bytes[at + 1..];
     let size = field_size(opcode);
-    if behind.len() < size {
+    if after.len() < size {
         return Err(CommandFault::Short);
     }
-    let (fields, behind) = behind.split_at(size);
+    let (fields, after) = after.split_at(size);
     let Some(length) = text_length(opcode, fields) else {
         return Err(CommandFault::NegativeLength);
     };
-    if behind.len() < length {
+    if after.len() < length {
         return Err(CommandFault::Short);
     }
-    let command = command_with(opcode, fields, &behind[..length]);
+    let command = command_with(opcode, fields, &after[..length]);
     Ok((command, at + 1 + size + length))
 }
 
-/// Reads the command at a place of bytes that are whole commands from there to their end, and gives it
-/// with the place behind it.
+/// Reads the command at a place of bytes that are whole commands from there to their end, and gives
+/// it with the place after it.
 #[inline(always)]
 pub fn command_at<'a>(bytes: &'a [u8], at: usize, context: Context) -> (Command<'a>, usize)
     requires inside { at < length bytes.now }
@@ -143,11 +144,12 @@ pub fn command_at<'a>(bytes: &'a [u8], at: usize, context: Context) -> (Command<
     ensures allowed { IsTrue (may_stand context (slice_index bytes.now at)) }
     ensures readable { Reads context (drop result.1 bytes.now) }
 
-    // The commands from the place on are this one and those behind it, wherever the first stands.
+    // The commands from the place on are this one and those after it, wherever the first stands.
     ensures placed { (start : ℕ) → placed_from start (drop at bytes.now)
         ≡ placed start (seen result.0) (slice_range bytes.now at result.1)
         ∷ placed_from (start + (result.1 - at)) (drop result.1 bytes.now) }
-    ensures commands { commands_of (drop at bytes.now) ≡ seen result.0 ∷ commands_of (drop result.1 bytes.now) }
+    ensures commands { commands_of (drop at bytes.now)
+        ≡ seen result.0 ∷ commands_of (drop result.1 bytes.now) }
 {
     match read_command(bytes, at, context) {
         Ok(read) => read,

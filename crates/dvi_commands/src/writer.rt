@@ -1,4 +1,4 @@
-//! Writing one command behind bytes, in its shortest spelling.
+//! Writing one command after bytes, in its shortest spelling.
 
 ghost use Rattle.std.specs.Prelude.{◌≡◌, ◌++◌, OnErr, OnOk};
 ghost use Rattle.dvi_commands.specs.ShortestSpelling.{shortest_spelling};
@@ -17,20 +17,21 @@ use fields::{
 use numbers::{append_motion, append_number, append_opcode};
 use std::alloc::{AllocError as NoMemory, Global};
 
-/// Appends the shortest spelling of the command: motions in the least number of bytes that holds them
-/// signed, other numbers below 2^24 in the least that holds them unsigned.
+/// Appends the shortest spelling of the command: motions in the least number of bytes that holds
+/// them signed, other numbers below 2^24 in the least that holds them unsigned.
 ///
-/// The text of a special has at most 2^31 - 1 bytes and that of a preamble at most 255; the area of a font
-/// is part of its name, and the rest of the name has at most 255 bytes.
+/// The text of a special has at most 2^31 - 1 bytes and that of a preamble at most 255; the area of
+/// a font is part of its name, and the rest of the name has at most 255 bytes.
 ///
-/// Where memory is wanting, `out` is as before: the room for the whole spelling is made at once. Knuth,
-/// DVItype, "Device-independent file format".
+/// Where memory runs out, `out` is as before: the room for the whole spelling is made at once.
+/// Knuth, DVItype, "Device-independent file format".
 pub fn write_command(_alloc: Global, command: &Command, out: &mut Vec<u8>) -> Result<(), NoMemory>
     requires special { IsSpecialShort (seen command.now) }
     requires text { IsTextShort (seen command.now) }
     requires area { IsAreaInName (seen command.now) }
     requires rest { IsRestShort (seen command.now) }
-    ensures written { OnOk result (out.new.items ≡ out.old.items ++ shortest_spelling (seen command.now)) }
+    ensures written { OnOk result (out.new.items ≡ out.old.items ++ shortest_spelling
+        (seen command.now)) }
     ensures unchanged { OnErr result (out.new.items ≡ out.old.items) }
     ensures spelled { Spells (seen command.now) (shortest_spelling (seen command.now)) }
 {

@@ -23,7 +23,7 @@ use Rattle.dvi_run.proofs.Standing.{AreWhole, Came, Stood, begins, bitmap_whole,
 
 -- ---- how many pages the next round has
 
--- of a document with so many pages, for n workers, from page `next` on
+-- of a document with n pages, for n workers, from page `next` on
 pub record IsCount (n next pages count : ℕ) : Type 0 where
   pub some : 1 ≤ count
   pub most : count ≤ 32
@@ -81,7 +81,8 @@ module _ {F : Type 0} (s : Site F) (n : ℕ) (xs : List (Worker F)) where
   abbrev pub AllStood : Type 0 → List (Worker F) → Type 0
   AllStood W ws = (k : ℕ) (d : Worker F) → k < n → Stood s W (get_or xs k d) (get_or ws k d)
 
-  -- the results of the pages from `done` on are at hand, and the rounds before page `next` were drawn
+  -- the results of the pages from `done` on are at hand, and the rounds before page `next` were
+  -- drawn
   pub record AtHand (ws : List (Worker F)) (next done : ℕ) (rs : List PageResult) : Type 0 where
     pub few : next ≤ pages_begun s.reading
     pub reach : done + length rs ≤ next

@@ -9,7 +9,7 @@ use Rattle.vf_expand.specs.Faults as fault
 use Rattle.page_draw.specs.Values.{PageValue}
 use Rattle.dvi_run.specs.Reading.{IsAllRead, OfRead}
 use Rattle.dvi_run.specs.Pages.{FailingPage, Given, IsRun, run_fault}
-use Rattle.dvi_run.specs.Endings.{EndingSeen, Written, Usage, Document, Page, Source, Input, Output, Notes, Memory, EndsPages, IsAmong, IsEnding, IsPlaced, OfRun, Stopped, Wrote, WroteBefore, WroteAll, WroteFront, WroteSome, page_status, status_of, statuses}
+use Rattle.dvi_run.specs.Endings.{EndingSeen, Written, Usage, Document, Page, Source, Input, Output, Notes, Memory, EndsPages, IsAmong, IsEnding, IsPlaced, OfRun, Stopped, Wrote, WroteBefore, WroteAll, WrotePrefix, WroteSome, page_status, status_of, statuses}
 use Rattle.dvi_run.specs.Promises.{GoodRunIsWhole, GoodRunIsWritten}
 use Rattle.dvi_run.specs.Laws.{OneReading, OneRun, RunsHaveNoFault}
 use Rattle.dvi_run.proofs.OneRun.{all_good, ends_once}
@@ -121,7 +121,7 @@ module _ (old new : Option (List ℕ)) (OutputFailed SourceFailed OutputKept Inp
         of_each (λ bytes. OfRun g bytes P) (IsRefused (Source page)) left (λ bytes run f first. absurd (not_both bytes P f run first)) h.1
     refused_by Input h = of_all (IsRefused Input) left (λ bytes f first. inr (inl refl))
     refused_by (Output page) h =
-        let P : Reading → List PageValue → Type 0 = λ _. WroteFront old new page in
+        let P : Reading → List PageValue → Type 0 = λ _. WrotePrefix old new page in
         of_each (λ bytes. OfRun g bytes P) (IsRefused (Output page)) left (λ bytes run f first. absurd (not_both bytes P f run first)) h.1
     refused_by Written h =
         let P : Reading → List PageValue → Type 0 = Wrote old new in
@@ -255,17 +255,17 @@ module _ (old new : Option (List ℕ)) (OutputFailed SourceFailed OutputKept Inp
   input_by Notes is h = cc
   input_by Memory is h = cc
 
-  abbrev HasFront : List ℕ → Type 0
-  HasFront bytes = (page : ℕ) × OfRun g bytes (λ _. WroteFront old new page)
+  abbrev HasPrefix : List ℕ → Type 0
+  HasPrefix bytes = (page : ℕ) × OfRun g bytes (λ _. WrotePrefix old new page)
 
-  pub output_by : (e : EndingSeen) → status_of e ≡ 7 → Ends e → OfRead left HasFront × OutputFailed
+  pub output_by : (e : EndingSeen) → status_of e ≡ 7 → Ends e → OfRead left HasPrefix × OutputFailed
   output_by Written is h = cc
   output_by Usage is h = cc
   output_by (Document fault) is h = cc
   output_by (Page page) is h = no_other page 7 is (λ three. cc) (λ four. cc)
   output_by (Source page) is h = cc
   output_by Input is h = cc
-  output_by (Output page) is h = (of_each (λ bytes. OfRun g bytes (λ _. WroteFront old new page)) HasFront left (λ bytes run. (page, run)) h.1, h.2)
+  output_by (Output page) is h = (of_each (λ bytes. OfRun g bytes (λ _. WrotePrefix old new page)) HasPrefix left (λ bytes run. (page, run)) h.1, h.2)
   output_by Notes is h = cc
   output_by Memory is h = cc
 
@@ -295,7 +295,7 @@ module _ (old new : Option (List ℕ)) (OutputFailed SourceFailed OutputKept Inp
   memory_by Notes is h = cc
   memory_by Memory is h = h
 
-  -- the input was read, but where it failed or memory was wanting
+  -- the input was read, but where it failed or memory ran out
   pub read_by : (e : EndingSeen) → IsAmong (status_of e) (0 ∷ 2 ∷ 3 ∷ 4 ∷ 5 ∷ 7 ∷ 8 ∷ []) → Ends e → IsAllRead left rest
   read_by Written is h = h.0
   read_by Usage is h = absurd h

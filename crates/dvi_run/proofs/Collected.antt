@@ -53,39 +53,39 @@ rising_last xs y p rises h =
     let up : get_or (xs ++ y ∷ []) i 0 < get_or (xs ++ y ∷ []) (length xs) 0 = AllPairs-from_increasing (xs ++ y ∷ []) rises i (length xs) 0 h.1 (omega (arith, long)) in
     omega (arith, at, last, up)
 
-last_of : {A : Type 0} (xs : List A) → 0 < length xs → (front : List A) × (x : A) × (xs ≡ front ++ x ∷ [])
+last_of : {A : Type 0} (xs : List A) → 0 < length xs → (prefix : List A) × (x : A) × (xs ≡ prefix ++ x ∷ [])
 last_of [] lt = absurd (omega arith)
 last_of (x ∷ []) lt = ([], x, refl)
 last_of (x ∷ y ∷ xs) lt = let rest = last_of (y ∷ xs) (omega arith) in (x ∷ rest.0, rest.1, ap (λ (l : List _). x ∷ l) rest.2)
 
-top_is : (front : List PageResult) (r : PageResult) (page : ℕ) → HasOnTop page (front ++ r ∷ []) → r.page ≡ page
-top_is front r page top =
-    let long = length-append front (r ∷ []) in
-    let here : length front ≡ length (front ++ r ∷ []) - 1 = omega (arith, long) in
-    let at : get_or (front ++ r ∷ []) (length (front ++ r ∷ []) - 1) r ≡ r = get_or_push front r r (length (front ++ r ∷ []) - 1) here in
+top_is : (prefix : List PageResult) (r : PageResult) (page : ℕ) → HasOnTop page (prefix ++ r ∷ []) → r.page ≡ page
+top_is prefix r page top =
+    let long = length-append prefix (r ∷ []) in
+    let here : length prefix ≡ length (prefix ++ r ∷ []) - 1 = omega (arith, long) in
+    let at : get_or (prefix ++ r ∷ []) (length (prefix ++ r ∷ []) - 1) r ≡ r = get_or_push prefix r r (length (prefix ++ r ∷ []) - 1) here in
     ap (λ (q : PageResult). q.page) (sym at) ∙ top.1 r
 
-is_top : (front : List PageResult) (r : PageResult) (page : ℕ) → r.page ≡ page → HasOnTop page (front ++ r ∷ [])
-is_top front r page same =
-    let long = length-append front (r ∷ []) in
-    let here : length front ≡ length (front ++ r ∷ []) - 1 = omega (arith, long) in
-    (omega (arith, long), λ d. ap (λ (q : PageResult). q.page) (get_or_push front r d (length (front ++ r ∷ []) - 1) here) ∙ same)
+is_top : (prefix : List PageResult) (r : PageResult) (page : ℕ) → r.page ≡ page → HasOnTop page (prefix ++ r ∷ [])
+is_top prefix r page same =
+    let long = length-append prefix (r ∷ []) in
+    let here : length prefix ≡ length (prefix ++ r ∷ []) - 1 = omega (arith, long) in
+    (omega (arith, long), λ d. ap (λ (q : PageResult). q.page) (get_or_push prefix r d (length (prefix ++ r ∷ []) - 1) here) ∙ same)
 
 -- the highest page of those that rise is the last one's
 on_top : (rs : List PageResult) (page : ℕ) → IsStrictlyIncreasing (pages_of rs) → ((p : ℕ) → Contains (pages_of rs) p → p < suc page) → Contains (pages_of rs) page → HasOnTop page rs
 on_top rs page rises below has =
     let some : 0 < length rs = let long = length-map rs (λ (r : PageResult). r.page) in omega (arith, has.1, long) in
     let last = last_of rs some in
-    let front = last.0 in
+    let prefix = last.0 in
     let r = last.1 in
-    let pages : pages_of rs ≡ pages_of front ++ r.page ∷ [] = ap pages_of last.2 ∙ pages_more front (r ∷ []) in
-    let rises_here : IsStrictlyIncreasing (pages_of front ++ r.page ∷ []) = subst IsStrictlyIncreasing pages rises in
-    let high : r.page < suc page = below r.page (subst (λ (l : List ℕ). Contains l r.page) (sym pages) (Contains-push (pages_of front) r.page)) in
-    let low : page ≤ r.page = elim (Contains-append_cases (pages_of front) (r.page ∷ []) page (subst (λ (l : List ℕ). Contains l page) pages has)) [
-      | inl before ↦ let less = rising_last (pages_of front) r.page page rises_here before in omega arith
+    let pages : pages_of rs ≡ pages_of prefix ++ r.page ∷ [] = ap pages_of last.2 ∙ pages_more prefix (r ∷ []) in
+    let rises_here : IsStrictlyIncreasing (pages_of prefix ++ r.page ∷ []) = subst IsStrictlyIncreasing pages rises in
+    let high : r.page < suc page = below r.page (subst (λ (l : List ℕ). Contains l r.page) (sym pages) (Contains-push (pages_of prefix) r.page)) in
+    let low : page ≤ r.page = elim (Contains-append_cases (pages_of prefix) (r.page ∷ []) page (subst (λ (l : List ℕ). Contains l page) pages has)) [
+      | inl before ↦ let less = rising_last (pages_of prefix) r.page page rises_here before in omega arith
       | inr here ↦ elim (cons_cases r.page [] page here) [ inl same ↦ omega (arith, same) | inr none ↦ let less : none.0 < 0 = none.1 in absurd (omega arith) ]
     ] in
-    subst (λ (l : List PageResult). HasOnTop page l) (sym last.2) (is_top front r page (omega (arith, high, low)))
+    subst (λ (l : List PageResult). HasOnTop page l) (sym last.2) (is_top prefix r page (omega (arith, high, low)))
 
 above_from : (page : ℕ) (rs : List PageResult) → AreFrom page rs → (r : PageResult) → Contains rs r → page ≤ r.page
 above_from page [] are r has = let less : has.0 < 0 = has.1 in absurd (omega arith)
@@ -239,7 +239,7 @@ module _ {F : Type 0} (xs : List (Worker F)) (first m : ℕ) (are : AreResults f
     module _ (k : ℕ) (r : Worker F) (v : Worker F) (inside : k < length xs) (same_long : length ws ≡ length xs) (top : HasOnTop (first + i) (get_or ws k r).results.items) (same : SameBut (get_or ws k r) v)
         (after : List PageResult)
         (moved : (q : PageResult) (rest : List PageResult) → (get_or ws k r).results.items ≡ rest ++ q ∷ [] → (v.results.items ≡ rest) × (after ≡ stack ++ q ∷ [])) where
-      last : (front : List PageResult) × (q : PageResult) × ((get_or ws k r).results.items ≡ front ++ q ∷ [])
+      last : (prefix : List PageResult) × (q : PageResult) × ((get_or ws k r).results.items ≡ prefix ++ q ∷ [])
       last = last_of (get_or ws k r).results.items top.0
 
       page_is : last.1.page ≡ first + i

@@ -62,7 +62,8 @@ is_empty (x ∷ xs) e = absurd (omega arith)
 -- ---- results by the pages of their document
 
 module _ (g : Given) (reading : Reading) (SomeFailed : ℕ → Type 0) where
-  -- this is the result of the page with this number, from 0; where a source failed it failed at this page, from 1
+  -- this is the result of the page with this number, from 0; where a source failed it failed at
+  -- this page, from 1
   pub record IsHeld (page : ℕ) (r : PageResult) : Type 0 where
     pub value : IsOutcomeOf g reading page r.outcome
     pub failed : IsErrOf r.outcome draw.SourceFault → SomeFailed (page + 1)

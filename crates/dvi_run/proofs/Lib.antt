@@ -1,6 +1,6 @@
 pub mod Told
 pub mod Puts
-pub mod Fronts
+pub mod Prefixes
 pub mod OneRun
 pub mod WholeRuns
 pub mod Written

@@ -14,8 +14,8 @@ use Rattle.page_draw.specs.Values.{PageValue}
 use Rattle.page_draw.specs.Drawn.{IsPageValue}
 use Rattle.page_draw.specs.Laws.{PagesHaveOneValue}
 use Rattle.dvi_run.specs.Pages.{FailingPage, Given, HaveValues, IsRun, IsValueOf, IsWholeRun, run_fault, run_text}
-use Rattle.dvi_run.specs.Laws.{GoodRunsWriteAlike, OneReading, OneRun, RunsHaveFronts, StoppedRunsWriteAlike}
-use Rattle.dvi_run.proofs.Fronts.{faults_end_the_run, front_is_good}
+use Rattle.dvi_run.specs.Laws.{GoodRunsWriteAlike, OneReading, OneRun, RunsHavePrefixes, StoppedRunsWriteAlike}
+use Rattle.dvi_run.proofs.Prefixes.{faults_end_the_run, prefix_is_good}
 
 pub is_there : (o : Option ℕ) → IsSome o → o ≡ Some (unwrap_or o 0)
 is_there None some = cc
@@ -27,8 +27,8 @@ first_values : (g : Given) (r : Reading) (i : ℕ) (values rest : List PageValue
 first_values g r i [] rest have = tt
 first_values g r i (v ∷ values) rest have = (have.0, first_values g r (suc i) values rest have.1)
 
-pub fronts : RunsHaveFronts
-fronts g bytes reading values rest run = record {
+pub prefixes : RunsHavePrefixes
+prefixes g bytes reading values rest run = record {
   document = run.document;
   pages = record {
     few = let few = run.pages.few in let size = length-append values rest in omega (arith, few, size);
@@ -89,13 +89,13 @@ module _ (reading : OneReading) (one : OneRun) (g : Given) (files : Files) (told
       let same : r ≡ s = reading g bytes r s v w a.run b in
       let few : length w ≤ length v = rw a.all (rw same b.pages.few) in
       let more = one g files bytes s r w v told b a.run few in
-      front_is_good w more.0 (ap run_fault (sym more.1) ∙ good)
+      prefix_is_good w more.0 (ap run_fault (sym more.1) ∙ good)
 
 -- ---- what two runs wrote
 
-none_behind : (v rest : List PageValue) → length (v ++ rest) ≤ length v → run_text (v ++ rest) ≡ run_text v
-none_behind v [] le = ap run_text (append-nil v)
-none_behind v (x ∷ rest) le = let size = length-append v (x ∷ rest) in absurd (omega (arith, le, size))
+none_after : (v rest : List PageValue) → length (v ++ rest) ≤ length v → run_text (v ++ rest) ≡ run_text v
+none_after v [] le = ap run_text (append-nil v)
+none_after v (x ∷ rest) le = let size = length-append v (x ∷ rest) in absurd (omega (arith, le, size))
 
 module _ (reading : OneReading) (one : OneRun) (g : Given) (files : Files) (told : g.library ≡ Some files) (bytes : List ℕ) where
   -- all pages
@@ -105,7 +105,7 @@ module _ (reading : OneReading) (one : OneRun) (g : Given) (files : Files) (told
       let le : length v ≤ length w = omega (arith, all, other, same) in
       let ge : length w ≤ length v = omega (arith, all, other, same) in
       let more = one g files bytes r s v w told a b le in
-      sym (none_behind v more.0 (subst (λ (l : List PageValue). length l ≤ length v) more.1 ge)) ∙ ap run_text (sym more.1)
+      sym (none_after v more.0 (subst (λ (l : List PageValue). length l ≤ length v) more.1 ge)) ∙ ap run_text (sym more.1)
 
   -- the pages before the first without a bitmap
   stopped_alike : (r s : Reading) (v w : List PageValue) (p q : FailingPage) → IsRun g bytes r v → IsRun g bytes s w → run_fault v ≡ Some p → run_fault w ≡ Some q → run_text v ≡ run_text w

@@ -5,7 +5,7 @@ use Rattle.page_index.specs.Faults.{IsFirstFault}
 use Rattle.page_draw.specs.Values.{PageValue}
 use Rattle.dvi_run.specs.Reading.{IsRead}
 use Rattle.dvi_run.specs.Pages.{AreValues, Given}
-use Rattle.dvi_run.specs.Endings.{EndingSeen, Written, Usage, Document, Page, Source, Input, Output, Notes, Memory, EndsBytes, EndsPages, IsEnding, OfRun, Stopped, Wrote, WroteBefore, WroteFront, WroteSome}
+use Rattle.dvi_run.specs.Endings.{EndingSeen, Written, Usage, Document, Page, Source, Input, Output, Notes, Memory, EndsBytes, EndsPages, IsEnding, OfRun, Stopped, Wrote, WroteBefore, WrotePrefix, WroteSome}
 use Rattle.dvi_run.proofs.Told.{all_read, of_read}
 
 module _ (old new : Option (List ℕ)) (OutputFailed SourceFailed OutputKept : Type 0) (g : Given) where
@@ -33,7 +33,7 @@ module _ (old new : Option (List ℕ)) (OutputFailed SourceFailed OutputKept : T
   bytes_end I left rest bytes read (Source page) h =
       (all_read left rest bytes read, of_read (λ bytes. OfRun g bytes (WroteBefore old new page)) left rest bytes read h.0, h.1)
   bytes_end I left rest bytes read (Output page) h =
-      (all_read left rest bytes read, of_read (λ bytes. OfRun g bytes (λ _. WroteFront old new page)) left rest bytes read h.0, h.1)
+      (all_read left rest bytes read, of_read (λ bytes. OfRun g bytes (λ _. WrotePrefix old new page)) left rest bytes read h.0, h.1)
   bytes_end I left rest bytes read Notes h = (all_read left rest bytes read, of_read (λ bytes. OfRun g bytes (Wrote old new)) left rest bytes read h)
   bytes_end I left rest bytes read Memory (inl same) = inl same
   bytes_end I left rest bytes read Memory (inr h) = inr (of_read (λ bytes. OfRun g bytes (λ _. WroteSome old new)) left rest bytes read h)

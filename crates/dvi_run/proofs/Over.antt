@@ -35,7 +35,8 @@ several n lt = grind arith
 single : (n : ℕ) → n ≤ 1 → nat_lt 1 n ≡ false
 single n le = grind arith
 
--- a round that begins with page `done`, and has page p, both from 0, ends where it has 32 pages or is one worker's
+-- a round that begins with page `done`, and has page p, both from 0, ends where it has 32 pages or
+-- is one worker's
 round_of : (n done p total : ℕ) → (n ≡ 1 → total ≤ done + 1) → (2 ≤ n → done % 32 ≡ 0) → 1 ≤ n → done ≤ p → p < done + 32 → total ≤ done + 32 → total ≤ round_end n (p + 1)
 round_of n done p total alone even some low high near = elim (cases_lt 1 n) [
   | inl two ↦

@@ -31,7 +31,7 @@ module _ (old new : Option (List ℕ)) (OutputFailed SourceFailed OutputKept Inp
     nothing = nothing_by e h;
     stopped = λ is. end.page_by old new OutputFailed SourceFailed OutputKept InputFailed g left rest e is h;
     before = λ is. (end.source_by old new OutputFailed SourceFailed OutputKept InputFailed g left rest e is h).0;
-    front = λ is. (end.output_by old new OutputFailed SourceFailed OutputKept InputFailed g left rest e is h).0;
+    prefix = λ is. (end.output_by old new OutputFailed SourceFailed OutputKept InputFailed g left rest e is h).0;
     memory = λ is. end.memory_by old new OutputFailed SourceFailed OutputKept InputFailed g left rest e is h;
   }
 
@@ -107,7 +107,7 @@ idle_cut_short g left old new OutputKept kept = record {
   nothing = λ is. absurd (not_early is);
   stopped = λ is. absurd (not_page is);
   before = λ is. cc;
-  front = λ is. cc;
+  prefix = λ is. cc;
   memory = λ is. inl kept;
 }
 

@@ -1,4 +1,5 @@
--- The end of a run after its report: it is as it was, but where all pages were written and the notes failed.
+-- The end of a run after its report: it is as it was, but where all pages were written and the
+-- notes failed.
 use Rattle.std.proofs.Common.{◌≡◌, ◌∙◌, inl, inr, ℕ, Bool, true, false, List, [], ◌∷◌, ◌++◌, Option, Some, None, Result, Ok, Err, refl, sym, ap, get_or}
 use Rattle.std.specs.Prelude.{is_ok}
 use Rattle.outside.specs.Counts.{Rose}

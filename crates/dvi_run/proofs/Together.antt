@@ -312,59 +312,59 @@ idle_drew g counted old new capacity n status e history ws (Some bytes) idle non
 -- ---- the first of some workers
 
 module _ {F : Type 0} (library : F → Option Files) (faults loads : F → ℕ) (g : Given) (counted : Bool) (reading : Reading) (capacity : ℕ) (old new : Option (List ℕ)) (P : Type 0) (e : EndingSeen) (tally : Option Tally)
-    (history : List Call) (n : ℕ) (before front rest : List (Worker F)) (long : length front ≡ n) where
+    (history : List Call) (n : ℕ) (before prefix rest : List (Worker F)) (long : length prefix ≡ n) where
   was : (k : ℕ) (d : Worker F) → k < n → get_or (take n before) k d ≡ get_or before k d
   was k d lt = get_or-take n before k d lt
 
-  is : (k : ℕ) (d : Worker F) → k < n → get_or front k d ≡ get_or (front ++ rest) k d
-  is k d lt = sym (get_or_append_left front rest d k (omega arith))
+  is : (k : ℕ) (d : Worker F) → k < n → get_or prefix k d ≡ get_or (prefix ++ rest) k d
+  is k d lt = sym (get_or_append_left prefix rest d k (omega arith))
 
-  pub of_front : DrewPages library faults loads g counted reading capacity n old new P e tally history (take n before) front
-      → DrewPages library faults loads g counted reading capacity n old new P e tally history before (front ++ rest)
-  of_front d = record {
+  pub of_prefix : DrewPages library faults loads g counted reading capacity n old new P e tally history (take n before) prefix
+      → DrewPages library faults loads g counted reading capacity n old new P e tally history before (prefix ++ rest)
+  of_prefix d = record {
     ends = d.ends;
     failed = λ page at.
         let f = d.failed page at in
-        (f.0, f.1, λ w. subst (λ (x : Worker F). FailedAt faults page x (get_or (front ++ rest) f.0 w)) (was f.0 w f.1) (subst (λ (x : Worker F). FailedAt faults page (get_or (take n before) f.0 w) x) (is f.0 w f.1) (f.2 w)));
+        (f.0, f.1, λ w. subst (λ (x : Worker F). FailedAt faults page x (get_or (prefix ++ rest) f.0 w)) (was f.0 w f.1) (subst (λ (x : Worker F). FailedAt faults page (get_or (take n before) f.0 w) x) (is f.0 w f.1) (f.2 w)));
     shares = record {
       drawn = d.shares.drawn;
       few = d.shares.few;
-      shares = λ w. shared_as d.shares.drawn n (λ k. (get_or front k w).pages.items) (λ k. (get_or (front ++ rest) k w).pages.items) (λ k lt. sym (ap (λ (x : Worker F). x.pages.items) (is k w lt))) (d.shares.shares w);
+      shares = λ w. shared_as d.shares.drawn n (λ k. (get_or prefix k w).pages.items) (λ k. (get_or (prefix ++ rest) k w).pages.items) (λ k lt. sym (ap (λ (x : Worker F). x.pages.items) (is k w lt))) (d.shares.shares w);
       reach = d.shares.reach;
       written = d.shares.written;
     };
     one = d.one;
     ran = λ k w lt.
-        subst (λ (x : Worker F). Ran (IsDrawnThrough n e) library faults loads g reading history (k + 1) x (get_or (front ++ rest) k w)) (was k w lt)
+        subst (λ (x : Worker F). Ran (IsDrawnThrough n e) library faults loads g reading history (k + 1) x (get_or (prefix ++ rest) k w)) (was k w lt)
         (subst (λ (x : Worker F). Ran (IsDrawnThrough n e) library faults loads g reading history (k + 1) (get_or (take n before) k w) x) (is k w lt) (d.ran k w lt));
   }
 
 -- and the others are as they were
-pub rest_of_front : {F : Type 0} (n : ℕ) (before front : List (Worker F)) → length front ≡ n → RestIsKept n before (front ++ drop n before)
-rest_of_front n before front long k d le =
+pub rest_of_prefix : {F : Type 0} (n : ℕ) (before prefix : List (Worker F)) → length prefix ≡ n → RestIsKept n before (prefix ++ drop n before)
+rest_of_prefix n before prefix long k d le =
     let j = k - n in
-    let at : k ≡ length front + j = omega arith in
+    let at : k ≡ length prefix + j = omega arith in
     let back : n + j ≡ k = omega arith in
-    ap (λ (i : ℕ). get_or (front ++ drop n before) i d) at ∙ get_or-append-add front (drop n before) j d ∙ get_or-drop n before j d ∙ ap (λ (i : ℕ). get_or before i d) back
+    ap (λ (i : ℕ). get_or (prefix ++ drop n before) i d) at ∙ get_or-append-add prefix (drop n before) j d ∙ get_or-drop n before j d ∙ ap (λ (i : ℕ). get_or before i d) back
 
 -- the first of them may begin
 module _ {F : Type 0} (n : ℕ) (ws : List (Worker F)) (there : n ≤ length ws) where
-  long_front : length (take n ws) ≡ n
-  long_front = length-take-le n ws there
+  long_prefix : length (take n ws) ≡ n
+  long_prefix = length-take-le n ws there
 
-  pub front_some : 1 ≤ n → 1 ≤ length (take n ws)
-  front_some some = subst (λ (m : ℕ). 1 ≤ m) (sym long_front) some
+  pub prefix_some : 1 ≤ n → 1 ≤ length (take n ws)
+  prefix_some some = subst (λ (m : ℕ). 1 ≤ m) (sym long_prefix) some
 
-  pub front_few : n ≤ 32 → length (take n ws) ≤ 32
-  front_few few = subst (λ (m : ℕ). m ≤ 32) (sym long_front) few
+  pub prefix_few : n ≤ 32 → length (take n ws) ≤ 32
+  prefix_few few = subst (λ (m : ℕ). m ≤ 32) (sym long_prefix) few
 
-  front_at : (k : ℕ) (d : Worker F) → k < length (take n ws) → (k < n) × (get_or (take n ws) k d ≡ get_or ws k d)
-  front_at k d lt = let below : k < n = subst (λ (m : ℕ). k < m) long_front lt in (below, get_or-take n ws k d below)
+  prefix_at : (k : ℕ) (d : Worker F) → k < length (take n ws) → (k < n) × (get_or (take n ws) k d ≡ get_or ws k d)
+  prefix_at k d lt = let below : k < n = subst (λ (m : ℕ). k < m) long_prefix lt in (below, get_or-take n ws k d below)
 
 module _ {F : Type 0} (library : F → Option Files) (told : Option Files) (n : ℕ) (ws : List (Worker F)) (there : n ≤ length ws)
     (ready : (k : ℕ) (d : Worker F) → k < n → IsReady library told (get_or ws k d)) where
-  pub front_fresh : (k : ℕ) (d : Worker F) → k < length (take n ws) → IsFresh library told (get_or (take n ws) k d)
-  front_fresh k d lt = let at = front_at n ws there k d lt in subst (λ (w : Worker F). IsFresh library told w) (sym at.1) (ready k d at.0).fresh
+  pub prefix_fresh : (k : ℕ) (d : Worker F) → k < length (take n ws) → IsFresh library told (get_or (take n ws) k d)
+  prefix_fresh k d lt = let at = prefix_at n ws there k d lt in subst (λ (w : Worker F). IsFresh library told w) (sym at.1) (ready k d at.0).fresh
 
-  pub front_seatless : (k : ℕ) (d : Worker F) → k < length (take n ws) → (get_or (take n ws) k d).seat ≡ None
-  front_seatless k d lt = let at = front_at n ws there k d lt in ap (λ (w : Worker F). w.seat) at.1 ∙ (ready k d at.0).seat
+  pub prefix_seatless : (k : ℕ) (d : Worker F) → k < length (take n ws) → (get_or (take n ws) k d).seat ≡ None
+  prefix_seatless k d lt = let at = prefix_at n ws there k d lt in ap (λ (w : Worker F). w.seat) at.1 ∙ (ready k d at.0).seat

@@ -16,12 +16,12 @@ use Rattle.page_draw.specs.declared.stop.PageStop.TheVariants as draw
 use Rattle.pbm_output.specs.Pbm.{page_text}
 use Rattle.dvi_run.specs.Pages.{AreValues, Given, HaveValues, IsValueOf, failing_page, run_text, whole_pages}
 use Rattle.dvi_run.specs.Laws.{good}
-use Rattle.dvi_run.specs.Endings.{EndingSeen, EndsPages, IsWriteStop, Stopped, Wrote, WroteBefore, Written, WroteFront, WroteSome, ending_at}
+use Rattle.dvi_run.specs.Endings.{EndingSeen, EndsPages, IsWriteStop, Stopped, Wrote, WroteBefore, Written, WrotePrefix, WroteSome, ending_at}
 use Rattle.dvi_run.specs.Rounds.{black_of}
 use Rattle.dvi_run.specs.Tally.{AreWritten, IsAfter, IsTally}
 use Rattle.dvi_run.specs.declared.pages.WriteStop.{WriteStop}
 use Rattle.dvi_run.specs.declared.pages.WriteStop.TheVariants as stop
-use Rattle.dvi_run.proofs.Fronts.{runs_end, runs_of_good_pages, whole_all, whole_first}
+use Rattle.dvi_run.proofs.Prefixes.{runs_end, runs_of_good_pages, whole_all, whole_first}
 
 -- ---- one value more
 
@@ -34,7 +34,8 @@ values_more g r i n (w ∷ values) v have is value =
     let next : n ≡ suc i + length values = omega (arith, is) in
     (have.0, values_more g r (suc i) n values v have.1 next value)
 
--- the pages before the one with a number, from 0, have bitmaps, and they were written; with their black dots, where they are counted
+-- the pages before the one with a number, from 0, have bitmaps, and they were written; with their
+-- black dots, where they are counted
 pub record IsWrittenTo (g : Given) (r : Reading) (old now : Option (List ℕ)) (i : ℕ) (counted : Bool) (black : ℕ) : Type 0 where
   pub pages : List Bitmap
   pub count : length pages ≡ i
@@ -148,8 +149,8 @@ module _ (g : Given) (r : Reading) (old now : Option (List ℕ)) (i : ℕ) (coun
       },
     )
 
-    pub fails : (own : Bitmap) → IsValueOf g r i (Ok own) → AppendsPrefix now new (page_text own) → AreValues g r (with_one (Ok own)) × WroteFront old new page (with_one (Ok own))
-    fails own value front = (
+    pub fails : (own : Bitmap) → IsValueOf g r i (Ok own) → AppendsPrefix now new (page_text own) → AreValues g r (with_one (Ok own)) × WrotePrefix old new page (with_one (Ok own))
+    fails own value prefix = (
       and_one (Ok own) below value,
       record {
         before = w.pages;
@@ -157,9 +158,9 @@ module _ (g : Given) (r : Reading) (old now : Option (List ℕ)) (i : ℕ) (coun
         rest = [];
         pages = ap whole_pages (sym (map-append good w.pages (own ∷ []))) ∙ whole_all (w.pages ++ own ∷ []);
         number = number ∙ ap suc (sym w.count);
-        size = front.0;
-        within = front.1;
-        grew = grown_twice old now new (flat_map page_text w.pages) (take front.0 (page_text own)) w.grew front.2;
+        size = prefix.0;
+        within = prefix.1;
+        grew = grown_twice old now new (flat_map page_text w.pages) (take prefix.0 (page_text own)) w.grew prefix.2;
       },
     )
 

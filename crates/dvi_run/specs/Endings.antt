@@ -19,9 +19,10 @@ use Rattle.dvi_run.specs.declared.ending.Ending.TheVariants as code
 use Rattle.dvi_run.specs.declared.pages.WriteStop.{WriteStop}
 use Rattle.dvi_run.specs.declared.pages.WriteStop.TheVariants as stop
 
--- how a run ends: all pages were written, and the report; the words are no line; the bytes are no document; a page has no bitmap; the
--- source of the fonts failed at a page, or the input, or the output at a page; all pages were written, and the notes failed to take the
--- report; or memory was wanting. Pages are counted from 1
+-- how a run ends: all pages were written, and the report; the words are no line; the bytes are no
+-- document; a page has no bitmap; the source of the fonts failed at a page, or the input, or the
+-- output at a page; all pages were written, and the notes failed to take the report; or memory ran
+-- out. Pages are counted from 1
 pub data EndingSeen : Type 0 where
   Written : EndingSeen
   Usage : EndingSeen
@@ -37,13 +38,15 @@ abbrev pub seen_ending : Ending → EndingSeen
 seen_ending code.Written = Written
 seen_ending code.Usage = Usage
 seen_ending (code.Document fault) = Document fault
-seen_ending (code.Page page fault at) = Page (record { page = page; fault = seen_fault fault; at = at })
+seen_ending (code.Page page fault at) =
+    Page (record { page = page; fault = seen_fault fault; at = at })
 seen_ending (code.Source page) = Source page
 seen_ending code.Input = Input
 seen_ending (code.Output page) = Output page
 seen_ending code.Memory = Memory
 
--- how a run ends that came to such an end, by whether the notes took its report. That they fail matters only where all pages were written
+-- how a run ends that came to such an end, by whether the notes took its report. That they fail
+-- matters only where all pages were written
 abbrev pub with_notes : EndingSeen → (taken : Bool) → EndingSeen
 with_notes Written true = Written
 with_notes Written false = Notes
@@ -82,25 +85,30 @@ WroteAll status = (status ≡ 0) ⊎ (status ≡ 8)
 -- ---- what was written, by the values of a document's pages
 
 -- all pages, and each has a bitmap
-pub record Wrote (old new : Option (List ℕ)) (reading : Reading) (values : List PageValue) : Type 0 where
+pub record Wrote (old new : Option (List ℕ)) (reading : Reading)
+    (values : List PageValue) : Type 0 where
   pub all : length values ≡ pages_begun reading
   pub good : run_fault values ≡ None
   pub grew : Appends old new (run_text values)
 
 -- all pages before the first that has no bitmap
-pub record Stopped (old new : Option (List ℕ)) (page : FailingPage) (values : List PageValue) : Type 0 where
+pub record Stopped (old new : Option (List ℕ)) (page : FailingPage)
+    (values : List PageValue) : Type 0 where
   pub fails : run_fault values ≡ Some page
   pub grew : Appends old new (run_text values)
 
 -- all pages before the one with this number, from 1, and nothing of its own; they have bitmaps
-pub record WroteBefore (old new : Option (List ℕ)) (page : ℕ) (reading : Reading) (values : List PageValue) : Type 0 where
+pub record WroteBefore (old new : Option (List ℕ)) (page : ℕ) (reading : Reading)
+    (values : List PageValue) : Type 0 where
   pub there : page ≤ pages_begun reading
   pub number : page ≡ suc (length values)
   pub good : run_fault values ≡ None
   pub grew : Appends old new (run_text values)
 
--- all pages before the one with this number, from 1, and a front of its own text, never all; it and they have bitmaps
-pub record WroteFront (old new : Option (List ℕ)) (page : ℕ) (values : List PageValue) : Type 0 where
+-- all pages before the one with this number, from 1, and a prefix of its own text, never all; it
+-- and they have bitmaps
+pub record WrotePrefix (old new : Option (List ℕ)) (page : ℕ)
+    (values : List PageValue) : Type 0 where
   pub before : List Bitmap
   pub own : Bitmap
   pub rest : List Bitmap
@@ -110,14 +118,16 @@ pub record WroteFront (old new : Option (List ℕ)) (page : ℕ) (values : List 
   pub within : size < length (page_text own)
   pub grew : Appends old new (flat_map page_text before ++ take size (page_text own))
 
--- so many pages, which have bitmaps, and none before them has none
+-- n pages, which have bitmaps, and none before them has none
 pub record WroteSome (old new : Option (List ℕ)) (values : List PageValue) : Type 0 where
   pub count : ℕ
   pub grew : Appends old new (flat_map page_text (take count (whole_pages values)))
 
 -- the bytes are a document, and its reading and the values of its first pages have P
 abbrev pub OfRun : Given → List ℕ → (Reading → List PageValue → Type 0) → Type 0
-OfRun g bytes P = (reading : Reading) × (values : List PageValue) × IsRun g bytes reading values × P reading values
+OfRun g bytes P =
+    (reading : Reading) × (values : List PageValue) × IsRun g bytes reading values
+    × P reading values
 
 -- ---- the fonts' source
 
@@ -130,11 +140,15 @@ module _ {F : Type 0} (faults : F → ℕ) where
 -- ---- the line and its cause
 
 -- what the line says is so, where the input tells its bytes
-abbrev pub IsPlaced : Given → EndingSeen → Option (List ℕ) → Option (List ℕ) → Option (List ℕ) → Type 0
+abbrev pub IsPlaced : Given → EndingSeen → Option (List ℕ) → Option (List ℕ) → Option (List ℕ)
+    → Type 0
 IsPlaced g (Document fault) left old new = OfRead left (λ bytes. IsFirstFault g.res bytes fault)
-IsPlaced g (Page page) left old new = OfRead left (λ bytes. OfRun g bytes (λ _. Stopped old new page))
-IsPlaced g (Source page) left old new = OfRead left (λ bytes. OfRun g bytes (WroteBefore old new page))
-IsPlaced g (Output page) left old new = OfRead left (λ bytes. OfRun g bytes (λ _. WroteFront old new page))
+IsPlaced g (Page page) left old new =
+    OfRead left (λ bytes. OfRun g bytes (λ _. Stopped old new page))
+IsPlaced g (Source page) left old new =
+    OfRead left (λ bytes. OfRun g bytes (WroteBefore old new page))
+IsPlaced g (Output page) left old new =
+    OfRead left (λ bytes. OfRun g bytes (λ _. WrotePrefix old new page))
 IsPlaced g _ left old new = Unit {0}
 
 -- the text was written, or a prefix of it, never all, where the count rose
@@ -147,7 +161,8 @@ pub record IsTold (old new : Option (List ℕ)) (before now : ℕ) (text : List 
   pub tells : Tells old new before now text
   pub count : before ≤ now
 
--- what the notes took of the report of a run that ends so: where all pages were written the end says whether all of it
+-- what the notes took of the report of a run that ends so: where all pages were written the end
+-- says whether all of it
 abbrev pub TellsBy : EndingSeen → Option (List ℕ) → Option (List ℕ) → ℕ → ℕ → List ℕ → Type 0
 TellsBy Written old new before now text = Appends old new text
 TellsBy Notes old new before now text = AppendsPrefix old new text × Rose before now
@@ -157,53 +172,67 @@ TellsBy _ old new before now text = Tells old new before now text
 
 -- how a run ends that doesn't write the page with this number, from 1
 abbrev pub ending_at : ℕ → WriteStop → EndingSeen
-ending_at page (stop.Draw (draw.Fault fault at)) = Page (record { page = page; fault = seen_fault fault; at = at })
+ending_at page (stop.Draw (draw.Fault fault at)) =
+    Page (record { page = page; fault = seen_fault fault; at = at })
 ending_at page (stop.Draw draw.SourceFault) = Source page
 ending_at page (stop.Draw draw.NoMemory) = Memory
 ending_at page stop.Output = Output page
 
 -- what is told before and after, and whether the output and the source failed
 module _ (old new : Option (List ℕ)) (OutputFailed SourceFailed : Type 0) where
-  -- why a page was not written, which was drawn so or was broken off; only a failed write leaves something of it
+  -- why a page was not written, which was drawn so or was broken off; only a failed write leaves
+  -- something of it
   abbrev pub IsWriteStop : (Draws : PageValue → Type 0) (Breaks : Type 0) → WriteStop → Type 0
-  IsWriteStop Draws Breaks (stop.Draw (draw.Fault fault at)) = Draws (fault_at (seen_fault fault) at) × (new ≡ old)
+  IsWriteStop Draws Breaks (stop.Draw (draw.Fault fault at)) =
+      Draws (fault_at (seen_fault fault) at) × (new ≡ old)
   IsWriteStop Draws Breaks (stop.Draw draw.SourceFault) = SourceFailed × Breaks × (new ≡ old)
   IsWriteStop Draws Breaks (stop.Draw draw.NoMemory) = Breaks × (new ≡ old)
-  IsWriteStop Draws Breaks stop.Output = (page : Bitmap) × Draws (Ok page) × AppendsPrefix old new (page_text page) × OutputFailed
+  IsWriteStop Draws Breaks stop.Output =
+      (page : Bitmap) × Draws (Ok page) × AppendsPrefix old new (page_text page) × OutputFailed
 
   -- how the writing of a document's pages ended
   abbrev pub EndsPages : EndingSeen → Reading → List PageValue → Type 0
   EndsPages Written reading values = Wrote old new reading values
   EndsPages (Page page) reading values = Stopped old new page values
   EndsPages (Source page) reading values = WroteBefore old new page reading values × SourceFailed
-  EndsPages (Output page) reading values = WroteFront old new page values × OutputFailed
+  EndsPages (Output page) reading values = WrotePrefix old new page values × OutputFailed
   EndsPages Notes reading values = Wrote old new reading values
   EndsPages Memory reading values = WroteSome old new values
   EndsPages _ reading values = ⊥
 
-  -- what holds of bytes that were read and led to this end; nothing was written where the output is kept
+  -- what holds of bytes that were read and led to this end; nothing was written where the output is
+  -- kept
   abbrev pub EndsBytes : (OutputKept : Type 0) → Given → List ℕ → EndingSeen → Type 0
   EndsBytes OutputKept g bytes Written = OfRun g bytes (Wrote old new)
   EndsBytes OutputKept g bytes (Document fault) = IsFirstFault g.res bytes fault × OutputKept
   EndsBytes OutputKept g bytes (Page page) = OfRun g bytes (λ _. Stopped old new page)
-  EndsBytes OutputKept g bytes (Source page) = OfRun g bytes (WroteBefore old new page) × SourceFailed
-  EndsBytes OutputKept g bytes (Output page) = OfRun g bytes (λ _. WroteFront old new page) × OutputFailed
+  EndsBytes OutputKept g bytes (Source page) =
+      OfRun g bytes (WroteBefore old new page) × SourceFailed
+  EndsBytes OutputKept g bytes (Output page) =
+      OfRun g bytes (λ _. WrotePrefix old new page) × OutputFailed
   EndsBytes OutputKept g bytes Notes = OfRun g bytes (Wrote old new)
   EndsBytes OutputKept g bytes Memory = OutputKept ⊎ OfRun g bytes (λ _. WroteSome old new)
   EndsBytes OutputKept g bytes _ = ⊥
 
-  -- what holds of a run that ends so; `left` and `rest` are what the input has left before and after
-  abbrev pub IsEnding : (OutputKept InputFailed : Type 0) → Given → Option (List ℕ) → Option (List ℕ) → EndingSeen → Type 0
-  IsEnding OutputKept InputFailed g left rest Written = IsAllRead left rest × OfRead left (λ bytes. OfRun g bytes (Wrote old new))
+  -- what holds of a run that ends so; `left` and `rest` are what the input has left before and
+  -- after
+  abbrev pub IsEnding : (OutputKept InputFailed : Type 0) → Given → Option (List ℕ)
+      → Option (List ℕ) → EndingSeen → Type 0
+  IsEnding OutputKept InputFailed g left rest Written =
+      IsAllRead left rest × OfRead left (λ bytes. OfRun g bytes (Wrote old new))
   IsEnding OutputKept InputFailed g left rest Usage = ⊥
   IsEnding OutputKept InputFailed g left rest (Document fault) =
       IsAllRead left rest × OfRead left (λ bytes. IsFirstFault g.res bytes fault) × OutputKept
   IsEnding OutputKept InputFailed g left rest (Page page) =
       IsAllRead left rest × OfRead left (λ bytes. OfRun g bytes (λ _. Stopped old new page))
   IsEnding OutputKept InputFailed g left rest (Source page) =
-      IsAllRead left rest × OfRead left (λ bytes. OfRun g bytes (WroteBefore old new page)) × SourceFailed
+      IsAllRead left rest × OfRead left (λ bytes. OfRun g bytes (WroteBefore old new page))
+      × SourceFailed
   IsEnding OutputKept InputFailed g left rest Input = InputFailed × OutputKept
   IsEnding OutputKept InputFailed g left rest (Output page) =
-      IsAllRead left rest × OfRead left (λ bytes. OfRun g bytes (λ _. WroteFront old new page)) × OutputFailed
-  IsEnding OutputKept InputFailed g left rest Notes = IsAllRead left rest × OfRead left (λ bytes. OfRun g bytes (Wrote old new))
-  IsEnding OutputKept InputFailed g left rest Memory = OutputKept ⊎ OfRead left (λ bytes. OfRun g bytes (λ _. WroteSome old new))
+      IsAllRead left rest × OfRead left (λ bytes. OfRun g bytes (λ _. WrotePrefix old new page))
+      × OutputFailed
+  IsEnding OutputKept InputFailed g left rest Notes =
+      IsAllRead left rest × OfRead left (λ bytes. OfRun g bytes (Wrote old new))
+  IsEnding OutputKept InputFailed g left rest Memory =
+      OutputKept ⊎ OfRead left (λ bytes. OfRun g bytes (λ _. WroteSome old new))

@@ -24,9 +24,12 @@ good page = Ok page
 
 -- where each page has a bitmap the run's text is that of all, and no page fails
 abbrev pub RunsOfGoodPages : Type 0
-RunsOfGoodPages = (pages : List Bitmap) → (run_text (map good pages) ≡ flat_map page_text pages) × (run_fault (map good pages) ≡ None)
+RunsOfGoodPages =
+    (pages : List Bitmap) → (run_text (map good pages) ≡ flat_map page_text pages) × (run_fault
+    (map good pages) ≡ None)
 
--- else it is that of the pages before the first that has none, and that page fails, whatever follows it
+-- else it is that of the pages before the first that has none, and that page fails, whatever
+-- follows it
 abbrev pub RunsEndAtTheFirstFault : Type 0
 RunsEndAtTheFirstFault = (pages : List Bitmap) (f : PlacedFault) (rest : List PageValue)
     → (run_text (map good pages ++ Err f ∷ rest) ≡ flat_map page_text pages)
@@ -41,12 +44,16 @@ FaultsEndTheRun = (values rest : List PageValue) (page : FailingPage) → run_fa
 
 -- bytes are one document
 abbrev pub OneReading : Type 0
-OneReading = (g : Given) (bytes : List ℕ) (r s : Reading) (v w : List PageValue) → IsRun g bytes r v → IsRun g bytes s w → r ≡ s
+OneReading = (g : Given) (bytes : List ℕ) (r s : Reading) (v w : List PageValue) → IsRun g bytes r v
+    → IsRun g bytes s w → r ≡ s
 
--- where the font files are told, its pages have one value each: of two lists the longer one begins with the other
+-- where the font files are told, its pages have one value each: of two lists the longer one begins
+-- with the other
 abbrev pub OneRun : Type 0
-OneRun = (g : Given) (files : Files) (bytes : List ℕ) (r s : Reading) (v w : List PageValue) → g.library ≡ Some files
-    → IsRun g bytes r v → IsRun g bytes s w → length v ≤ length w → (rest : List PageValue) × (w ≡ v ++ rest)
+OneRun = (g : Given) (files : Files) (bytes : List ℕ) (r s : Reading) (v w : List PageValue)
+    → g.library ≡ Some files
+    → IsRun g bytes r v → IsRun g bytes s w → length v ≤ length w
+    → (rest : List PageValue) × (w ≡ v ++ rest)
 
 -- these are the values of all pages of a document, and there are no others
 pub record HasOneRun (g : Given) (bytes : List ℕ) (reading : Reading) : Type 0 where
@@ -55,26 +62,32 @@ pub record HasOneRun (g : Given) (bytes : List ℕ) (reading : Reading) : Type 0
   pub only : (s : Reading) (others : List PageValue) → IsWholeRun g bytes s others
       → others ≡ values
 
--- where the font files are told, and are files of bytes, a document has exactly one list of the values
--- of all its pages
+-- where the font files are told, and are files of bytes, a document has exactly one list of the
+-- values of all its pages
 abbrev pub EachDocumentHasOneRun : Type 0
 EachDocumentHasOneRun = (g : Given) (files : Files) (bytes : List ℕ) (reading : Reading)
     → AreByteFiles files → g.library ≡ Some files → IsDocument g.res bytes reading
     → HasOneRun g bytes reading
 
 -- the first of some values are values too
-abbrev pub RunsHaveFronts : Type 0
-RunsHaveFronts = (g : Given) (bytes : List ℕ) (reading : Reading) (values rest : List PageValue) → IsRun g bytes reading (values ++ rest)
+abbrev pub RunsHavePrefixes : Type 0
+RunsHavePrefixes =
+    (g : Given) (bytes : List ℕ) (reading : Reading) (values rest : List PageValue)
+    → IsRun g bytes reading (values ++ rest)
     → IsRun g bytes reading values
 
 -- each page has an end, so that its value is that of commands up to there
 abbrev pub EachPageHasItsEop : Type 0
-EachPageHasItsEop = (g : Given) (bytes : List ℕ) (reading : Reading) (values : List PageValue) (i : ℕ) → IsRun g bytes reading values → i < length values
+EachPageHasItsEop =
+    (g : Given) (bytes : List ℕ) (reading : Reading) (values : List PageValue) (i : ℕ)
+    → IsRun g bytes reading values → i < length values
     → eop_at i reading ≡ Some (unwrap_or (eop_at i reading) 0)
 
 -- and no bytes are a document and have a fault
 abbrev pub RunsHaveNoFault : Type 0
-RunsHaveNoFault = (g : Given) (bytes : List ℕ) (reading : Reading) (values : List PageValue) (fault : DocFault) → IsRun g bytes reading values
+RunsHaveNoFault =
+    (g : Given) (bytes : List ℕ) (reading : Reading) (values : List PageValue) (fault : DocFault)
+    → IsRun g bytes reading values
     → IsFirstFault g.res bytes fault → ⊥
 
 -- ---- two runs
@@ -83,16 +96,23 @@ RunsHaveNoFault = (g : Given) (bytes : List ℕ) (reading : Reading) (values : L
 abbrev pub GrewAlike : (old new other later : Option (List ℕ)) → Type 0
 GrewAlike old new other later = (text : List ℕ) × Appends old new text × Appends other later text
 
--- where the font files are told, runs over one document for one sheet that end well wrote one text, whatever their workers, caches and
--- schedules
+-- where the font files are told, runs over one document for one sheet that end well wrote one text,
+-- whatever their workers, caches and schedules
 abbrev pub GoodRunsWriteAlike : Type 0
-GoodRunsWriteAlike = (g : Given) (files : Files) (bytes : List ℕ) (old new other later : Option (List ℕ)) → g.library ≡ Some files
-    → OfRun g bytes (Wrote old new) → OfRun g bytes (Wrote other later) → GrewAlike old new other later
+GoodRunsWriteAlike =
+    (g : Given) (files : Files) (bytes : List ℕ) (old new other later : Option (List ℕ))
+    → g.library ≡ Some files
+    → OfRun g bytes (Wrote old new) → OfRun g bytes (Wrote other later)
+    → GrewAlike old new other later
 
--- and those that end at a page without a bitmap end at the same one, by the same fault, and wrote one text
+-- and those that end at a page without a bitmap end at the same one, by the same fault, and wrote
+-- one text
 abbrev pub StoppedRunsWriteAlike : Type 0
-StoppedRunsWriteAlike = (g : Given) (files : Files) (bytes : List ℕ) (old new other later : Option (List ℕ)) (p q : FailingPage) → g.library ≡ Some files
-    → OfRun g bytes (λ _. Stopped old new p) → OfRun g bytes (λ _. Stopped other later q) → (p ≡ q) × GrewAlike old new other later
+StoppedRunsWriteAlike =
+    (g : Given) (files : Files) (bytes : List ℕ) (old new other later : Option (List ℕ))
+    (p q : FailingPage) → g.library ≡ Some files
+    → OfRun g bytes (λ _. Stopped old new p) → OfRun g bytes (λ _. Stopped other later q)
+    → (p ≡ q) × GrewAlike old new other later
 
 -- ---- the sample
 

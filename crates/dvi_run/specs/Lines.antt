@@ -1,4 +1,5 @@
--- The line that a run prints to its notes as it ends, unless all pages were written, and what stands before it.
+-- The line that a run prints to its notes as it ends, unless all pages were written, and what
+-- stands before it.
 use Rattle.std.specs.Prelude.{ℕ, List, [], ◌++◌, codes, decimal}
 use Rattle.page_index.specs.declared.faults.DocFault.{DocFault}
 use Rattle.dvi_run.specs.Pages.{FailingPage}
@@ -7,11 +8,15 @@ use Rattle.dvi_run.specs.DocTexts.{doc_place, doc_text}
 use Rattle.dvi_run.specs.PageTexts.{fault_text}
 
 abbrev pub document_line : DocFault → List ℕ
-document_line fault = codes "dvipbm: document: " ++ doc_text fault ++ codes " at " ++ decimal (doc_place fault) ++ codes "\n"
+document_line fault =
+    codes "dvipbm: document: " ++ doc_text fault ++ codes " at " ++ decimal (doc_place fault)
+    ++ codes "\n"
 
 -- pages are counted from 1
 abbrev pub page_line : FailingPage → List ℕ
-page_line p = codes "dvipbm: page " ++ decimal p.page ++ codes " at " ++ decimal p.at ++ codes ": " ++ fault_text p.fault ++ codes "\n"
+page_line p =
+    codes "dvipbm: page " ++ decimal p.page ++ codes " at " ++ decimal p.at ++ codes ": "
+    ++ fault_text p.fault ++ codes "\n"
 
 abbrev pub source_line : ℕ → List ℕ
 source_line page = codes "dvipbm: page " ++ decimal page ++ codes ": font source failed\n"

@@ -10,7 +10,8 @@ use Rattle.dvi_run.specs.Endings.{EndingSeen, Written, Page, Source, Output, Not
 
 -- all look-ups of a page that came to its value
 abbrev pub IsLookedUp : Finding → Indexed → Sheet → ℕ → List FontKey → Type 0
-IsLookedUp Finds indexed sheet p keys = (value : PageValue) × IsPageValue Finds indexed sheet p value keys
+IsLookedUp Finds indexed sheet p keys =
+    (value : PageValue) × IsPageValue Finds indexed sheet p value keys
 
 -- those of a page that was broken off
 abbrev pub IsLookedUpSoFar : Finding → Indexed → ℕ → List FontKey → Type 0
@@ -20,10 +21,12 @@ IsLookedUpSoFar Finds indexed p keys = IsBroken Finds indexed p (Some []) (Some 
 abbrev pub WholeLooks : Finding → Indexed → Sheet → List ℕ → List FontKey → Type 0
 WholeLooks Finds indexed sheet [] keys = keys ≡ []
 WholeLooks Finds indexed sheet (p ∷ pages) keys =
-    (first : List FontKey) × (others : List FontKey) × (keys ≡ first ++ others) × IsLookedUp Finds indexed sheet p first × WholeLooks Finds indexed sheet pages others
+    (first : List FontKey) × (others : List FontKey) × (keys ≡ first ++ others)
+    × IsLookedUp Finds indexed sheet p first × WholeLooks Finds indexed sheet pages others
 
 -- the same, but that the last of these pages was broken off
-pub record BrokenLooks (Finds : Finding) (indexed : Indexed) (sheet : Sheet) (pages : List ℕ) (keys : List FontKey) : Type 0 where
+pub record BrokenLooks (Finds : Finding) (indexed : Indexed) (sheet : Sheet) (pages : List ℕ)
+    (keys : List FontKey) : Type 0 where
   pub before : List ℕ
   pub page : ℕ
   pub pages_are : pages ≡ before ++ page ∷ []
@@ -35,7 +38,7 @@ pub record BrokenLooks (Finds : Finding) (indexed : Indexed) (sheet : Sheet) (pa
 
 -- ---- by the end of the run
 
--- neither the source failed nor was memory wanting
+-- neither the source failed nor did memory run out
 abbrev pub IsUnbroken : EndingSeen → Type 0
 IsUnbroken (Source page) = ⊥
 IsUnbroken Memory = ⊥
@@ -47,12 +50,12 @@ IsAllWritten Written = Unit {0}
 IsAllWritten Notes = Unit {0}
 IsAllWritten _ = ⊥
 
--- each page that was drawn came to its end: all were written, or there is one worker, and neither its source failed nor was memory
--- wanting
+-- each page that was drawn came to its end: all were written, or there is one worker, and neither
+-- its source failed nor was memory wanting
 abbrev pub IsDrawnThrough : ℕ → EndingSeen → Type 0
 IsDrawnThrough n e = IsAllWritten e ⊎ ((n ≡ 1) × IsUnbroken e)
 
--- by its status: neither the source failed (5) nor was memory wanting (9)
+-- by its status: neither the source failed (5) nor did memory run out (9)
 abbrev pub IsUnbrokenBy : ℕ → Type 0
 IsUnbrokenBy status = (status ≢ 5) × (status ≢ 9)
 

@@ -17,11 +17,14 @@ pen_text pen.StackLeft = codes "stack left"
 abbrev pub fault_text : PageFaultSeen → List ℕ
 fault_text (page.NoFont number) = codes "no font " ++ signed_decimal number
 fault_text page.NoCurrentFont = codes "no current font"
-fault_text (page.NoCharacter k c) = codes "no character " ++ signed_decimal c ++ codes " in " ++ key_text k
+fault_text (page.NoCharacter k c) =
+    codes "no character " ++ signed_decimal c ++ codes " in " ++ key_text k
 fault_text (page.NoGlyph k c) = codes "no glyph " ++ signed_decimal c ++ codes " in " ++ key_text k
-fault_text (page.NoPacket k c) = codes "no packet " ++ signed_decimal c ++ codes " in " ++ key_text k
+fault_text (page.NoPacket k c) =
+    codes "no packet " ++ signed_decimal c ++ codes " in " ++ key_text k
 fault_text (page.NoLocalFont k None) = codes "no local font in " ++ key_text k
-fault_text (page.NoLocalFont k (Some number)) = codes "no local font " ++ signed_decimal number ++ codes " in " ++ key_text k
+fault_text (page.NoLocalFont k (Some number)) =
+    codes "no local font " ++ signed_decimal number ++ codes " in " ++ key_text k
 fault_text (page.Depth k c) = codes "depth at " ++ signed_decimal c ++ codes " in " ++ key_text k
 fault_text page.TooLong = codes "too long"
 fault_text (page.Font k fault) = codes "font " ++ key_text k ++ codes ": " ++ font_text fault

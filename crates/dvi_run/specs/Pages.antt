@@ -16,7 +16,8 @@ use Rattle.page_draw.specs.declared.sheet.Sheet.{Sheet}
 use Rattle.pbm_output.specs.Pbm.{page_text}
 use Rattle.command_line.specs.declared.settings.Settings.{Settings}
 
--- what a run is given besides its document: all the font files, where they are told, the dots for an inch, and the sheet
+-- what a run is given besides its document: all the font files, where they are told, the dots for
+-- an inch, and the sheet
 pub record Given : Type 0 where
   pub library : Option Files
   pub res : ℕ
@@ -31,15 +32,18 @@ given_by library settings = record { library = library; res = settings.res; shee
 abbrev pub finding : Given → Reading → Finding
 finding g reading = IsFontOf g.library (document_units g.res reading)
 
--- the page with a number, from 0, has this value, by some look-ups. Where the font files are told it has no other
+-- the page with a number, from 0, has this value, by some look-ups. Where the font files are told
+-- it has no other
 abbrev pub IsValueOf : Given → Reading → ℕ → PageValue → Type 0
 IsValueOf g reading i value =
-    (looks : List FontKey) × IsPageValue (finding g reading) (record { res = g.res; reading = reading }) g.sheet i value looks
+    (looks : List FontKey) × IsPageValue (finding g reading)
+    (record { res = g.res; reading = reading }) g.sheet i value looks
 
 -- the pages from a number on have these values, as far as the list goes
 abbrev pub HaveValues : Given → Reading → ℕ → List PageValue → Type 0
 HaveValues g reading i [] = Unit {0}
-HaveValues g reading i (value ∷ values) = IsValueOf g reading i value × HaveValues g reading (suc i) values
+HaveValues g reading i (value ∷ values) =
+    IsValueOf g reading i value × HaveValues g reading (suc i) values
 
 -- these are the values of the document's first pages, in the order of the file
 pub record AreValues (g : Given) (reading : Reading) (values : List PageValue) : Type 0 where
@@ -47,12 +51,14 @@ pub record AreValues (g : Given) (reading : Reading) (values : List PageValue) :
   pub are : HaveValues g reading 0 values
 
 -- the bytes are a document, and its first pages have these values
-pub record IsRun (g : Given) (bytes : List ℕ) (reading : Reading) (values : List PageValue) : Type 0 where
+pub record IsRun (g : Given) (bytes : List ℕ) (reading : Reading)
+    (values : List PageValue) : Type 0 where
   pub document : IsDocument g.res bytes reading
   pub pages : AreValues g reading values
 
 -- and there are no further pages
-pub record IsWholeRun (g : Given) (bytes : List ℕ) (reading : Reading) (values : List PageValue) : Type 0 where
+pub record IsWholeRun (g : Given) (bytes : List ℕ) (reading : Reading)
+    (values : List PageValue) : Type 0 where
   pub run : IsRun g bytes reading values
   pub all : length values ≡ pages_begun reading
 
@@ -84,4 +90,5 @@ run_text values = flat_map page_text (whole_pages values)
 
 -- and that page, if there is one
 abbrev pub run_fault : List PageValue → Option FailingPage
-run_fault values = option_map (failing_page (suc (length (whole_pages values)))) (first_fault values)
+run_fault values =
+    option_map (failing_page (suc (length (whole_pages values)))) (first_fault values)

@@ -10,7 +10,7 @@ most_read = 67108865
 abbrev pub read_of : List ℕ → List ℕ
 read_of bytes = take most_read bytes
 
--- the bytes were read, and then the input was at its end or so many bytes were read
+-- the bytes were read, and then the input was at its end or n bytes were read
 pub record IsRead (old new : Option (List ℕ)) (bytes : List ℕ) : Type 0 where
   pub taken : Consumes old new bytes
   pub few : length bytes ≤ most_read

@@ -39,9 +39,18 @@ pub record Site (F : Type 0) : Type 0 where
   pub given : Given
   pub reading : Reading
 
-abbrev pub site : {F : Type 0} → (F → Option Files) → (F → ℕ) → (F → ℕ) → Bench → Option Files → Indexed → Sheet → Site F
+abbrev pub site : {F : Type 0} → (F → Option Files) → (F → ℕ) → (F → ℕ) → Bench → Option Files
+    → Indexed → Sheet → Site F
 site library faults loads bench told indexed sheet =
-    record { library = library; faults = faults; loads = loads; bench = bench; given = record { library = told; res = indexed.res; sheet = sheet }; reading = indexed.reading }
+    record {
+      library = library;
+      faults = faults;
+      loads = loads;
+      bench = bench;
+      given = record { library = told; res = indexed.res; sheet = sheet };
+      reading =
+          indexed.reading;
+    }
 
 abbrev pub keys_of : Option SeatView → List FontKey
 keys_of None = []
@@ -53,7 +62,8 @@ indexed_of g reading = record { res = g.res; reading = reading }
 -- what came of a page is the page's own
 abbrev pub IsOutcomeOf : Given → Reading → ℕ → Result Bitmap PageStop → Type 0
 IsOutcomeOf g reading i (Ok page) = IsValueOf g reading i (Ok page)
-IsOutcomeOf g reading i (Err (draw.Fault fault at)) = IsValueOf g reading i (fault_at (seen_fault fault) at)
+IsOutcomeOf g reading i (Err (draw.Fault fault at)) =
+    IsValueOf g reading i (fault_at (seen_fault fault) at)
 IsOutcomeOf g reading i (Err draw.SourceFault) = Unit {0}
 IsOutcomeOf g reading i (Err draw.NoMemory) = Unit {0}
 
@@ -66,7 +76,9 @@ module _ {F : Type 0} (s : Site F) where
     pub faults : s.faults start.source ≤ s.faults now.source
 
   abbrev pub Trails : Type 0 → Worker F → Worker F → Type 0
-  Trails W start now = TrailGrew W (asked_at start.seat) (asked_at now.seat) (trail_of s.loads start) (trail_of s.loads now)
+  Trails W start now =
+      TrailGrew W (asked_at start.seat) (asked_at now.seat) (trail_of s.loads start)
+      (trail_of s.loads now)
 
   -- the worker has no result, and each page that it drew had a bitmap
   pub record Settled (start now : Worker F) : Type 0 where
@@ -74,7 +86,8 @@ module _ {F : Type 0} (s : Site F) where
     pub none : now.results.items ≡ []
     pub counter : now.counter ≡ None
     pub trail : Trails (Unit {0}) start now
-    pub looked : WholeLooks (finding s.given s.reading) (indexed_of s.given s.reading) s.given.sheet now.pages.items (keys_of now.seat)
+    pub looked : WholeLooks (finding s.given s.reading)
+        (indexed_of s.given s.reading) s.given.sheet now.pages.items (keys_of now.seat)
 
   -- what is so of a worker when the rounds are over
   pub record Ended (start now : Worker F) : Type 0 where
@@ -82,8 +95,10 @@ module _ {F : Type 0} (s : Site F) where
     pub none : now.results.items ≡ []
     pub counter : now.counter ≡ None
     pub trail : Trails ⊥ start now
-    pub looked : WholeLooks (finding s.given s.reading) (indexed_of s.given s.reading) s.given.sheet now.pages.items (keys_of now.seat)
-        ⊎ BrokenLooks (finding s.given s.reading) (indexed_of s.given s.reading) s.given.sheet now.pages.items (keys_of now.seat)
+    pub looked : WholeLooks (finding s.given s.reading)
+        (indexed_of s.given s.reading) s.given.sheet now.pages.items (keys_of now.seat)
+        ⊎ BrokenLooks (finding s.given s.reading) (indexed_of s.given s.reading)
+        s.given.sheet now.pages.items (keys_of now.seat)
 
 -- a worker that may begin: it has a seat, and nothing was looked up, drawn or kept
 pub record MayBegin {F : Type 0} (s : Site F) (w : Worker F) : Type 0 where
@@ -102,12 +117,16 @@ pub record MayBegin {F : Type 0} (s : Site F) (w : Worker F) : Type 0 where
 abbrev pub black_of : (counted : Bool) → Bitmap → ℕ
 black_of counted page = cond counted (black_count page) 0
 
-abbrev pub WroteOutcome : (counted : Bool) (old new : Option (List ℕ)) (OutputFails : Type 0) → Result Bitmap PageStop → Result ℕ WriteStop → Type 0
-WroteOutcome counted old new OutputFails (Ok page) (Ok black) = Appends old new (page_text page) × (black ≡ black_of counted page)
+abbrev pub WroteOutcome : (counted : Bool) (old new : Option (List ℕ)) (OutputFails : Type 0)
+    → Result Bitmap PageStop → Result ℕ WriteStop → Type 0
+WroteOutcome counted old new OutputFails (Ok page) (Ok black) =
+    Appends old new (page_text page) × (black ≡ black_of counted page)
 WroteOutcome counted old new OutputFails (Ok page) (Err (stop.Draw reason)) = ⊥
-WroteOutcome counted old new OutputFails (Ok page) (Err stop.Output) = AppendsPrefix old new (page_text page) × OutputFails
+WroteOutcome counted old new OutputFails (Ok page) (Err stop.Output) =
+    AppendsPrefix old new (page_text page) × OutputFails
 WroteOutcome counted old new OutputFails (Err reason) (Ok black) = ⊥
-WroteOutcome counted old new OutputFails (Err reason) (Err (stop.Draw told)) = (told ≡ reason) × (new ≡ old)
+WroteOutcome counted old new OutputFails (Err reason) (Err (stop.Draw told)) =
+    (told ≡ reason) × (new ≡ old)
 WroteOutcome counted old new OutputFails (Err reason) (Err stop.Output) = ⊥
 
 -- a worker but for its results
@@ -133,18 +152,21 @@ pub record FailedAt {F : Type 0} (faults : F → ℕ) (page : ℕ) (start now : 
 -- ---- a whole run's pages
 
 -- a worker that was not used yet; it tells what the run is told
-pub record IsFresh {F : Type 0} (library : F → Option Files) (told : Option Files) (w : Worker F) : Type 0 where
+pub record IsFresh {F : Type 0} (library : F → Option Files) (told : Option Files)
+    (w : Worker F) : Type 0 where
   pub tells : IfSome told (λ l. library w.source ≡ Some l)
   pub none : w.results.items ≡ []
   pub counter : w.counter ≡ None
   pub loads : w.loads ≡ 0
   pub pages : w.pages.items ≡ []
 
--- what a worker did in a run, by the calls of its seat in the history: they answer the look-ups of the pages that it drew, a claim is given
--- up at their end alone, and nowhere where the run is whole, nor is a page broken off then, and it loaded at most five files for each look
--- that was no hit. It has neither
--- a seat nor a result any more, and its source tells what the run was told
-pub record Ran {F : Type 0} (Whole : Type 0) (library : F → Option Files) (faults loads : F → ℕ) (g : Given) (reading : Reading) (history : List Call) (number : ℕ) (before after : Worker F) : Type 0 where
+-- what a worker did in a run, by the calls of its seat in the history: they answer the look-ups of
+-- the pages that it drew, a claim is given up at their end alone, and nowhere where the run is
+-- whole, nor is a page broken off then, and it loaded at most five files for each look that was no
+-- hit. It has neither a seat nor a result any more, and its source tells what the run was told
+pub record Ran {F : Type 0} (Whole : Type 0) (library : F → Option Files) (faults loads : F → ℕ)
+    (g : Given) (reading : Reading) (history : List Call) (number : ℕ)
+    (before after : Worker F) : Type 0 where
   pub seat : after.seat ≡ None
   pub none : after.results.items ≡ []
   pub counter : after.counter ≡ None
@@ -156,5 +178,7 @@ pub record Ran {F : Type 0} (Whole : Type 0) (library : F → Option Files) (fau
   pub answered : SeatCalls keys (own number history)
   pub last : ReleasedLast (own number history)
   pub whole : Whole → NoneReleased (own number history)
-  pub drawn_out : Whole → WholeLooks (finding g reading) (indexed_of g reading) g.sheet after.pages.items keys
-  pub loaded : Loaded (5 * misses (own number history)) (loads before.source) (loads after.source) before.loads after.loads
+  pub drawn_out : Whole → WholeLooks (finding g reading) (indexed_of g reading)
+      g.sheet after.pages.items keys
+  pub loaded : Loaded (5 * misses (own number history)) (loads before.source)
+      (loads after.source) before.loads after.loads

@@ -33,7 +33,7 @@ abbrev pub FailedBy : Option ℕ → Type 0 → Type 0
 FailedBy None Failed = Failed
 FailedBy (Some pages) Failed = ⊥
 
--- how many files a worker loaded: so many at most, and its source counts as many, other than for
+-- how many files a worker loaded: n at most, and its source counts as many, other than for
 -- the sample, whose files are loaded from a source of the run's own
 abbrev pub LoadedBy : Option ℕ → (most before now count count_now : ℕ) → Type 0
 LoadedBy None most before now count count_now = Loaded most before now count count_now

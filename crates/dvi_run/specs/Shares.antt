@@ -14,7 +14,7 @@ pub record AreShared (total n : ℕ) (pages : ℕ → List ℕ) : Type 0 where
   pub shared : (page : ℕ) → page < total → (k : ℕ) × (k < n) × Contains (pages k) page
       × ((j : ℕ) → j < n → Contains (pages j) page → j ≡ k)
 
--- n workers drew so many pages, counted from 0, each page once and by one of them, which drew its own
+-- n workers drew n pages, counted from 0, each page once and by one of them, which drew its own
 -- in rising order
 abbrev pub AreShares : {F : Type 0} (total n : ℕ) (workers : List (Worker F)) → Type 0
 AreShares {F} total n workers =
@@ -29,7 +29,7 @@ round_end n page = cond (nat_lt 1 n) ((page + 31) / 32 * 32) page
 abbrev pub next_end : (n page : ℕ) → ℕ
 next_end n page = cond (nat_lt 1 n) ((page + 31) / 32 * 32 + 32) page
 
--- So many pages of a document were drawn in a run that ended so: all of them where all were written.
+-- n pages of a document were drawn in a run that ended so: all of them where all were written.
 -- Else the page named is one of them, and none is after its round, or where its write failed after
 -- the next one.
 abbrev pub ReachTo : (pages n drawn : ℕ) → EndingSeen → Type 0
@@ -40,7 +40,7 @@ ReachTo pages n drawn (Output page) = (page ≤ drawn) × (drawn ≤ next_end n 
 ReachTo pages n drawn Notes = drawn ≡ pages
 ReachTo pages n drawn _ = Unit {0}
 
--- what n workers drew of a document in a run that ended so, and wrote so many pages
+-- what n workers drew of a document in a run that ended so, and wrote n pages
 pub record DrewShares {F : Type 0} (pages n : ℕ) (e : EndingSeen) (tally : Option Tally)
     (workers : List (Worker F)) : Type 0 where
   -- how many pages
@@ -62,8 +62,8 @@ joined (suc k) pages = joined k pages ++ pages k
 abbrev pub times_drawn : (k : ℕ) (pages : ℕ → List ℕ) (page : ℕ) → ℕ
 times_drawn k pages page = count_by (λ p. p == page) (joined k pages)
 
--- all lists together have each of the first pages once, as many as there are numbers in them, and no
--- other
+-- all lists together have each of the first pages once, as many as there are numbers in them, and
+-- no other
 pub record EachPageIsDrawnOnce (total n : ℕ) (pages : ℕ → List ℕ) : Type 0 where
   pub count : length (joined n pages) ≡ total
   pub once : (page : ℕ) → page < total → times_drawn n pages page ≡ 1

@@ -1,5 +1,5 @@
--- The results of a round on a stack, the next page to be written on top: how they come there, and how
--- they are written.
+-- The results of a round on a stack, the next page to be written on top: how they come there, and
+-- how they are written.
 use Rattle.std.specs.Prelude.{◌≡◌, ◌⊎◌, ℕ, suc, ◌+◌, ◌-◌, ◌*◌, ◌<◌, ◌≤◌, ◌++◌, Bool, List, [], ◌∷◌, length, reverse, Contains, IfOk, Option, None, Some, Ok, Err, slice_index_or}
 use Rattle.std.specs.List.Sorted.{IsStrictlyIncreasing}
 use Rattle.outside.specs.Library.{Files}
@@ -25,7 +25,7 @@ abbrev pub HasOnTop : ℕ → List PageResult → Type 0
 HasOnTop page results = (0 < length results)
     × ((d : PageResult) → (slice_index_or results (length results - 1) d).page ≡ page)
 
--- the results of some workers are those of so many pages from `first` on, each one worker's. A
+-- the results of some workers are those of n pages from `first` on, each one worker's. A
 -- worker has its own in rising order
 pub record AreResults {F : Type 0} (first count : ℕ) (workers : List (Worker F)) : Type 0 where
   pub rising : (k : ℕ) (d : Worker F) → k < length workers
@@ -44,8 +44,8 @@ abbrev pub AreFrom : ℕ → List PageResult → Type 0
 AreFrom page [] = Unit {0}
 AreFrom page (r ∷ results) = (r.page ≡ page) × AreFrom (suc page) results
 
--- they were taken out of the workers, and stand on a stack in the order of their pages, the first on
--- top
+-- they were taken out of the workers, and stand on a stack in the order of their pages, the first
+-- on top
 pub record Collected {F : Type 0} (first count : ℕ) (before after : List (Worker F))
     (stack : List PageResult) : Type 0 where
   pub cleared : (k : ℕ) (d : Worker F) → k < length before
@@ -59,7 +59,7 @@ pub record Collected {F : Type 0} (first count : ℕ) (before after : List (Work
   pub all : (k : ℕ) (d : Worker F) (r : PageResult) → k < length before
       → Contains (slice_index_or before k d).results.items r → Contains results r
 
--- some workers may draw so many pages from `first` on
+-- some workers may draw n pages from `first` on
 pub record MayDrawRound {F : Type 0} (library : F → Option Files) (bench : Bench)
     (indexed : Indexed) (sheet : Sheet) (first count : ℕ) (workers : List (Worker F)) : Type 0 where
   pub some_worker : 1 ≤ length workers
@@ -92,7 +92,7 @@ module _ {F : Type 0} (library : F → Option Files) (faults loads : F → ℕ) 
 abbrev pub HasFewDots : PageResult → Type 0
 HasFewDots r = IfOk r.outcome (λ page. black_count page ≤ 20000 * 20000)
 
--- the texts of these results' pages were written, one after another, with so many black pixels,
+-- the texts of these results' pages were written, one after another, with n black pixels,
 -- where they are counted
 abbrev pub WroteEach : (counted : Bool) (old new : Option (List ℕ)) (black : ℕ)
     → List PageResult → Type 0
@@ -127,8 +127,8 @@ abbrev pub AllRested : {F : Type 0} (before after : List (Worker F)) → Type 0
 AllRested {F} before after = (k : ℕ) (d : Worker F) → k < length before
     → Rested (slice_index_or before k d) (slice_index_or after k d)
 
--- Why the next round isn't at hand: a page of this one wasn't written, while several workers may have
--- drawn the next one, but one none; or all were, and there was no memory for the next one.
+-- Why the next round isn't at hand: a page of this one wasn't written, while several workers may
+-- have drawn the next one, but one none; or all were, and there was no memory for the next one.
 abbrev pub StoppedAhead : {F : Type 0} (DrewNext : List PageResult → Type 0) (counted : Bool)
     (old new : Option (List ℕ)) (OutputFails : Type 0) (results : List PageResult)
     (tally_before tally_after : Tally) (before after : List (Worker F)) → WriteStop → Type 0

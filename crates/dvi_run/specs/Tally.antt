@@ -11,14 +11,14 @@ use Rattle.dvi_run.specs.Endings.{Output, Notes, Memory}
 use Rattle.dvi_run.specs.Looked.{IsIdle}
 use Rattle.dvi_run.specs.declared.tally.Tally.{Tally}
 
--- the page that the end names, from 1, is the one after so many
+-- the page that the end names, from 1, is the one after n
 abbrev pub IsAfter : ℕ → EndingSeen → Type 0
 IsAfter pages (Page page) = page.page ≡ suc pages
 IsAfter pages (Source page) = page ≡ suc pages
 IsAfter pages (Output page) = page ≡ suc pages
 IsAfter pages _ = Unit {0}
 
--- so many pages are what was written: all of them where all were, and where memory ran out the output
+-- n pages are what was written: all of them where all were, and where memory ran out the output
 -- grew by the texts of these alone
 abbrev pub AreWritten : (old new : Option (List ℕ)) → ℕ → EndingSeen → List PageValue
     → Type 0
@@ -51,8 +51,8 @@ HadCache (Document fault) = ⊥
 HadCache Input = ⊥
 HadCache _ = Unit {0}
 
--- whatever was read: there is no tally where the run ended before a cache was made, and else pages are
--- counted up to the one that the end names
+-- whatever was read: there is no tally where the run ended before a cache was made, and else pages
+-- are counted up to the one that the end names
 abbrev pub CountsTo : Option Tally → EndingSeen → Type 0
 CountsTo None e = IsIdle e
 CountsTo (Some t) e = HadCache e × IsAfter t.pages e

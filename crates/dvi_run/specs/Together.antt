@@ -27,11 +27,13 @@ use Rattle.dvi_run.specs.declared.tally.Tally.{Tally}
 module _ {F : Type 0} (n : ℕ) (before after : List (Worker F)) where
   -- each of them, before and after the run
   abbrev pub EachUsed : (ℕ → Worker F → Worker F → Type 0) → Type 0
-  EachUsed P = (k : ℕ) (d : Worker F) → k < n → P k (slice_index_or before k d) (slice_index_or after k d)
+  EachUsed P = (k : ℕ) (d : Worker F) → k < n → P k (slice_index_or before k d)
+      (slice_index_or after k d)
 
   -- one of them
   abbrev pub SomeUsed : (Worker F → Worker F → Type 0) → Type 0
-  SomeUsed P = (k : ℕ) × (k < n) × ((d : Worker F) → P (slice_index_or before k d) (slice_index_or after k d))
+  SomeUsed P = (k : ℕ) × (k < n) × ((d : Worker F) → P (slice_index_or before k d)
+      (slice_index_or after k d))
 
   -- the others are as they were
   abbrev pub RestIsKept : Type 0
@@ -41,15 +43,17 @@ module _ {F : Type 0} (n : ℕ) (before after : List (Worker F)) where
 abbrev pub SourceRose : {F : Type 0} → (F → ℕ) → Worker F → Worker F → Type 0
 SourceRose faults before after = Rose (faults before.source) (faults after.source)
 
--- a worker that a run may use: it has no seat, and was not used yet, and where the run is told a library its source tells it
-pub record IsReady {F : Type 0} (library : F → Option Files) (told : Option Files) (w : Worker F) : Type 0 where
+-- a worker that a run may use: it has no seat, and was not used yet, and where the run is told a
+-- library its source tells it
+pub record IsReady {F : Type 0} (library : F → Option Files) (told : Option Files)
+    (w : Worker F) : Type 0 where
   pub fresh : IsFresh library told w
   pub seat : w.seat ≡ None
 
 -- ---- by the status of the run
 
--- each page that was drawn came to its end: all were written, or there is one worker, and neither its source failed nor was memory
--- wanting
+-- each page that was drawn came to its end: all were written, or there is one worker, and neither
+-- its source failed nor was memory wanting
 abbrev pub IsDrawnThroughBy : (n status : ℕ) → Type 0
 IsDrawnThroughBy n status = WroteAll status ⊎ ((n ≡ 1) × IsUnbrokenBy status)
 
@@ -69,8 +73,11 @@ pub record IsOneHistory (capacity n status : ℕ) (history : List Call) : Type 0
   -- 1, 2 and 6: there is no call
   pub idle : IsAmong status (1 ∷ 2 ∷ 6 ∷ []) → history ≡ []
 
--- What a used worker did, by the calls of its seat in the history, in a run of the sample or of what the outside gives.
-pub record Worked {F : Type 0} (library : F → Option Files) (faults loads : F → ℕ) (told : Option Files) (sample : Option ℕ) (n status : ℕ) (history : List Call) (k : ℕ) (before after : Worker F) : Type 0 where
+-- What a used worker did, by the calls of its seat in the history, in a run of the sample or of
+-- what the outside gives.
+pub record Worked {F : Type 0} (library : F → Option Files) (faults loads : F → ℕ)
+    (told : Option Files) (sample : Option ℕ) (n status : ℕ) (history : List Call) (k : ℕ)
+    (before after : Worker F) : Type 0 where
   -- it has neither a seat nor a result any more
   pub seat : after.seat ≡ None
   pub none : after.results.items ≡ []
@@ -84,49 +91,68 @@ pub record Worked {F : Type 0} (library : F → Option Files) (faults loads : F 
   -- a claim is given up at their end alone, and nowhere in a run that ends well
   pub last : ReleasedLast (own (k + 1) history)
   pub kept : IsDrawnThroughBy n status → NoneReleased (own (k + 1) history)
-  -- it loaded at most five files for each look that was no hit, and its source counts as many, other than for the sample
-  pub loaded : LoadedBy sample (5 * misses (own (k + 1) history)) (loads before.source) (loads after.source) before.loads after.loads
+  -- it loaded at most five files for each look that was no hit, and its source counts as many,
+  -- other than for the sample
+  pub loaded : LoadedBy sample (5 * misses (own (k + 1) history)) (loads before.source)
+      (loads after.source) before.loads after.loads
 
 module _ {F : Type 0} (g : Given) (reading : Reading) where
-  -- the calls of a used worker answer the look-ups of the pages that it drew, one page after another
-  pub record Answered (capacity n status : ℕ) (history : List Call) (k : ℕ) (after : Worker F) : Type 0 where
+  -- the calls of a used worker answer the look-ups of the pages that it drew, one page after
+  -- another
+  pub record Answered (capacity n status : ℕ) (history : List Call) (k : ℕ)
+      (after : Worker F) : Type 0 where
     pub keys : List FontKey
     -- all look-ups of each page, but that the last may have been broken off
-    pub looked : WholeLooks (finding g reading) (indexed_of g reading) g.sheet after.pages.items keys
+    pub looked : WholeLooks (finding g reading) (indexed_of g reading)
+        g.sheet after.pages.items keys
         ⊎ BrokenLooks (finding g reading) (indexed_of g reading) g.sheet after.pages.items keys
-    pub through : IsDrawnThroughBy n status → WholeLooks (finding g reading) (indexed_of g reading) g.sheet after.pages.items keys
+    pub through : IsDrawnThroughBy n status → WholeLooks (finding g reading) (indexed_of g reading)
+        g.sheet after.pages.items keys
     pub answered : SeatCalls keys (own (k + 1) history)
-    -- the calls of one worker are one list, given these keys, unless the source failed (5) or memory was wanting (9)
+    -- the calls of one worker are one list, given these keys, unless the source failed (5) or
+    -- memory ran out (9)
     pub one : n ≡ 1 → IsUnbrokenBy status → history ≡ solo_history capacity 1 keys
 
--- What was drawn of these bytes in a run that ended so: nothing where no cache was made. Else they are
--- a document, whose pages have the values that say what was written, each font being what the library
--- has for its key; the used workers drew its first pages, each page once, among them all that were
--- written and the one named, and none after its round, or where its write failed after the next one;
--- the calls of each answer what its pages looked up; and the tally is that of the pages written whole,
--- with their black pixels where they were counted.
-abbrev pub DrewTogether : {F : Type 0} → Given → (counted : Bool) → (old new : Option (List ℕ)) → (capacity n status : ℕ) → EndingSeen → Option Tally → List Call → (before after : List (Worker F)) → List ℕ → Type 0
+-- What was drawn of these bytes in a run that ended so: nothing where no cache was made. Else they
+-- are a document, whose pages have the values that say what was written, each font being what the
+-- library has for its key; the used workers drew its first pages, each page once, among them all
+-- that were written and the one named, and none after its round, or where its write failed after
+-- the next one; the calls of each answer what its pages looked up; and the tally is that of the
+-- pages written whole, with their black pixels where they were counted.
+abbrev pub DrewTogether : {F : Type 0} → Given → (counted : Bool) → (old new : Option (List ℕ))
+    → (capacity n status : ℕ) → EndingSeen → Option Tally → List Call
+    → (before after : List (Worker F)) → List ℕ → Type 0
 DrewTogether g counted old new capacity n status e tally history before after bytes =
     (IsIdle e × (tally ≡ None) × (history ≡ []) × (after ≡ before))
-    ⊎ OfRun g bytes (λ reading values. EndsPages old new (Unit {0}) (Unit {0}) e reading values × Tallied counted old new tally e values
+    ⊎ OfRun g bytes (λ reading values. EndsPages old new (Unit {0}) (Unit {0}) e reading values
+    × Tallied counted old new tally e values
     × DrewShares (pages_begun reading) n e tally after
     × EachUsed n before after (λ k _ now. Answered g reading capacity n status history k now))
 
 -- ---- the parts of a run
 
 -- the pages of a document were drawn by n workers, and it ended so
-pub record DrewPages {F : Type 0} (library : F → Option Files) (faults loads : F → ℕ) (g : Given) (counted : Bool) (reading : Reading) (capacity n : ℕ) (old new : Option (List ℕ)) (OutputFailed : Type 0) (e : EndingSeen) (tally : Option Tally) (history : List Call) (before after : List (Worker F)) : Type 0 where
-  pub ends : (values : List PageValue) × AreValues g reading values × EndsPages old new OutputFailed (Unit {0}) e reading values × Tallied counted old new tally e values
+pub record DrewPages {F : Type 0} (library : F → Option Files) (faults loads : F → ℕ) (g : Given)
+    (counted : Bool) (reading : Reading) (capacity n : ℕ) (old new : Option (List ℕ))
+    (OutputFailed : Type 0) (e : EndingSeen) (tally : Option Tally) (history : List Call)
+    (before after : List (Worker F)) : Type 0 where
+  pub ends : (values : List PageValue) × AreValues g reading values
+      × EndsPages old new OutputFailed (Unit {0}) e reading values
+      × Tallied counted old new tally e values
   pub failed : (page : ℕ) → e ≡ Source page → SomeUsed n before after (FailedAt faults page)
   pub shares : DrewShares (pages_begun reading) n e tally after
   pub one : IsOneHistory capacity n (status_of e) history
-  pub ran : EachUsed n before after (λ k was now. Ran (IsDrawnThrough n e) library faults loads g reading history (k + 1) was now)
+  pub ran : EachUsed n before after (λ k was now. Ran (IsDrawnThrough n e)
+      library faults loads g reading history (k + 1) was now)
 
 -- what holds of the workers after any run that ended so
-pub record AreDone {F : Type 0} (library : F → Option Files) (faults loads : F → ℕ) (told : Option Files) (sample : Option ℕ) (capacity n status : ℕ) (e : EndingSeen) (tally : Option Tally) (history : List Call) (before after : List (Worker F)) : Type 0 where
+pub record AreDone {F : Type 0} (library : F → Option Files) (faults loads : F → ℕ)
+    (told : Option Files) (sample : Option ℕ) (capacity n status : ℕ) (e : EndingSeen)
+    (tally : Option Tally) (history : List Call) (before after : List (Worker F)) : Type 0 where
   pub counts : CountsTo tally e
   pub failed : (page : ℕ) → e ≡ Source page → SomeUsed n before after (FailedAt faults page)
   pub one : IsOneHistory capacity n status history
-  pub worked : EachUsed n before after (λ k was now. Worked library faults loads told sample n status history k was now)
+  pub worked : EachUsed n before after
+      (λ k was now. Worked library faults loads told sample n status history k was now)
   pub shares : (total : ℕ) × AreShares total n after
   pub rest : RestIsKept n before after

@@ -35,7 +35,8 @@ use std::alloc::Global;
 use std::sync::Wait;
 use std::thread::Threads;
 
-/// Draws and writes the pages with a new bench, whose seat 0 is `first`, and gives the history of its cache.
+/// Draws and writes the pages with a new bench, whose seat 0 is `first`, and gives the history of
+/// its cache.
 pub fn draw_over<R: Threads + Wait + Sync, F: FontSource + Send, O: Output>(
     rt: &R,
     alloc: Global,
@@ -54,15 +55,23 @@ pub fn draw_over<R: Threads + Wait + Sync, F: FontSource + Send, O: Output>(
     requires units { document_units index.now.res index.now.reading ≡ Some bench.units }
     requires sound { AreUnits bench.units }
     requires lock { first.lock ≡ bench.cache }
-    requires opening { first.view ≡ opening_view (record { capacity = first.view.part.capacity; units = bench.units; library = told }) }
-    requires fresh { (k : ℕ) (d : _) → k < length workers.old → IsFresh F.library told (slice_index_or workers.old k d) }
+    requires opening { first.view
+        ≡ opening_view
+        (record { capacity = first.view.part.capacity; units = bench.units; library = told }) }
+    requires fresh { (k : ℕ) (d : _) → k < length workers.old
+        → IsFresh F.library told (slice_index_or workers.old k d) }
     ensures ends { (values : List PageValue)
-        × AreValues (record { library = told; res = index.now.res; sheet = sheet.now }) index.now.reading values
-        × EndsPages (O.written out.old) (O.written out.new) (Rose (O.faults out.old) (O.faults out.new))
+        × AreValues (record { library = told; res = index.now.res; sheet = sheet.now })
+        index.now.reading values
+        × EndsPages (O.written out.old) (O.written out.new)
+        (Rose (O.faults out.old) (O.faults out.new))
         (Unit {0}) (seen_ending result.0) index.now.reading values
-        × IsTally counted (O.written out.old) (O.written out.new) result.1 (seen_ending result.0) values }
-    ensures cause { (page : ℕ) → seen_ending result.0 ≡ Source page → (k : ℕ) × (k < length workers.old)
-        × ((d : _) → FailedAt F.faults page (slice_index_or workers.old k d) (slice_index_or workers.new k d)) }
+        × IsTally counted (O.written out.old) (O.written out.new) result.1 (seen_ending result.0)
+        values }
+    ensures cause { (page : ℕ) → seen_ending result.0 ≡ Source page
+        → (k : ℕ) × (k < length workers.old)
+        × ((d : _) → FailedAt F.faults page (slice_index_or workers.old k d)
+        (slice_index_or workers.new k d)) }
     ensures shares { DrewShares (pages_begun index.now.reading) (length workers.old)
         (seen_ending result.0) (Some result.1) workers.new }
     ensures legal { Legal first.view.part.capacity (calls_of result.2.items) }
@@ -70,7 +79,10 @@ pub fn draw_over<R: Threads + Wait + Sync, F: FontSource + Send, O: Output>(
     ensures first { own 0 (calls_of result.2.items) ≡ [] }
     ensures few_claims { FewClaims (calls_of result.2.items) }
     ensures workers { (k : ℕ) (d : _) → k < length workers.old
-        → Ran (IsDrawnThrough (length workers.old) (seen_ending result.0)) F.library F.faults F.loads (record { library = told; res = index.now.res; sheet = sheet.now }) index.now.reading (calls_of result.2.items) (k + 1)
+        → Ran (IsDrawnThrough (length workers.old) (seen_ending result.0))
+        F.library F.faults F.loads
+        (record { library = told; res = index.now.res; sheet = sheet.now }) index.now.reading
+        (calls_of result.2.items) (k + 1)
         (slice_index_or workers.old k d) (slice_index_or workers.new k d) }
     ensures output { O.faults out.old ≤ O.faults out.new }
 {
@@ -83,8 +95,8 @@ pub fn draw_over<R: Threads + Wait + Sync, F: FontSource + Send, O: Output>(
     (ending, tally, cache.close(first))
 }
 
-/// Draws and writes the pages with a new cache of so many fonts at most. The list of its calls goes into `history`.
-/// There is no tally where there is no memory for the cache.
+/// Draws and writes the pages with a new cache of n fonts at most. The list of its calls goes into
+/// `history`. There is no tally where there is no memory for the cache.
 pub fn draw_at_once<R: Threads + Wait + Sync, F: FontSource + Send, O: Output>(
     rt: &R,
     alloc: Global,
@@ -103,15 +115,22 @@ pub fn draw_at_once<R: Threads + Wait + Sync, F: FontSource + Send, O: Output>(
     requires few_fonts { capacity ≤ 256 }
     requires sheet { IsDrawable sheet.now }
     requires empty { history.old.items ≡ [] }
-    requires fresh { (k : ℕ) (d : _) → k < length workers.old → IsFresh F.library told (slice_index_or workers.old k d) }
-    requires seatless { (k : ℕ) (d : _) → k < length workers.old → (slice_index_or workers.old k d).seat ≡ None }
+    requires fresh { (k : ℕ) (d : _) → k < length workers.old
+        → IsFresh F.library told (slice_index_or workers.old k d) }
+    requires seatless { (k : ℕ) (d : _) → k < length workers.old
+        → (slice_index_or workers.old k d).seat ≡ None }
     ensures ends { (values : List PageValue)
-        × AreValues (record { library = told; res = index.now.res; sheet = sheet.now }) index.now.reading values
-        × EndsPages (O.written out.old) (O.written out.new) (Rose (O.faults out.old) (O.faults out.new))
+        × AreValues (record { library = told; res = index.now.res; sheet = sheet.now })
+        index.now.reading values
+        × EndsPages (O.written out.old) (O.written out.new)
+        (Rose (O.faults out.old) (O.faults out.new))
         (Unit {0}) (seen_ending result.0) index.now.reading values
-        × Tallied counted (O.written out.old) (O.written out.new) result.1 (seen_ending result.0) values }
-    ensures cause { (page : ℕ) → seen_ending result.0 ≡ Source page → (k : ℕ) × (k < length workers.old)
-        × ((d : _) → FailedAt F.faults page (slice_index_or workers.old k d) (slice_index_or workers.new k d)) }
+        × Tallied counted (O.written out.old) (O.written out.new) result.1 (seen_ending result.0)
+        values }
+    ensures cause { (page : ℕ) → seen_ending result.0 ≡ Source page
+        → (k : ℕ) × (k < length workers.old)
+        × ((d : _) → FailedAt F.faults page (slice_index_or workers.old k d)
+        (slice_index_or workers.new k d)) }
     ensures shares { DrewShares (pages_begun index.now.reading) (length workers.old)
         (seen_ending result.0) result.1 workers.new }
     ensures legal { Legal capacity (calls_of history.new.items) }
@@ -119,7 +138,10 @@ pub fn draw_at_once<R: Threads + Wait + Sync, F: FontSource + Send, O: Output>(
     ensures first { own 0 (calls_of history.new.items) ≡ [] }
     ensures few_claims { FewClaims (calls_of history.new.items) }
     ensures workers { (k : ℕ) (d : _) → k < length workers.old
-        → Ran (IsDrawnThrough (length workers.old) (seen_ending result.0)) F.library F.faults F.loads (record { library = told; res = index.now.res; sheet = sheet.now }) index.now.reading (calls_of history.new.items) (k + 1)
+        → Ran (IsDrawnThrough (length workers.old) (seen_ending result.0))
+        F.library F.faults F.loads
+        (record { library = told; res = index.now.res; sheet = sheet.now }) index.now.reading
+        (calls_of history.new.items) (k + 1)
         (slice_index_or workers.old k d) (slice_index_or workers.new k d) }
     ensures output { O.faults out.old ≤ O.faults out.new }
 {

@@ -9,7 +9,7 @@ use std::alloc::{AllocError as NoMemory, Global};
 use std::mem;
 use std::sync::Arc;
 
-/// So many workers over a library, of which no load fails.
+/// n workers over a library, of which no load fails.
 pub fn own_workers(
     alloc: Global,
     library: Library,

@@ -1,5 +1,5 @@
 //! Laws over the definitions, each a clause of a function without a body.
-ghost use Rattle.dvi_run.specs.Laws.{EachDocumentHasOneRun, EachPageHasItsEop, FaultsEndTheRun, GoodRunsWriteAlike, OneReading, OneRun, PagesAreShared, RunsEndAtTheFirstFault, RunsHaveFronts, RunsHaveNoFault, RunsOfGoodPages, SamplesAreReadWhole, StoppedRunsWriteAlike};
+ghost use Rattle.dvi_run.specs.Laws.{EachDocumentHasOneRun, EachPageHasItsEop, FaultsEndTheRun, GoodRunsWriteAlike, OneReading, OneRun, PagesAreShared, RunsEndAtTheFirstFault, RunsHavePrefixes, RunsHaveNoFault, RunsOfGoodPages, SamplesAreReadWhole, StoppedRunsWriteAlike};
 
 use page_index::laws::documents;
 
@@ -10,13 +10,14 @@ pub fn texts()
     ensures ended { FaultsEndTheRun }
 {}
 
-/// A document has one reading, and over told font files one value for each page, up to the page's end. No
-/// bytes are both a document and a file with a fault. However many workers there are, whatever the cache and
-/// the schedule, all runs over one document that end well write one text, and so do those that end at a page.
+/// A document has one reading, and over told font files one value for each page, up to the page's
+/// end. No bytes are both a document and a file with a fault. However many workers there are,
+/// whatever the cache and the schedule, all runs over one document that end well write one text,
+/// and so do those that end at a page.
 pub fn runs()
     ensures reading { OneReading }
     ensures values { OneRun }
-    ensures fronts { RunsHaveFronts }
+    ensures prefixes { RunsHavePrefixes }
     ensures no_fault { RunsHaveNoFault }
     ensures ends { EachPageHasItsEop }
     ensures good { GoodRunsWriteAlike }
@@ -27,8 +28,8 @@ pub fn runs()
     page_draw::laws::values();
 }
 
-/// Over font files that are told each document has exactly one list of the values of its pages, so that each
-/// run of it is that of the first of them.
+/// Over font files that are told each document has exactly one list of the values of its pages, so
+/// that each run of it is that of the first of them.
 pub fn whole_runs()
     ensures { EachDocumentHasOneRun }
 {

@@ -62,9 +62,9 @@ fn write_one<O: Output>(
     }
 }
 
-/// Writes the pages of a stack from its top on, up to the first that can't be. Each is spare as soon
-/// as it is written. The tally grows by those written whole, with their black pixels where they are
-/// counted.
+/// Writes the pages of a stack from its top on, up to the first that can't be. Each is spare as
+/// soon as it is written. The tally grows by those written whole, with their black pixels where
+/// they are counted.
 pub fn write_stack<O: Output>(
     stack: &mut Vec<PageResult>,
     out: &mut O,

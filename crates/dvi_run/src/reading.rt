@@ -37,8 +37,8 @@ impl From<AllocError> for ReadStop {
     }
 }
 
-// Reads into the room behind the first `len` bytes.
-fn read_behind<I: Input>(input: &mut I, bytes: &mut [u8], len: usize) -> Result<usize, Failed>
+// Reads into the room after the first `len` bytes.
+fn read_after<I: Input>(input: &mut I, bytes: &mut [u8], len: usize) -> Result<usize, Failed>
     requires { len < length bytes.old }
     ensures kept { take len bytes.new ≡ take len bytes.old }
     ensures bound { IfOk result (λ n. len + n ≤ length bytes.new) }
@@ -48,7 +48,7 @@ fn read_behind<I: Input>(input: &mut I, bytes: &mut [u8], len: usize) -> Result<
     input.read(&mut bytes[len..])
 }
 
-// Makes room behind the first `len` bytes: twice as much as is used.
+// Makes room after the first `len` bytes: twice as much as is used.
 fn make_room(bytes: &mut Vec<u8>, len: usize) -> Result<(), AllocError>
     requires inside { len ≤ length bytes.old.items }
     requires few { length bytes.old.items ≤ most_read }
@@ -63,7 +63,7 @@ fn make_room(bytes: &mut Vec<u8>, len: usize) -> Result<(), AllocError>
     Ok(())
 }
 
-// Reads more behind the first `len` bytes.
+// Reads more after the first `len` bytes.
 fn read_more<I: Input>(input: &mut I, bytes: &mut Vec<u8>, len: usize) -> Result<usize, ReadStop>
     requires inside { len ≤ length bytes.old.items }
     requires few { length bytes.old.items ≤ most_read }
@@ -77,10 +77,10 @@ fn read_more<I: Input>(input: &mut I, bytes: &mut Vec<u8>, len: usize) -> Result
         (IsErrOf result ReadStop.Failed) }
 {
     make_room(bytes, len)?;
-    Ok(read_behind(input, bytes, len)?)
+    Ok(read_after(input, bytes, len)?)
 }
 
-/// Reads to the end, or so many bytes that there are too many.
+/// Reads to the end, or n bytes that there are too many.
 pub fn read_all<I: Input>(alloc: Global, input: &mut I) -> Result<Vec<u8>, ReadStop>
     ensures bytes { IfOk result (λ bytes.
         IsRead (I.left input.old) (I.left input.new) bytes.items) }

@@ -105,8 +105,8 @@ fn put_report<N: Output>(
     }
 }
 
-/// Prints what a run tells as it ends: the trace and the summary, as far as they are asked for and a
-/// cache was made, and the line of its end.
+/// Prints what a run tells as it ends: the trace and the summary, as far as they are asked for and
+/// a cache was made, and the line of its end.
 pub fn print<N: Output>(
     notes: &mut N,
     settings: &Settings,

@@ -119,11 +119,11 @@ fn draw_beside<R: Threads + Wait + Sync, F: FontSource + Send, O: Output>(
 }
 
 // Writes the pages at hand, and draws the next round: at the same time where there are several
-// workers, so that the output doesn't make them wait. What the writing came to decides first. A round
-// is drawn on the memory of the pages that were written before it is begun: by one worker on that of
-// the page before, by several on that of the round before the last. So in memory are at most the round
-// that is drawn, the one that is written, and paper for another one; where each worker draws its share,
-// the pages of two rounds.
+// workers, so that the output doesn't make them wait. What the writing came to decides first. A
+// round is drawn on the memory of the pages that were written before it is begun: by one worker on
+// that of the page before, by several on that of the round before the last. So in memory are at
+// most the round that is drawn, the one that is written, and paper for another one; where each
+// worker draws its share, the pages of two rounds.
 fn write_and_draw<R: Threads + Wait + Sync, F: FontSource + Send, O: Output>(
     rt: &R,
     alloc: Global,
@@ -180,8 +180,8 @@ fn have_bitmaps(stack: &[PageResult]) -> bool
 
 /// Draws the pages of a document in rounds, and writes them in the order of the file, up to the
 /// first that can't be. Each round is written while the next one is drawn, which is begun only
-/// where each page before it has a bitmap. The tally is of the pages written whole, with their black
-/// pixels where they are counted.
+/// where each page before it has a bitmap. The tally is of the pages written whole, with their
+/// black pixels where they are counted.
 pub fn write_rounds<R: Threads + Wait + Sync, F: FontSource + Send, O: Output>(
     rt: &R,
     alloc: Global,
@@ -198,20 +198,29 @@ pub fn write_rounds<R: Threads + Wait + Sync, F: FontSource + Send, O: Output>(
     requires sheet { IsDrawable sheet.now }
     requires units { document_units index.now.res index.now.reading ≡ Some bench.now.units }
     requires ready { (k : ℕ) (d : _) → k < length workers.old
-        → MayBegin (site F.library F.faults F.loads bench.now told index.now sheet.now) (slice_index_or workers.old k d) }
+        → MayBegin (site F.library F.faults F.loads bench.now told index.now sheet.now)
+        (slice_index_or workers.old k d) }
     ensures ends { (values : List PageValue)
-        × AreValues (record { library = told; res = index.now.res; sheet = sheet.now }) index.now.reading values
-        × EndsPages (O.written out.old) (O.written out.new) (Rose (O.faults out.old) (O.faults out.new))
+        × AreValues (record { library = told; res = index.now.res; sheet = sheet.now })
+        index.now.reading values
+        × EndsPages (O.written out.old) (O.written out.new)
+        (Rose (O.faults out.old) (O.faults out.new))
         (Unit {0}) (seen_ending result.0) index.now.reading values
-        × IsTally counted (O.written out.old) (O.written out.new) result.1 (seen_ending result.0) values }
-    ensures whole { IsDrawnThrough (length workers.old) (seen_ending result.0) → (k : ℕ) (d : _) → k < length workers.old
-        → Settled (site F.library F.faults F.loads bench.now told index.now sheet.now) (slice_index_or workers.old k d) (slice_index_or workers.new k d) }
-    ensures cause { (page : ℕ) → seen_ending result.0 ≡ Source page → (k : ℕ) × (k < length workers.old)
-        × ((d : _) → FailedAt F.faults page (slice_index_or workers.old k d) (slice_index_or workers.new k d)) }
+        × IsTally counted (O.written out.old) (O.written out.new) result.1 (seen_ending result.0)
+        values }
+    ensures whole { IsDrawnThrough (length workers.old) (seen_ending result.0) → (k : ℕ) (d : _)
+        → k < length workers.old
+        → Settled (site F.library F.faults F.loads bench.now told index.now sheet.now)
+        (slice_index_or workers.old k d) (slice_index_or workers.new k d) }
+    ensures cause { (page : ℕ) → seen_ending result.0 ≡ Source page
+        → (k : ℕ) × (k < length workers.old)
+        × ((d : _) → FailedAt F.faults page (slice_index_or workers.old k d)
+        (slice_index_or workers.new k d)) }
     ensures shares { DrewShares (pages_begun index.now.reading) (length workers.old)
         (seen_ending result.0) (Some result.1) workers.new }
     ensures workers { (k : ℕ) (d : _) → k < length workers.old
-        → Ended (site F.library F.faults F.loads bench.now told index.now sheet.now) (slice_index_or workers.old k d) (slice_index_or workers.new k d) }
+        → Ended (site F.library F.faults F.loads bench.now told index.now sheet.now)
+        (slice_index_or workers.old k d) (slice_index_or workers.new k d) }
     ensures output { O.faults out.old ≤ O.faults out.new }
 {
     let pages = index.pages();

@@ -56,7 +56,7 @@ use std::thread::Threads;
 /// `history` is empty when handed in, and is then the list of the cache's calls, in order: those of
 /// worker k, counted from 1, bear the number k. The list stays empty where no page was begun. Any
 /// worker may draw any page: its `pages`, which count from 0, are those that it drew, in rising
-/// order, and all used workers' together are the first so many, each once. A worker that is used
+/// order, and all used workers' together are the first n, each once. A worker that is used
 /// has neither a seat nor results when handed in, and its counts are those of no work.
 ///
 /// With `sample` the run makes the document and its font files itself, as `sample_maker::sample`
@@ -124,7 +124,7 @@ pub fn run_with<R: Threads + Wait + Sync, I: Input, F: FontSource + Send, O: Out
         (document_to settings.now (I.left input.old)) (O.written out.old) (O.written out.new)
         (out.new ≡ out.old) }
 
-    // The pages that were drawn, the first so many, each once and by one worker.
+    // The pages that were drawn, the first n, each once and by one worker.
     ensures shares { (total : ℕ) × AreShares total settings.now.workers workers.new }
     ensures rest { RestIsKept settings.now.workers workers.old workers.new }
 
@@ -144,7 +144,7 @@ pub fn run_with<R: Threads + Wait + Sync, I: Input, F: FontSource + Send, O: Out
 }
 
 /// What the program does: `run_with` with the settings that `words`, the arguments after the
-/// program's name, give where there are so many workers, as `line` says. Where they give none it is
+/// program's name, give where there are n workers, as `line` says. Where they give none it is
 /// a fault of usage (1), or memory runs out (9): then nothing is read, loaded or written, and the
 /// notes have the line alone. Want of memory may come also while a good line is read.
 pub fn dvipbm_run<R: Threads + Wait + Sync, I: Input, F: FontSource + Send, O: Output, N: Output>(
@@ -218,7 +218,7 @@ pub fn dvipbm_run<R: Threads + Wait + Sync, I: Input, F: FontSource + Send, O: O
         → IsCutShort (given_to told s) result (document_to s (I.left input.old)) (O.written out.old)
         (O.written out.new) (out.new ≡ out.old) }
 
-    // The pages that were drawn, the first so many, each once and by one worker.
+    // The pages that were drawn, the first n, each once and by one worker.
     ensures shares { (s : Settings)
         → settings_of (length workers.old) (map string_bytes words.now) ≡ Some s
         → (total : ℕ) × AreShares total s.workers workers.new }

@@ -76,7 +76,7 @@ fn draw_by_own<R: Threads + Wait + Sync, F: FontSource + Send, O: Output, G: Fon
     drawn
 }
 
-// Draws and writes the sample of so many pages by as many workers of its own as the settings say,
+// Draws and writes the sample of n pages by as many workers of its own as the settings say,
 // and answers how that ended. The worker in the place of each is handed what it drew.
 fn draw_sample<R: Threads + Wait + Sync, F: FontSource + Send, O: Output>(
     rt: &R,

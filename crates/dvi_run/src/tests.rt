@@ -60,7 +60,7 @@ fn numbers(alloc: Global, list: &[u64]) -> Result<Vec<u64>, Fail> {
     Ok(Vec::from_slice(alloc, list)?)
 }
 
-// A document with these definitions and these pages, and four bytes behind it.
+// A document with these definitions and these pages, and four bytes after it.
 fn document(alloc: Global, fonts: &[u8], pages: &[&[u8]]) -> Result<Vec<u8>, Fail> {
     let mut bytes = Vec::from_slice(alloc, &PUT_RULE[..15])?;
     bytes.extend_from_slice(fonts)?;
@@ -107,7 +107,7 @@ fn no_fonts(alloc: Global) -> Result<SureFonts, Fail> {
     Ok(SureFonts::new(Arc::new(alloc, Library::new(alloc))?))
 }
 
-// Whether a run of these bytes with so many bytes for a read and for a write, where the listed reads and
+// Whether a run of these bytes with n bytes for a read and for a write, where the listed reads and
 // writes fail, ends with this status, output and line.
 fn ends<R: Threads + Wait + Sync>(
     rt: &R,
@@ -179,7 +179,8 @@ fn on(sheet: Sheet) -> Settings
     }
 }
 
-// Whether a run of these bytes with these settings and fonts ends with this status, output and line.
+// Whether a run of these bytes with these settings and fonts ends with this status, output and
+// line.
 fn ends_on<R: Threads + Wait + Sync, F: FontSource + Send>(
     rt: &R,
     alloc: Global,

@@ -14,7 +14,8 @@ const MOST: u64 = 8_388_609;
 /// How many bytes of a font file are read at once.
 const PIECE: usize = 65_536;
 
-/// A folder of font files. A file that isn't there is none; every other error of a file is a failure.
+/// A folder of font files. A file that isn't there is none; every other error of a file is a
+/// failure.
 #[derive(Drop)]
 pub struct FolderFonts<'a, R> {
     rt: &'a R,

@@ -1,6 +1,6 @@
 //! The program: draws the DVI document on standard input with the fonts of a folder, and writes its
-//! pages as PBM bitmaps on standard output. The folder is named by the environment word `DVIPBM_FONTS`;
-//! where that isn't set it is the current folder.
+//! pages as PBM bitmaps on standard output. The folder is named by the environment word
+//! `DVIPBM_FONTS`; where that isn't set it is the current folder.
 #![tactic(auto)]
 
 mod adapters;
@@ -15,13 +15,13 @@ use std::path::PathBuf;
 use std::process::ExitCode;
 use workers::workers_over;
 
-/// Memory is wanting for the words, for the folder's name or for the workers.
+/// Memory runs out for the arguments, for the folder's name or for the workers.
 const NO_MEMORY: u8 = 9;
 
 /// The words or the folder's name can't be had. No run ends so.
 const NO_WORDS: u8 = 10;
 
-// The words behind the program's name.
+// The words after the program's name.
 fn words(rt: &HostRuntime) -> Result<Vec<String>, u8> {
     let args = match env::args(rt) {
         Ok(args) => args,

@@ -1,5 +1,6 @@
--- Scaled dimensions: Knuth, DVItype, "Reading the font information", whose computation with alpha and beta gives the same numbers
--- as the one floor below; and design sizes in DVI units. Exact, with no reals.
+-- Scaled dimensions: Knuth, DVItype, "Reading the font information", whose computation with alpha
+-- and beta gives the same numbers as the one floor below; and design sizes in DVI units. Exact,
+-- with no reals.
 use Rattle.std.specs.Prelude.{◌≡◌, ◌⊎◌, ◌-ℤ◌, ◌==◌, ℕ, ◌+◌, ◌*◌, ◌/◌, ◌^◌, ◌<◌, ◌≤◌, ℤ, pos, ◌*ℤ◌, [], ◌∷◌, nat_lt, if◌then◌else◌}
 use Rattle.std.specs.Int.{int_div_euclid}
 use Rattle.big_endian.specs.Numbers.{signed_of}
@@ -36,7 +37,8 @@ tex_units d num den = half_up (d * 25400000 * den) (num * 473628672 * 16)
 
 -- ---- laws
 
--- the width that DVItype computes from the last three bytes of a fix_word, and from the first, which is 0 or 255
+-- the width that DVItype computes from the last three bytes of a fix_word, and from the first,
+-- which is 0 or 255
 abbrev pub nested_divisions : ℕ → ℕ → ℕ → ℕ → ℕ → ℤ
 nested_divisions first b c d size =
     let z = size / 2 ^ shift size in
@@ -47,7 +49,9 @@ nested_divisions first b c d size =
 
 -- they are the one floor, of the number that the four bytes spell in two's complement
 abbrev pub NestedDivisionsScale : Type 0
-NestedDivisionsScale = (first b c d size : ℕ) → (first ≡ 0) ⊎ (first ≡ 255) → b < 256 → c < 256 → d < 256 → size < 2 ^ 27
+NestedDivisionsScale =
+    (first b c d size : ℕ) → (first ≡ 0) ⊎ (first ≡ 255) → b < 256 → c < 256 → d < 256
+    → size < 2 ^ 27
     → nested_divisions first b c d size ≡ scale (signed_of (first ∷ b ∷ c ∷ d ∷ [])) size
 
 abbrev pub ShiftIsLeast : Type 0
@@ -55,7 +59,10 @@ ShiftIsLeast = (z : ℕ) → z < 2 ^ 27 → IsShift z (shift z)
 
 -- n is the nearest whole number to a fraction, and the greater one where two are as near
 abbrev pub IsNearest : ℕ → ℕ → ℕ → Type 0
-IsNearest top bottom n = (2 * n * bottom ≤ 2 * top + bottom) × (2 * top + bottom < 2 * n * bottom + 2 * bottom)
+IsNearest top bottom n =
+    (2 * n * bottom ≤ 2 * top + bottom) × (2 * top + bottom < 2 * n * bottom + 2 * bottom)
 
 abbrev pub HalfUpIsNearest : Type 0
-HalfUpIsNearest = (top bottom n : ℕ) → 0 < bottom → (half_up top bottom ≡ n → IsNearest top bottom n) × (IsNearest top bottom n → half_up top bottom ≡ n)
+HalfUpIsNearest =
+    (top bottom n : ℕ) → 0 < bottom → (half_up top bottom ≡ n → IsNearest top bottom n) ×
+    (IsNearest top bottom n → half_up top bottom ≡ n)

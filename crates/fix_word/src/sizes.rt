@@ -44,8 +44,8 @@ pub fn scale(x: i32, z: u32) -> i64
     product.div_euclid(1 << 20)
 }
 
-/// The design size `d` in points, a fix_word, in DVI units of `num / den` times 10^-7 meters: to the
-/// nearest whole number, halves up. A point is 254000/7227 times 10^-5 meters.
+/// The design size `d` in points, a fix_word, in DVI units of `num / den` times 10^-7 meters: to
+/// the nearest whole number, halves up. A point is 254000/7227 times 10^-5 meters.
 pub fn tex_units(d: u32, num: u32, den: u32) -> u64
     requires design { (1 ≤ d) × (d < 2 ^ 31) }
     requires top { (1 ≤ num) × (num < 2 ^ 31) }

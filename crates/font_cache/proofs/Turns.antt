@@ -1,4 +1,5 @@
--- One turn at the cache: what the value that was taken and the call that was made say of the seat's history.
+-- One turn at the cache: what the value that was taken and the call that was made say of the seat's
+-- history.
 use Rattle.std.proofs.Common.{◌≡◌, ℕ, ◌+◌, List, [], ◌∷◌, ◌++◌, Option, Some, None, IsSome, IsTrue, Result, Ok, Err, IfOk, OnErr, refl, sym, ap, ◌∙◌, subst, eq-eqb, append_assoc}
 use Rattle.std.specs.Option.{option_map}
 use Rattle.std.specs.Arc.{arc_value}

@@ -8,13 +8,19 @@ use Rattle.cache_core.specs.Histories.{own, open_claim}
 
 -- the last of the calls is a look for the key that claimed it
 abbrev pub LastClaims : FontKey → List Call → Type 0
-LastClaims k calls = (front : List Call) × (c : Call) × (calls ≡ front ++ c ∷ []) × (c.key ≡ k) × (c.done ≡ Claimed)
+LastClaims k calls =
+    (front : List Call) × (c : Call) × (calls ≡ front ++ c ∷ []) × (c.key ≡ k) × (c.done ≡ Claimed)
 
 -- calls have left a claim to their seat exactly where the last of them is a look that claimed it
 abbrev pub ClaimsAreLast : Type 0
-ClaimsAreLast = (k : FontKey) (calls : List Call) → (open_claim calls ≡ Some k → LastClaims k calls) × (LastClaims k calls → open_claim calls ≡ Some k)
+ClaimsAreLast =
+    (k : FontKey) (calls : List Call) → (open_claim calls ≡ Some k → LastClaims k calls) ×
+    (LastClaims k calls → open_claim calls ≡ Some k)
 
--- in the state after a legal history a seat holds the claim of a key exactly where the last of its own calls is a look that claimed it
+-- in the state after a legal history a seat holds the claim of a key exactly where the last of its
+-- own calls is a look that claimed it
 abbrev pub HeldByLast : Type 0
-HeldByLast = (capacity : ℕ) (history : List Call) (m : Machine) → machine_after capacity empty history ≡ Some m → (seat : ℕ) (k : FontKey)
-    → (claim_of seat m.claims ≡ Some k → LastClaims k (own seat history)) × (LastClaims k (own seat history) → claim_of seat m.claims ≡ Some k)
+HeldByLast = (capacity : ℕ) (history : List Call) (m : Machine)
+    → machine_after capacity empty history ≡ Some m → (seat : ℕ) (k : FontKey)
+    → (claim_of seat m.claims ≡ Some k → LastClaims k (own seat history))
+    × (LastClaims k (own seat history) → claim_of seat m.claims ≡ Some k)

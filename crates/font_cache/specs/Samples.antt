@@ -3,4 +3,9 @@ use Rattle.std.specs.Prelude.{ℕ, None}
 use Rattle.cache_core.specs.declared.common.Common.{Common}
 
 abbrev pub part_of : ℕ → Common
-part_of capacity = record { capacity = capacity; units = record { num = 1; den = 1; mag = 1; res = 1 }; library = None }
+part_of capacity =
+    record {
+      capacity = capacity;
+      units = record { num = 1; den = 1; mag = 1; res = 1 };
+      library = None;
+    }

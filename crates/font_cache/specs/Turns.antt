@@ -20,8 +20,9 @@ use Rattle.turn_lock.specs.declared.view.Stage.TheVariants.{Idle}
 use Rattle.turn_lock.specs.Histories.{OwnsSame}
 use Rattle.turn_lock.specs.Seats.{SeatView}
 
--- the history that the seat has seen after the turn: it begins with what it had seen, other seats may have called
--- since, and its last call is this one, which the machine allows in the state that the calls before it have led to
+-- the history that the seat has seen after the turn: it begins with what it had seen, other seats
+-- may have called since, and its last call is this one, which the machine allows in the state that
+-- the calls before it have led to
 pub record EndsWithCall (capacity : ℕ) (c : Call) (before after : List Call) : Type 0 where
   pub log : List Call
   pub begins : IsPrefix before log
@@ -40,7 +41,8 @@ pub record TookTurn (before after : SeatView) : Type 0 where
   -- it drew one turn more
   pub drawn : after.view.drawn ≡ before.view.drawn + 1
   pub common_part : after.view.part ≡ before.view.part
-  -- what seat 0 knows of the others: how many seats were made, which were joined, and how many turns those drew
+  -- what seat 0 knows of the others: how many seats were made, which were joined, and how many
+  -- turns those drew
   pub made : after.view.made ≡ before.view.made
   pub joined : after.view.joined ≡ before.view.joined
   pub joined_drawn : after.view.joined_drawn ≡ before.view.joined_drawn
@@ -56,24 +58,28 @@ pub record SawMore (before after : View) : Type 0 where
 
 -- the call of the key was noted, with what it did
 pub record NotedCall (k : FontKey) (d : Done) (before after : View) : Type 0 where
-  -- it is the last of the history that the seat has seen, and what the machine allows after those before it
+  -- it is the last of the history that the seat has seen, and what the machine allows after those
+  -- before it
   pub last : EndsWithCall before.part.capacity (call before.number k d) before.seen after.seen
   -- the seat holds the claim that it leaves
   pub claim : open_claim (own before.number after.seen) ≡ left_by k d
   -- the seat's own calls grew by it alone
-  pub own : own before.number after.seen ≡ own before.number before.seen ++ call before.number k d ∷ []
+  pub own : own before.number after.seen ≡ own before.number before.seen ++ call before.number k d
+      ∷ []
 
 -- the call was refused: the seat's own calls are as before
 abbrev pub NotedNothing : View → View → Type 0
 NotedNothing before after = own before.number after.seen ≡ own before.number before.seen
 
 -- the font that a hit gives is the one of its key in the common part
-abbrev pub HitStands : {T : Type 0} → (T → FontKey → Common → Type 0) → Look T → FontKey → Common → Type 0
+abbrev pub HitStands : {T : Type 0} → (T → FontKey → Common → Type 0) → Look T → FontKey → Common
+    → Type 0
 HitStands stands_for (Hit font) k part = stands_for (arc_value font) k part
 HitStands stands_for Claimed k part = Unit {0}
 HitStands stands_for Busy k part = Unit {0}
 
 -- the answer of a fill without the font that left
-abbrev pub told_of : {T : Type 0} → Result (Option (Evicted T)) (Arc T Global) → Result (Option (Arc FontKey Global)) (Arc T Global)
+abbrev pub told_of : {T : Type 0} → Result (Option (Evicted T)) (Arc T Global)
+    → Result (Option (Arc FontKey Global)) (Arc T Global)
 told_of (Ok gone) = Ok (option_map (λ e. e.key) gone)
 told_of (Err font) = Err font

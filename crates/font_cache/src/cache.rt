@@ -27,8 +27,8 @@ use turn_lock::{Seat, TurnLock};
 /// A seat of a font cache.
 pub type CacheSeat<T> = Seat<CacheState<T>>;
 
-/// A font cache that its seats use in turn. Contracts see which lock it is. Each call needs seats of
-/// this same cache.
+/// A font cache that its seats use in turn. Contracts see which lock it is. Each call needs seats
+/// of this same cache.
 #[derive(Drop)]
 pub struct FontCache<T: Stands> {
     lock: TurnLock<CacheState<T>>,
@@ -44,7 +44,7 @@ impl<T: Stands> Model for FontCache<T> {
     ghost view = { λ c. c.lock };
 }
 
-// The key of the font that left, which is let go.
+// The key of the font that left, which is dropped.
 fn key_alone<T: Stands>(
     filled: Result<Option<Evicted<T>>, Arc<T>>,
 ) -> Result<Option<Arc<FontKey>>, Arc<T>>
@@ -57,8 +57,9 @@ fn key_alone<T: Stands>(
 }
 
 impl<T: Stands> FontCache<T> {
-    /// An empty cache of so many fonts at most, 1 to 256, with its seat 0, which has seen nothing, drew nothing and
-    /// doesn't have the turn. The caller's proof picks the common part of all seats, which has this capacity.
+    /// An empty cache of n fonts at most, 1 to 256, with its seat 0, which has seen nothing, drew
+    /// nothing and doesn't have the turn. The caller's proof picks the common part of all seats,
+    /// which has this capacity.
     pub fn make(alloc: Global, capacity: usize) -> Result<(FontCache<T>, CacheSeat<T>), NoMemory>
         ghost part: { Common }
         requires some_font { 1 ≤ capacity }
@@ -74,8 +75,8 @@ impl<T: Stands> FontCache<T> {
         }
     }
 
-    /// Makes one more seat. It has the next number, has seen what seat 0 has, has no calls of its own, drew nothing and
-    /// doesn't have the turn. Seat 0 counts it, and is else as it was.
+    /// Makes one more seat. It has the next number, has seen what seat 0 has, has no calls of its
+    /// own, drew nothing and doesn't have the turn. Seat 0 counts it, and is else as it was.
     pub fn split(&self, first: &mut CacheSeat<T>) -> CacheSeat<T>
         requires lock { first.old.lock ≡ self.now }
         requires first { first.old.view.number ≡ 0 }
@@ -89,9 +90,9 @@ impl<T: Stands> FontCache<T> {
         self.lock.split(first)
     }
 
-    /// Takes another seat in. Seat 0 has then seen the longer of both histories, which goes on from both. It has the
-    /// calls of the other's number that the other had, and of its own number and of each number joined before those
-    /// that it had itself. Both seats have one common part.
+    /// Takes another seat in. Seat 0 has then seen the longer of both histories, which goes on from
+    /// both. It has the calls of the other's number that the other had, and of its own number and
+    /// of each number joined before those that it had itself. Both seats have one common part.
     pub fn join(&self, first: &mut CacheSeat<T>, other: CacheSeat<T>)
         requires lock { first.old.lock ≡ self.now }
         requires other_lock { other.lock ≡ self.now }
@@ -102,7 +103,8 @@ impl<T: Stands> FontCache<T> {
         ensures seen { first.new.view ≡ joined_view first.old.view other.view }
         ensures begins { IsPrefix first.old.view.seen first.new.view.seen }
         ensures other_begins { IsPrefix other.view.seen first.new.view.seen }
-        ensures theirs { own other.view.number first.new.view.seen ≡ own other.view.number other.view.seen }
+        ensures theirs { own other.view.number first.new.view.seen
+            ≡ own other.view.number other.view.seen }
         ensures mine { own 0 first.new.view.seen ≡ own 0 first.old.view.seen }
         ensures before { OwnsSame first.old.view.joined first.new.view.seen first.old.view.seen }
         ensures common_part { other.view.part ≡ first.old.view.part }
@@ -110,10 +112,10 @@ impl<T: Stands> FontCache<T> {
         self.lock.join(first, other);
     }
 
-    /// Looks a key up in one turn, for a seat that holds no claim, and waits for the turn. The answer is the machine's
-    /// after the history that was there, which goes on from what the seat had seen: `Hit` with a font that stands for
-    /// the key in the common part, else `Busy` where another seat claims the key, else `Claimed`. `NoMemory` adds no
-    /// call.
+    /// Looks a key up in one turn, for a seat that holds no claim, and waits for the turn. The
+    /// answer is the machine's after the history that was there, which goes on from what the seat
+    /// had seen: `Hit` with a font that stands for the key in the common part, else `Busy` where
+    /// another seat claims the key, else `Claimed`. `NoMemory` adds no call.
     pub fn look<R: Wait>(
         &self,
         rt: &R,
@@ -128,7 +130,8 @@ impl<T: Stands> FontCache<T> {
         ensures seen { SawMore seat.old.view seat.new.view }
         ensures noted { IfOk result (λ reply. NotedCall (arc_value key.now) (answered reply)
             seat.old.view seat.new.view) }
-        ensures stands { IfOk result (λ reply. HitStands T.stands_for reply (arc_value key.now) seat.old.view.part) }
+        ensures stands { IfOk result (λ reply. HitStands T.stands_for reply (arc_value key.now)
+            seat.old.view.part) }
         ensures refused { OnErr result (NotedNothing seat.old.view seat.new.view) }
     {
         // What a seat's own calls tell of its claim.
@@ -140,10 +143,11 @@ impl<T: Stands> FontCache<T> {
         reply
     }
 
-    /// Hands in, in one turn, the font of the key that the seat has claimed, which ends the claim; waits for the turn.
-    /// The font stands for the key in the common part. The answer is the key whose font left for it. `Err` means that
-    /// memory was wanting: it hands the font back and adds no call, so the seat still holds its claim. The font that
-    /// left is let go when the turn has been handed on.
+    /// Hands in, in one turn, the font of the key that the seat has claimed, which ends the claim;
+    /// waits for the turn. The font stands for the key in the common part. The answer is the key
+    /// whose font left for it. `Err` means that memory ran out: it hands the font back and adds no
+    /// call, so the seat still holds its claim. The font that left is dropped when the turn has
+    /// been handed on.
     pub fn fill<R: Wait>(
         &self,
         rt: &R,
@@ -154,11 +158,13 @@ impl<T: Stands> FontCache<T> {
         requires lock { seat.old.lock ≡ self.now }
         requires idle { seat.old.view.stage ≡ Idle }
         requires room { seat.old.view.drawn < 2 ^ 48 }
-        requires claim { open_claim (own seat.old.view.number seat.old.view.seen) ≡ Some (arc_value key.now) }
+        requires claim { open_claim (own seat.old.view.number seat.old.view.seen)
+            ≡ Some (arc_value key.now) }
         requires stands { T.stands_for (arc_value value) (arc_value key.now) seat.old.view.part }
         ensures turn { TookTurn seat.old seat.new }
         ensures seen { SawMore seat.old.view seat.new.view }
-        ensures noted { IfOk result (λ gone. NotedCall (arc_value key.now) (Filled (option_map arc_value gone))
+        ensures noted { IfOk result (λ gone. NotedCall (arc_value key.now)
+            (Filled (option_map arc_value gone))
             seat.old.view seat.new.view) }
         ensures back { IfErr result (λ handed. handed ≡ value) }
         ensures refused { OnErr result (NotedNothing seat.old.view seat.new.view) }
@@ -173,12 +179,14 @@ impl<T: Stands> FontCache<T> {
         key_alone(filled)
     }
 
-    /// Gives up, in one turn, the claim that the seat holds; waits for the turn. It takes no memory.
+    /// Gives up, in one turn, the claim that the seat holds; waits for the turn. It takes no
+    /// memory.
     pub fn release<R: Wait>(&self, rt: &R, seat: &mut CacheSeat<T>, key: &Arc<FontKey>)
         requires lock { seat.old.lock ≡ self.now }
         requires idle { seat.old.view.stage ≡ Idle }
         requires room { seat.old.view.drawn < 2 ^ 48 }
-        requires claim { open_claim (own seat.old.view.number seat.old.view.seen) ≡ Some (arc_value key.now) }
+        requires claim { open_claim (own seat.old.view.number seat.old.view.seen)
+            ≡ Some (arc_value key.now) }
         ensures turn { TookTurn seat.old seat.new }
         ensures seen { SawMore seat.old.view seat.new.view }
         ensures noted { NotedCall (arc_value key.now) Released seat.old.view seat.new.view }
@@ -191,9 +199,10 @@ impl<T: Stands> FontCache<T> {
         self.lock.give(seat, state);
     }
 
-    /// The whole history, once all other seats were joined and no turn is held: just what seat 0 has seen. It is legal
-    /// for the capacity of the common part, has no call of a number that wasn't made, and claims each key at most once
-    /// more than its font left and its claims were given up together. The fonts are let go.
+    /// The whole history, once all other seats were joined and no turn is held: just what seat 0
+    /// has seen. It is legal for the capacity of the common part, has no call of a number that
+    /// wasn't made, and claims each key at most once more than its font left and its claims were
+    /// given up together. The fonts are dropped.
     pub fn close(self, first: CacheSeat<T>) -> Vec<Entry>
         requires lock { first.lock ≡ self }
         requires first { first.view.number ≡ 0 }

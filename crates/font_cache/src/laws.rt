@@ -3,8 +3,8 @@ ghost use Rattle.font_cache.specs.Laws.{ClaimsAreLast, HeldByLast};
 
 use cache_core::laws::histories;
 
-/// A seat holds a claim exactly where the last of its own calls is a look that claimed the key: by its calls alone, and
-/// in the state after the whole history.
+/// A seat holds a claim exactly where the last of its own calls is a look that claimed the key: by
+/// its calls alone, and in the state after the whole history.
 pub fn claims()
     ensures last { ClaimsAreLast }
     ensures held { HeldByLast }

@@ -73,9 +73,9 @@ fn two_seats<R: Wait>(rt: &R, alloc: Global) -> Result<(bool, u32, Vec<Entry>), 
     Ok((gone.is_none(), found.number, cache.close(first)))
 }
 
-// Seat 0 claims the key, as for a load that fails, while seat 1 is told that it is busy. When seat 0 has
-// released it, seat 1 claims it and fills it with font 8, which seat 0 finds. Tells how many turns
-// seat 0 drew, and the number of the font.
+// Seat 0 claims the key, as for a load that fails, while seat 1 is told that it is busy. When seat
+// 0 has released it, seat 1 claims it and fills it with font 8, which seat 0 finds. Tells how many
+// turns seat 0 drew, and the number of the font.
 fn released<R: Wait>(rt: &R, alloc: Global) -> Result<(u64, u32, Vec<Entry>), NoMemory> {
     let key = dot_key(alloc)?;
     let font = Arc::new(
@@ -149,7 +149,7 @@ fn one_round<R: Wait>(
     Err(NoMemory)
 }
 
-// So many rounds, of which the last fills. Tells how many calls were accepted, if memory sufficed.
+// n rounds, of which the last fills. Tells how many calls were accepted, if memory sufficed.
 fn rounds<R: Wait>(
     rt: &R,
     alloc: Global,
@@ -176,7 +176,7 @@ fn rounds<R: Wait>(
     Some(calls)
 }
 
-// Waits until so many threads have come, and says whether they came.
+// Waits until n threads have come, and says whether they came.
 fn meet(gate: &AtomicU32, all: u32) -> bool {
     gate.fetch_add(1, Ordering::SeqCst);
     for _ in 0..1_000_000u32 {
@@ -188,7 +188,8 @@ fn meet(gate: &AtomicU32, all: u32) -> bool {
     false
 }
 
-// Two threads meet, and then look up one key in turn. Tells how many calls were accepted, and the history.
+// Two threads meet, and then look up one key in turn. Tells how many calls were accepted, and the
+// history.
 fn two_threads<R: Threads + Wait + Sync>(rt: &R, alloc: Global) -> Option<(u32, Vec<Entry>)> {
     let key = dot_key(alloc).ok()?;
     let (cache, mut first) = FontCache::make(alloc, 2).ok()?;
@@ -201,7 +202,9 @@ fn two_threads<R: Threads + Wait + Sync>(rt: &R, alloc: Global) -> Option<(u32, 
     let ((one, ones), (two, twos)) = thread::join(
         rt,
         move || -> (CacheSeat<Sized>, Option<u32>)
-            requires { (one.lock ≡ by.now) × (one.view.stage ≡ Idle) × (one.view.drawn ≡ 0) × (open_claim (own one.view.number one.view.seen) ≡ None) × ((arc_value dot.now).size ≡ 128) }
+            requires { (one.lock ≡ by.now) × (one.view.stage ≡ Idle) × (one.view.drawn ≡ 0)
+                × (open_claim (own one.view.number one.view.seen) ≡ None)
+                × ((arc_value dot.now).size ≡ 128) }
             ensures lock { result.0.lock ≡ one.lock }
             ensures idle { result.0.view.stage ≡ Idle }
             ensures number { result.0.view.number ≡ one.view.number }
@@ -213,7 +216,9 @@ fn two_threads<R: Threads + Wait + Sync>(rt: &R, alloc: Global) -> Option<(u32, 
             (one, if met { calls } else { None })
         },
         move || -> (CacheSeat<Sized>, Option<u32>)
-            requires { (two.lock ≡ by.now) × (two.view.stage ≡ Idle) × (two.view.drawn ≡ 0) × (open_claim (own two.view.number two.view.seen) ≡ None) × ((arc_value dot.now).size ≡ 128) }
+            requires { (two.lock ≡ by.now) × (two.view.stage ≡ Idle) × (two.view.drawn ≡ 0)
+                × (open_claim (own two.view.number two.view.seen) ≡ None)
+                × ((arc_value dot.now).size ≡ 128) }
             ensures lock { result.0.lock ≡ two.lock }
             ensures idle { result.0.view.stage ≡ Idle }
             ensures number { result.0.view.number ≡ two.view.number }
@@ -303,7 +308,7 @@ fn a_claim_given_up(rt: HostRuntime) -> Result<(), Fail> {
 #[test]
 fn a_thousand_rounds_of_two_threads(rt: HostRuntime) -> Result<(), Fail> {
     let (calls, entries) = two_threads(&rt, rt.alloc()).ok_or(
-        "memory was wanting, or the threads did not meet",
+        "memory ran out, or the threads did not meet",
     )?;
     assert_eq!(rt; entries.len(), calls as usize);
     let mut state = OneKey {

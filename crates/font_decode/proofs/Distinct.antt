@@ -32,8 +32,8 @@ apart xs ys m n p q ne e = ne (sym p ∙ ap last e ∙ q)
 
 other_resolution : (k : FontKey) (m n : ℕ) → m < 2 ^ 64 → n < 2 ^ 64 → m ≢ n → pk_name k m ≢ pk_name k n
 other_resolution k m n lt_m lt_n ne e =
-    let front : k.name ++ codes "." ++ decimal m ≡ k.name ++ codes "." ++ decimal n = append_cancel_right _ _ (codes "pk") e in
-    ne (decimal_injective m n lt_m lt_n (append_cancel_left (k.name ++ codes ".") _ _ front))
+    let prefix : k.name ++ codes "." ++ decimal m ≡ k.name ++ codes "." ++ decimal n = append_cancel_right _ _ (codes "pk") e in
+    ne (decimal_injective m n lt_m lt_n (append_cancel_left (k.name ++ codes ".") _ _ prefix))
 
 all_differ : (a b c d e : List ℕ) → a ≢ b → a ≢ c → a ≢ d → a ≢ e → b ≢ c → b ≢ d → b ≢ e → c ≢ d → c ≢ e → d ≢ e → AllPairs (λ x y. x ≢ y) (a ∷ b ∷ c ∷ d ∷ e ∷ [])
 all_differ a b c d e ab ac ad ae bc bd be cd ce de =

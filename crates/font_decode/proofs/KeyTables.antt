@@ -19,7 +19,7 @@ module _ {V W : Type 0} (seen : V → W) where
   seen_choice true v o = refl
   seen_choice false v o = refl
 
-  -- what is found behind a reference
+  -- what is found after a reference
   pub found : (r : Option (Bor V)) (o : Option V) (w : Option W) → option_copied r ≡ o → w ≡ option_map seen o → MatchOption r (w ≡ None) (λ b. w ≡ Some (seen b.now))
   found None o w e f = f ∙ ap (option_map seen) (sym e)
   found (Some b) o w e f = f ∙ ap (option_map seen) (sym e)

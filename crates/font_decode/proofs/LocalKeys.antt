@@ -18,7 +18,7 @@ use Rattle.font_decode.specs.Locals.{are_local_sizes, is_local_size, local_key}
 abbrev Defs : Type 0
 Defs = List LocalDef
 
--- the definitions that were seen, and one more in front of them
+-- the definitions that were seen, and one more before them
 abbrev seen : List (Bor LocalDef) → Defs
 seen xs = reverse (map (λ d. d.now) xs)
 
@@ -33,7 +33,7 @@ module _ (u : Units) (size : ℕ) where
       by true y a b = b
       by false y a b = cc
 
-  -- a key for the number of one more definition in front
+  -- a key for the number of one more definition before it
   pub keys_more : (locals : Defs) (d : LocalDef) (k : FontKey) (old new : List (ℤ × FontKey)) → k ≡ local_key u size d
       → ((n : ℤ) → key_with new n ≡ cond (is_eq (int_cmp d.number n)) (Some k) (key_with old n))
       → ((n : ℤ) → key_with old n ≡ option_map (local_key u size) (local_with locals n))

@@ -52,20 +52,20 @@ no_slash xs h = λ k d lt. slash (get_or xs k d) (AllPass-from_list_all is_name_
 
 valid : (k : FontKey) → is_valid_name k ≡ true → (0 < length k.name) × IsPlain k.name × (slice_index k.name 0 ≢ 46)
 valid k h =
-    let front = and_parts (k.area == 0 && is_in_range 1 100 (length k.name) && list_all is_name_byte k.name) (not (slice_index k.name 0 == 46)) h in
-    let sized = and_parts (k.area == 0 && is_in_range 1 100 (length k.name)) (list_all is_name_byte k.name) front.0 in
+    let prefix = and_parts (k.area == 0 && is_in_range 1 100 (length k.name) && list_all is_name_byte k.name) (not (slice_index k.name 0 == 46)) h in
+    let sized = and_parts (k.area == 0 && is_in_range 1 100 (length k.name)) (list_all is_name_byte k.name) prefix.0 in
     let ranged = and_parts (k.area == 0) (is_in_range 1 100 (length k.name)) sized.0 in
     let least = leb-true 1 (length k.name) (and_parts _ _ ranged.1).0 in
-    (least, sized.1, eqb-false (slice_index k.name 0) 46 (not-true _ front.1))
+    (least, sized.1, eqb-false (slice_index k.name 0) 46 (not-true _ prefix.1))
 
 pub resolution_range : (n : ℕ) → is_resolution n ≡ true → (1 ≤ n) × (n ≤ 1000000)
 resolution_range n h = let parts = and_parts _ _ h in (leb-true 1 n parts.0, leb-true n 1000000 parts.1)
 
 -- ---- a name with an ending
 
-front_byte : (xs ys : List ℕ) → 0 < length xs → slice_index (xs ++ ys) 0 ≡ slice_index xs 0
-front_byte [] ys lt = absurd (omega (arith, lt))
-front_byte (x ∷ xs) ys lt = refl
+prefix_byte : (xs ys : List ℕ) → 0 < length xs → slice_index (xs ++ ys) 0 ≡ slice_index xs 0
+prefix_byte [] ys lt = absurd (omega (arith, lt))
+prefix_byte (x ∷ xs) ys lt = refl
 
 longer : (xs ys : List ℕ) → 0 < length xs → 0 < length (xs ++ ys)
 longer xs ys lt = rw (length-append xs ys) (omega (arith, lt))
@@ -73,7 +73,7 @@ longer xs ys lt = rw (length-append xs ys) (omega (arith, lt))
 with_ending : (xs ys : List ℕ) → (0 < length xs) × IsPlain xs × (slice_index xs 0 ≢ 46) → IsPlain ys → StaysInFolder (xs ++ ys)
 with_ending xs ys (some, plain, dot) q = record {
   some = longer xs ys some;
-  no_dot_in_front = λ e. dot (sym (front_byte xs ys some) ∙ e);
+  no_leading_dot = λ e. dot (sym (prefix_byte xs ys some) ∙ e);
   no_slash = no_slash (xs ++ ys) (plain_append xs ys plain q);
   plain = plain_append xs ys plain q;
 }

@@ -10,7 +10,7 @@ use Rattle.font_decode.specs.Files.{pk_choices}
 abbrev pub choices : Units → FontKey → List (List ℕ)
 choices u k = if is_valid_name k then tfm_name k ∷ vf_name k ∷ pk_choices u k else []
 
--- the first of these names were asked for, one after another: so many from `low` to `high`
+-- the first of these names were asked for, one after another: n from `low` to `high`
 pub record AskedFirst (low high : ℕ) (old new : Names) (names : List (List ℕ)) : Type 0 where
   pub count : ℕ
   pub least : low ≤ count

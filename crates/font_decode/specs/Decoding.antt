@@ -1,6 +1,6 @@
--- What the font of a key is, by its files, or what is wrong with it first. The order in which name and files are judged is this driver's
--- own; what the files hold is told by Knuth's TFtoPL and VFtoVP and Rokicki's PKtype, and the widths by DVItype, "Reading the font
--- information".
+-- What the font of a key is, by its files, or what is wrong with it first. The order in which name
+-- and files are judged is this driver's own; what the files hold is told by Knuth's TFtoPL and
+-- VFtoVP and Rokicki's PKtype, and the widths by DVItype, "Reading the font information".
 use Rattle.std.specs.Prelude.{◌≡◌, ◌⊎◌, ℕ, ℤ, Bool, List, length, nat_lt, slice_get, Option, IfSome, IsFalse, IsTrue, MatchBool, MatchOption}
 use Rattle.std.specs.Option.{option_map}
 use Rattle.fix_word.specs.Scale.{scale}
@@ -39,13 +39,16 @@ pub record IsPackedFont (k : FontKey) (tfm pk : List ℕ) (f : FontSeen) : Type 
   pub file : IsPkFile pk items
   pub glyphs : (c : ℕ) → IsAnswer items c (glyph_at f c)
 
--- the font of a key with a sound TFM file and these items of a sound VF file, whose local fonts have sizes in range
-pub record IsVirtualFont (u : Units) (k : FontKey) (tfm : List ℕ) (items : List (List ℕ)) (f : FontSeen) : Type 0 where
+-- the font of a key with a sound TFM file and these items of a sound VF file, whose local fonts
+-- have sizes in range
+pub record IsVirtualFont (u : Units) (k : FontKey) (tfm : List ℕ) (items : List (List ℕ))
+    (f : FontSeen) : Type 0 where
   pub size : f.size ≡ k.size
   pub widths : (c : ℤ) → width_of f c ≡ scaled_width k.size tfm c
   pub virtual : IsTrue (is_virtual_of f)
   pub packets : (c : ℕ) → packet_of f c ≡ program_with items c
-  pub locals : (n : ℤ) → local_of f n ≡ option_map (local_key u k.size) (local_with (locals_of items) n)
+  pub locals : (n : ℤ) → local_of f n ≡ option_map (local_key u k.size) (local_with
+      (locals_of items) n)
   pub first : first_local_of f ≡ option_map (λ local. local.number) (slice_get (locals_of items) 0)
 
 -- ---- what a key's files come to: each definition goes on where the one after it has found no fault
@@ -60,7 +63,8 @@ DecodesPk k tfm pk (Font f) = IsPackedFont k tfm pk f
 DecodesPk k tfm pk (Fault f) = (found : PkFault) × IsFirstFault pk found × (f ≡ fault.Pk found)
 
 abbrev pub DecodesShortPk : FontKey → List ℕ → List ℕ → Decoded → Type 0
-DecodesShortPk k tfm pk d = MatchBool (is_too_long pk) (d ≡ Fault (fault.TooLong kind.Pk)) (DecodesPk k tfm pk d)
+DecodesShortPk k tfm pk d =
+    MatchBool (is_too_long pk) (d ≡ Fault (fault.TooLong kind.Pk)) (DecodesPk k tfm pk d)
 
 -- without a VF file: the resolution before the PK file
 abbrev pub DecodesPacked : Units → FontKey → List ℕ → Option (List ℕ) → Decoded → Type 0
@@ -70,8 +74,10 @@ DecodesPacked u k tfm pk d = MatchBool (is_resolution (dpi u k))
 
 -- the items of a sound VF file: the font, or a local font's size or design size out of range
 abbrev pub DecodesItems : Units → FontKey → List ℕ → List (List ℕ) → Decoded → Type 0
-DecodesItems u k tfm items (Font f) = IsTrue (are_local_sizes u k.size (locals_of items)) × IsVirtualFont u k tfm items f
-DecodesItems u k tfm items (Fault f) = IsFalse (are_local_sizes u k.size (locals_of items)) × (f ≡ fault.Size)
+DecodesItems u k tfm items (Font f) =
+    IsTrue (are_local_sizes u k.size (locals_of items)) × IsVirtualFont u k tfm items f
+DecodesItems u k tfm items (Fault f) =
+    IsFalse (are_local_sizes u k.size (locals_of items)) × (f ≡ fault.Size)
 
 -- a VF file: its first fault, or what its items come to
 abbrev pub DecodesVf : Units → FontKey → List ℕ → List ℕ → Decoded → Type 0
@@ -80,16 +86,19 @@ DecodesVf u k tfm vf d =
     ⊎ ((items : List (List ℕ)) × IsVfFile vf items × DecodesItems u k tfm items d)
 
 abbrev pub DecodesShortVf : Units → FontKey → List ℕ → List ℕ → Decoded → Type 0
-DecodesShortVf u k tfm vf d = MatchBool (is_too_long vf) (d ≡ Fault (fault.TooLong kind.Vf)) (DecodesVf u k tfm vf d)
+DecodesShortVf u k tfm vf d =
+    MatchBool (is_too_long vf) (d ≡ Fault (fault.TooLong kind.Vf)) (DecodesVf u k tfm vf d)
 
 -- after a sound TFM file: where there is a VF file, no PK file is looked at
 abbrev pub DecodesSound : Units → FontKey → List ℕ → FontFiles → Decoded → Type 0
-DecodesSound u k tfm files d = MatchOption files.vf (DecodesPacked u k tfm files.pk d) (λ vf. DecodesShortVf u k tfm vf d)
+DecodesSound u k tfm files d =
+    MatchOption files.vf (DecodesPacked u k tfm files.pk d) (λ vf. DecodesShortVf u k tfm vf d)
 
 -- a TFM file: too long before what it holds
 abbrev pub DecodesTfm : Units → FontKey → List ℕ → FontFiles → Decoded → Type 0
 DecodesTfm u k tfm files d = MatchBool (is_too_long tfm) (d ≡ Fault (fault.TooLong kind.Tfm))
-    (MatchOption (tfm_fault tfm) (DecodesSound u k tfm files d) (λ found. d ≡ Fault (fault.Tfm found)))
+    (MatchOption (tfm_fault tfm) (DecodesSound u k tfm files d)
+    (λ found. d ≡ Fault (fault.Tfm found)))
 
 -- the font of a key by its files, or its first fault: the name before the files
 abbrev pub IsDecodingOf : Units → FontKey → FontFiles → Decoded → Type 0
@@ -111,9 +120,11 @@ pub record IsFontBySome (u : Units) (k : FontKey) (d : Decoded) : Type 0 where
   pub order : IsInOrder u k files
   pub decoding : IsDecodingOf u k files d
 
--- by the files of the library where it is told, and else by some files, with the units of the document
+-- by the files of the library where it is told, and else by some files, with the units of the
+-- document
 abbrev pub IsFontOf : Option library.Files → Option Units → FontKey → Decoded → Type 0
-IsFontOf told units k d = IfSome units (λ u. MatchOption told (IsFontBySome u k d) (λ l. IsFontIn l u k d))
+IsFontOf told units k d =
+    IfSome units (λ u. MatchOption told (IsFontBySome u k d) (λ l. IsFontIn l u k d))
 
 -- ---- which decodings can't be told apart
 
@@ -126,7 +137,8 @@ pub record AreAlikeFonts (f g : FontSeen) : Type 0 where
   pub locals : (n : ℤ) → local_of f n ≡ local_of g n
   pub first : first_local_of f ≡ first_local_of g
 
--- one fault, or fonts with one size, with one width, glyph and packet for each code, and with the same local fonts
+-- one fault, or fonts with one size, with one width, glyph and packet for each code, and with the
+-- same local fonts
 abbrev pub AreAlike : Decoded → Decoded → Type 0
 AreAlike (Font f) (Font g) = AreAlikeFonts f g
 AreAlike (Font f) (Fault g) = ⊥

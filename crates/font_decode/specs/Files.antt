@@ -1,5 +1,6 @@
--- Which of a font's files are found in a library: a TFM file first, since no font is without its widths; then a VF file; and where the
--- font isn't a virtual one, the first PK file that is there. What a file holds doesn't matter here.
+-- Which of a font's files are found in a library: a TFM file first, since no font is without its
+-- widths; then a VF file; and where the font isn't a virtual one, the first PK file that is there.
+-- What a file holds doesn't matter here.
 use Rattle.std.specs.Prelude.{◌≡◌, List, [], ◌∷◌, ℕ, ◌+◌, Bool, not, ◌&&◌, Option, None, is_some, is_none, IsSome, IsNone, IsTrue, if◌then◌else◌}
 use Rattle.std.specs.Option.{option_map, option_or}
 use Rattle.std.specs.FinMap.{get}
@@ -16,7 +17,11 @@ pub record FontFiles : Type 0 where
   pub pk : Option (List ℕ)
 
 abbrev pub bytes_of : Files → FontFiles
-bytes_of f = record { tfm = option_map (λ v. v.items) f.tfm; vf = option_map (λ v. v.items) f.vf; pk = option_map (λ v. v.items) f.pk }
+bytes_of f = record {
+  tfm = option_map (λ v. v.items) f.tfm;
+  vf = option_map (λ v. v.items) f.vf;
+  pk = option_map (λ v. v.items) f.pk;
+}
 
 -- the first file that is there
 abbrev pub first_there : library.Files → List (List ℕ) → Option (List ℕ)
@@ -52,7 +57,8 @@ pub record IsInOrder (u : Units) (k : FontKey) (f : FontFiles) : Type 0 where
   pub vf : IsSome f.vf → IsSome f.tfm
   pub pk : IsSome f.pk → IsSome f.tfm × IsNone f.vf × IsTrue (is_resolution (dpi u k))
 
--- how many PK files were looked for, by whether one was found: up to the first that is there, or all three
+-- how many PK files were looked for, by whether one was found: up to the first that is there, or
+-- all three
 abbrev pub fewest_pk : Units → FontKey → Bool → ℕ
 fewest_pk u k is_there = if not (is_resolution (dpi u k)) then 0 else if is_there then 1 else 3
 

@@ -1,5 +1,6 @@
--- What a contract sees of a font that was read: Knuth, DVItype, "Reading the font information", for the widths; Rokicki, PKtype, "Packed
--- file format", for the glyphs of a packed font; and Knuth, VFtoVP, "Virtual fonts", for the packets and the local fonts of a virtual one.
+-- What a contract sees of a font that was read: Knuth, DVItype, "Reading the font information", for
+-- the widths; Rokicki, PKtype, "Packed file format", for the glyphs of a packed font; and Knuth,
+-- VFtoVP, "Virtual fonts", for the packets and the local fonts of a virtual one.
 use Rattle.std.specs.Prelude.{ℕ, ◌^◌, ◌<◌, ◌≤◌, ℤ, unsigned_abs, Bool, true, false, List, length, slice_get, Option, None, IfSome, IsSome, All}
 use Rattle.std.specs.Map.{lookup}
 use Rattle.std.specs.Option.{option_map}
@@ -15,8 +16,8 @@ use Rattle.vf_reader.specs.Programs.{AreCommandsOf}
 use Rattle.font_decode.specs.declared.shapes.Shapes.{Shapes}
 use Rattle.font_decode.specs.declared.shapes.Shapes.TheVariants.{Packed, Virtual}
 
--- the size and the widths in DVI units, these of the codes from 0 on, and what its characters are: glyphs in dots, or the packets of a VF
--- file beside the keys of its local fonts by their numbers
+-- the size and the widths in DVI units, these of the codes from 0 on, and what its characters are:
+-- glyphs in dots, or the packets of a VF file beside the keys of its local fonts by their numbers
 pub record FontSeen : Type 0 where
   pub size : ℕ
   pub widths : List (Option ℤ)
@@ -83,11 +84,13 @@ IsWidth w = unsigned_abs w ≤ 2 ^ 31
 abbrev pub AreWidths : List (Option ℤ) → Type 0
 AreWidths widths = All (λ w. IfSome w IsWidth) widths
 
--- the bytes of a code's packet are whole commands, each of which may stand there, with dimensions in range and a pop for each push
+-- the bytes of a code's packet are whole commands, each of which may stand there, with dimensions
+-- in range and a pop for each push
 abbrev pub IsProgram : ℕ → List ℕ → Type 0
 IsProgram c bytes = (commands : List DviCommand) × AreCommandsOf c bytes commands
 
--- the packets are programs, the local fonts' keys have sizes in range, and the first local font has a key
+-- the packets are programs, the local fonts' keys have sizes in range, and the first local font has
+-- a key
 pub record AreShapes (shapes : Shapes) : Type 0 where
   pub packets : (c : ℕ) → IfSome (packet_in shapes c) (IsProgram c)
   pub locals : (k : ℤ) → IfSome (local_in shapes k) IsFontKey

@@ -17,37 +17,48 @@ use Rattle.font_decode.specs.declared.decoded.Decoded.{Decoded}
 -- a name that leads out of no folder: neither empty nor `.` nor `..`, and with no `/`
 pub record StaysInFolder (name : List ℕ) : Type 0 where
   pub some : 0 < length name
-  pub no_dot_in_front : slice_index name 0 ≢ 46
+  pub no_leading_dot : slice_index name 0 ≢ 46
   pub no_slash : All (λ b. b ≢ 47) name
   pub plain : IsTrue (list_all is_name_byte name)
 
 -- the names of a font with a valid name lead out of no folder, at whatever resolution
 abbrev pub NamesStayInFolder : Type 0
-NamesStayInFolder = (u : Units) (k : FontKey) → IsTrue (is_valid_name k) → All StaysInFolder (file_names u k)
+NamesStayInFolder =
+    (u : Units) (k : FontKey) → IsTrue (is_valid_name k) → All StaysInFolder (file_names u k)
 
--- and so whatever names a fetch asks for, up to any stop: where all that were asked for before it stay in their folder, so do all after it
+-- and so whatever names a fetch asks for, up to any stop: where all that were asked for before it
+-- stay in their folder, so do all after it
 abbrev pub AskedNamesStayInFolder : Type 0
-AskedNamesStayInFolder = (u : Units) (k : FontKey) (count : ℕ) (before after : List (List ℕ)) → Asks (Some before) (Some after) (take count (choices u k))
+AskedNamesStayInFolder =
+    (u : Units) (k : FontKey) (count : ℕ) (before after : List (List ℕ))
+    → Asks (Some before) (Some after) (take count (choices u k))
     → All StaysInFolder before → All StaysInFolder after
 
 -- no two files of a font have the same name
 abbrev pub NamesAreDistinct : Type 0
-NamesAreDistinct = (u : Units) (k : FontKey) → IsTrue (is_resolution (dpi u k)) → AllPairs (λ a b. a ≢ b) (file_names u k)
+NamesAreDistinct =
+    (u : Units) (k : FontKey) → IsTrue (is_resolution (dpi u k))
+    → AllPairs (λ a b. a ≢ b) (file_names u k)
 
 -- a library has one answer
 abbrev pub OneIsFound : Type 0
-OneIsFound = (l : library.Files) (u : Units) (k : FontKey) (f g : FontFiles) → IsFound l u k f → IsFound l u k g → f ≡ g
+OneIsFound = (l : library.Files) (u : Units) (k : FontKey) (f g : FontFiles) → IsFound l u k f
+    → IsFound l u k g → f ≡ g
 
 abbrev pub FiveAtMost : Type 0
 FiveAtMost = (l : library.Files) (u : Units) (k : FontKey) → length (looked_for l u k) ≤ 5
 
 -- files come to one font, or have one first fault
 abbrev pub OneOfItsFiles : Type 0
-OneOfItsFiles = (u : Units) (k : FontKey) (files : FontFiles) (d e : Decoded) → IsDecodingOf u k files d → IsDecodingOf u k files e → AreAlike d e
+OneOfItsFiles =
+    (u : Units) (k : FontKey) (files : FontFiles) (d e : Decoded) → IsDecodingOf u k files d
+    → IsDecodingOf u k files e → AreAlike d e
 
 -- and so does a key in a library
 abbrev pub OneInALibrary : Type 0
-OneInALibrary = (l : library.Files) (u : Units) (k : FontKey) (d e : Decoded) → IsFontIn l u k d → IsFontIn l u k e → AreAlike d e
+OneInALibrary =
+    (l : library.Files) (u : Units) (k : FontKey) (d e : Decoded) → IsFontIn l u k d
+    → IsFontIn l u k e → AreAlike d e
 
 -- every file of a library has bytes
 abbrev pub AreByteFiles : library.Files → Type 0
@@ -55,8 +66,13 @@ AreByteFiles l = (name : List ℕ) → IfSome (get l name) AreBytes
 
 -- each key has a decoding in a library
 abbrev pub EachKeyIsDecoded : Type 0
-EachKeyIsDecoded = (l : library.Files) (u : Units) (k : FontKey) → AreByteFiles l → (d : Decoded) × IsFontIn l u k d
+EachKeyIsDecoded =
+    (l : library.Files) (u : Units) (k : FontKey) → AreByteFiles l
+    → (d : Decoded) × IsFontIn l u k d
 
--- the decoding of files is told by one list of rows: the fault of the first row that holds, and where none holds the font
+-- the decoding of files is told by one list of rows: the fault of the first row that holds, and
+-- where none holds the font
 abbrev pub RowsTellTheDecoding : Type 0
-RowsTellTheDecoding = (u : Units) (k : FontKey) (files : FontFiles) (d : Decoded) → IsDecodingOf u k files d ↔ IsFirstRow u k files d
+RowsTellTheDecoding =
+    (u : Units) (k : FontKey) (files : FontFiles) (d : Decoded)
+    → IsDecodingOf u k files d ↔ IsFirstRow u k files d

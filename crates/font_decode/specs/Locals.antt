@@ -1,5 +1,6 @@
--- The keys of a virtual font's local fonts: Knuth, VFtoVP, "Virtual fonts". A local font's size is a factor of the virtual font's, scaled as
--- a width is (DVItype, "Reading the font information"), and its design size is given in points.
+-- The keys of a virtual font's local fonts: Knuth, VFtoVP, "Virtual fonts". A local font's size is
+-- a factor of the virtual font's, scaled as a width is (DVItype, "Reading the font information"),
+-- and its design size is given in points.
 use Rattle.std.specs.Prelude.{ℕ, ℤ, pos, Bool, ◌&&◌, List, int_lt, unsigned_abs}
 use Rattle.std.specs.List.{list_all}
 use Rattle.fix_word.specs.Scale.{scale, tex_units}
@@ -27,4 +28,10 @@ are_local_sizes u size locals = list_all (is_local_size u size) locals
 
 -- the key
 abbrev pub local_key : Units → ℕ → LocalDef → FontKey
-local_key u size d = record { area = d.area; name = d.name; size = unsigned_abs (local_size size d); design = local_design u d }
+local_key u size d =
+    record {
+      area = d.area;
+      name = d.name;
+      size = unsigned_abs (local_size size d);
+      design = local_design u d;
+    }

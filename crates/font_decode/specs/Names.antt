@@ -1,5 +1,6 @@
--- The names of a font's files: `name.tfm` (Knuth, TFtoPL), `name.vf` (Knuth, VFtoVP), and `name.300pk` for a PK font of 300 dots to the
--- inch (Rokicki, PKtype; the name is that of dvips). Which names are looked for is this driver's own choice: those that stay in a folder.
+-- The names of a font's files: `name.tfm` (Knuth, TFtoPL), `name.vf` (Knuth, VFtoVP), and
+-- `name.300pk` for a PK font of 300 dots to the inch (Rokicki, PKtype; the name is that of dvips).
+-- Which names are looked for is this driver's own choice: those that stay in a folder.
 use Rattle.std.specs.Prelude.{ℕ, List, [], ◌∷◌, ◌++◌, ◌+◌, ◌-◌, ◌*◌, Bool, not, ◌&&◌, ◌||◌, ◌==◌, length, slice_index, codes, decimal}
 use Rattle.std.specs.List.{list_all}
 use Rattle.std.specs.Int.{is_in_range}
@@ -11,11 +12,15 @@ use Rattle.pixel_round.specs.declared.units.Units.{Units}
 
 -- an ASCII letter, a digit, `-`, `_`, `+` or `.`
 abbrev pub is_name_byte : ℕ → Bool
-is_name_byte b = is_in_range 65 90 b || is_in_range 97 122 b || is_in_range 48 57 b || b == 45 || b == 95 || b == 43 || b == 46
+is_name_byte b =
+    is_in_range 65 90 b || is_in_range 97 122 b || is_in_range 48 57 b || b == 45 || b == 95
+    || b == 43 || b == 46
 
--- no area, 1 to 100 such bytes, and no dot in front
+-- no area, 1 to 100 such bytes, and no dot at its beginning
 abbrev pub is_valid_name : FontKey → Bool
-is_valid_name k = k.area == 0 && is_in_range 1 100 (length k.name) && list_all is_name_byte k.name && not (slice_index k.name 0 == 46)
+is_valid_name k =
+    k.area == 0 && is_in_range 1 100 (length k.name) && list_all is_name_byte k.name && not
+    (slice_index k.name 0 == 46)
 
 -- ---- the resolution of a PK font
 
@@ -38,7 +43,8 @@ vf_name k = k.name ++ codes ".vf"
 abbrev pub pk_name : FontKey → ℕ → List ℕ
 pk_name k resolution = k.name ++ codes "." ++ decimal resolution ++ codes "pk"
 
--- PK files at the font's resolution and, since it was rounded, at the two next to it: one above before one below
+-- PK files at the font's resolution and, since it was rounded, at the two next to it: one above
+-- before one below
 abbrev pub pk_names : Units → FontKey → List (List ℕ)
 pk_names u k = pk_name k (dpi u k) ∷ pk_name k (dpi u k + 1) ∷ pk_name k (dpi u k - 1) ∷ []
 

@@ -9,8 +9,8 @@ pub record IsTfmOf (bytes : List ℕ) (table : List (Option ℤ)) : Type 0 where
   pub sound : tfm_fault bytes ≡ None
   pub widths : (c : ℤ) → width_of table c ≡ tfm_width bytes c
 
--- what holds of a sound definition: the factor and the design size are positive fix_words, the factor one below 16, and the area lies in
--- the name
+-- what holds of a sound definition: the factor and the design size are positive fix_words, the
+-- factor one below 16, and the area lies in the name
 pub record IsLocalDef (d : LocalDef) : Type 0 where
   pub factor : (1 ≤ d.factor) × (d.factor < 2 ^ 24)
   pub points : (1 ≤ d.points) × (d.points < 2 ^ 31)

@@ -1,5 +1,5 @@
--- What may be wrong with a font: one list of rows, in the order in which its name and its files are judged. The first row that holds is
--- the font's fault; where none holds, there is the font.
+-- What may be wrong with a font: one list of rows, in the order in which its name and its files are
+-- judged. The first row that holds is the font's fault; where none holds, there is the font.
 use Rattle.std.specs.Prelude.{◌≡◌, ◌⊎◌, ℕ, List, [], ◌∷◌, Some, None, Option, IsTrue, IsFalse, MatchOption}
 use Rattle.tfm_reader.specs.Tfm.{tfm_fault}
 use Rattle.tfm_reader.specs.declared.faults.TfmFault.{TfmFault}
@@ -38,22 +38,38 @@ pub data Row : Type 0 where
   WrongPk : Row
 
 abbrev pub rows : List Row
-rows = WrongName ∷ NoTfm ∷ LongTfm ∷ WrongTfm ∷ LongVf ∷ WrongVf ∷ LocalSize ∷ Resolution ∷ NoPk ∷ LongPk ∷ WrongPk ∷ []
+rows = WrongName ∷ NoTfm ∷ LongTfm ∷ WrongTfm ∷ LongVf ∷ WrongVf ∷ LocalSize ∷ Resolution ∷ NoPk
+    ∷ LongPk ∷ WrongPk ∷ []
 
--- a row holds of a key and its files, with this fault; those of a PK file only where there is no VF file
+-- a row holds of a key and its files, with this fault; those of a PK file only where there is no VF
+-- file
 abbrev pub Holds : Units → FontKey → FontFiles → Row → FontFault → Type 0
 Holds u k files WrongName f = IsFalse (is_valid_name k) × (f ≡ fault.Name)
 Holds u k files NoTfm f = (files.tfm ≡ None) × (f ≡ fault.Missing kind.Tfm)
-Holds u k files LongTfm f = (bytes : List ℕ) × (files.tfm ≡ Some bytes) × IsTrue (is_too_long bytes) × (f ≡ fault.TooLong kind.Tfm)
-Holds u k files WrongTfm f = (bytes : List ℕ) × (files.tfm ≡ Some bytes) × (found : TfmFault) × (tfm_fault bytes ≡ Some found) × (f ≡ fault.Tfm found)
-Holds u k files LongVf f = (bytes : List ℕ) × (files.vf ≡ Some bytes) × IsTrue (is_too_long bytes) × (f ≡ fault.TooLong kind.Vf)
-Holds u k files WrongVf f = (bytes : List ℕ) × (files.vf ≡ Some bytes) × (found : VfFault) × vf_file.IsFirstFault bytes found × (f ≡ fault.Vf found)
+Holds u k files LongTfm f =
+    (bytes : List ℕ) × (files.tfm ≡ Some bytes) × IsTrue (is_too_long bytes)
+    × (f ≡ fault.TooLong kind.Tfm)
+Holds u k files WrongTfm f =
+    (bytes : List ℕ) × (files.tfm ≡ Some bytes) × (found : TfmFault)
+    × (tfm_fault bytes ≡ Some found) × (f ≡ fault.Tfm found)
+Holds u k files LongVf f =
+    (bytes : List ℕ) × (files.vf ≡ Some bytes) × IsTrue (is_too_long bytes)
+    × (f ≡ fault.TooLong kind.Vf)
+Holds u k files WrongVf f =
+    (bytes : List ℕ) × (files.vf ≡ Some bytes) × (found : VfFault)
+    × vf_file.IsFirstFault bytes found × (f ≡ fault.Vf found)
 Holds u k files LocalSize f =
-    (bytes : List ℕ) × (files.vf ≡ Some bytes) × (items : List (List ℕ)) × IsVfFile bytes items × IsFalse (are_local_sizes u k.size (locals_of items)) × (f ≡ fault.Size)
-Holds u k files Resolution f = (files.vf ≡ None) × IsFalse (is_resolution (dpi u k)) × (f ≡ fault.Size)
+    (bytes : List ℕ) × (files.vf ≡ Some bytes) × (items : List (List ℕ)) × IsVfFile bytes items
+    × IsFalse (are_local_sizes u k.size (locals_of items)) × (f ≡ fault.Size)
+Holds u k files Resolution f =
+    (files.vf ≡ None) × IsFalse (is_resolution (dpi u k)) × (f ≡ fault.Size)
 Holds u k files NoPk f = (files.vf ≡ None) × (files.pk ≡ None) × (f ≡ fault.Missing kind.Pk)
-Holds u k files LongPk f = (files.vf ≡ None) × (bytes : List ℕ) × (files.pk ≡ Some bytes) × IsTrue (is_too_long bytes) × (f ≡ fault.TooLong kind.Pk)
-Holds u k files WrongPk f = (files.vf ≡ None) × (bytes : List ℕ) × (files.pk ≡ Some bytes) × (found : PkFault) × pk_file.IsFirstFault bytes found × (f ≡ fault.Pk found)
+Holds u k files LongPk f =
+    (files.vf ≡ None) × (bytes : List ℕ) × (files.pk ≡ Some bytes) × IsTrue (is_too_long bytes)
+    × (f ≡ fault.TooLong kind.Pk)
+Holds u k files WrongPk f =
+    (files.vf ≡ None) × (bytes : List ℕ) × (files.pk ≡ Some bytes) × (found : PkFault)
+    × pk_file.IsFirstFault bytes found × (f ≡ fault.Pk found)
 
 -- ---- the first row that holds, else the font
 
@@ -67,17 +83,21 @@ NoneHolds u k files (row ∷ others) = HoldsNot u k files row × NoneHolds u k f
 -- the first of these rows that holds, holds with this fault
 abbrev pub FirstHolds : Units → FontKey → FontFiles → List Row → FontFault → Type 0
 FirstHolds u k files [] f = ⊥
-FirstHolds u k files (row ∷ others) f = Holds u k files row f ⊎ (HoldsNot u k files row × FirstHolds u k files others f)
+FirstHolds u k files (row ∷ others) f =
+    Holds u k files row f ⊎ (HoldsNot u k files row × FirstHolds u k files others f)
 
 -- the font that the files make
 abbrev pub IsPackedOf : FontKey → List ℕ → Option (List ℕ) → FontSeen → Type 0
 IsPackedOf k tfm pk f = (bytes : List ℕ) × (pk ≡ Some bytes) × IsPackedFont k tfm bytes f
 
 abbrev pub IsVirtualOf : Units → FontKey → List ℕ → List ℕ → FontSeen → Type 0
-IsVirtualOf u k tfm vf f = (items : List (List ℕ)) × IsVfFile vf items × IsVirtualFont u k tfm items f
+IsVirtualOf u k tfm vf f =
+    (items : List (List ℕ)) × IsVfFile vf items × IsVirtualFont u k tfm items f
 
 abbrev pub IsFontOfFiles : Units → FontKey → FontFiles → FontSeen → Type 0
-IsFontOfFiles u k files f = (tfm : List ℕ) × (files.tfm ≡ Some tfm) × MatchOption files.vf (IsPackedOf k tfm files.pk f) (λ vf. IsVirtualOf u k tfm vf f)
+IsFontOfFiles u k files f =
+    (tfm : List ℕ) × (files.tfm ≡ Some tfm) × MatchOption files.vf (IsPackedOf k tfm files.pk f)
+    (λ vf. IsVirtualOf u k tfm vf f)
 
 -- the fault of the first row that holds, else the font
 abbrev pub IsFirstOf : Units → FontKey → FontFiles → List Row → Decoded → Type 0

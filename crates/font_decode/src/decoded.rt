@@ -11,7 +11,8 @@ pub enum Decoded {
     Fault(FontFault),
 }
 
-/// A decoding stands for a key where it is the key's font in the common library, or no library is told.
+/// A decoding stands for a key where it is the key's font in the common library, or no library is
+/// told.
 impl Stands for Decoded {
     ghost use Rattle.std.specs.Prelude.{Some};
     ghost use Rattle.font_decode.specs.Decoding.{IsFontOf};

@@ -29,16 +29,16 @@ fn is_too_long(bytes: &[u8]) -> bool
     bytes.len() > LONGEST_FILE
 }
 
-/// The font of a key, by its files, or its first fault: `Name`; then `Missing`, `TooLong` and `Tfm` of
-/// the TFM file. Where there is a VF file follow its `TooLong` and `Vf`, and `Size` where the size or
-/// the design size of a local font lies outside 1 to 2^27 - 1 DVI units; where there is none, `Size` of
-/// the resolution, and `Missing`, `TooLong` and `Pk` of the PK file. A file after the first fault isn't
-/// looked at, nor is a PK file beside a VF file.
+/// The font of a key, by its files, or its first fault: `Name`; then `Missing`, `TooLong` and `Tfm`
+/// of the TFM file. Where there is a VF file follow its `TooLong` and `Vf`, and `Size` where the
+/// size or the design size of a local font lies outside 1 to 2^27 - 1 DVI units; where there is
+/// none, `Size` of the resolution, and `Missing`, `TooLong` and `Pk` of the PK file. A file after
+/// the first fault isn't looked at, nor is a PK file beside a VF file.
 ///
-/// The widths are those of the TFM file (Knuth, TFtoPL, "Font metric data"), scaled to the key's size,
-/// the glyphs those of the PK file (Rokicki, PKtype, "Packed file format"), and the packets those of the
-/// VF file (Knuth, VFtoVP, "Virtual fonts"). A local font's key has the size that its factor makes of
-/// the key's size, and its design size in DVI units; both are scaled here, once.
+/// The widths are those of the TFM file (Knuth, TFtoPL, "Font metric data"), scaled to the key's
+/// size, the glyphs those of the PK file (Rokicki, PKtype, "Packed file format"), and the packets
+/// those of the VF file (Knuth, VFtoVP, "Virtual fonts"). A local font's key has the size that its
+/// factor makes of the key's size, and its design size in DVI units; both are scaled here, once.
 pub fn decode(
     alloc: Global,
     key: &FontKey,

@@ -43,7 +43,8 @@ pub trait Desk: Drop {
     /// The keys asked, in order, where they are told.
     ghost asked: { Self → Option (List FontKey) } = { λ _. None };
 
-    /// The desk's seat at a cache, the calls of that seat, and the loads of its source, where they are told.
+    /// The desk's seat at a cache, the calls of that seat, and the loads of its source, where they
+    /// are told.
     ghost trail: { Self → Option Trail } = { λ _. None };
 
     /// How many more fonts may be asked for.
@@ -72,9 +73,12 @@ pub trait Desk: Drop {
         ensures room { room self.old ≤ room self.new + 1 }
         ensures cause { HasCause (faults self.old) (faults self.new)
             (IsErrOf result DeskStop.SourceFault) }
-        ensures asked { OnOk result (GrewBy (asked self.old) (asked self.new) (arc_value key.now ∷ [])) }
-        ensures refused { OnErr result (GrewByAtMost (asked self.old) (asked self.new) (arc_value key.now)) }
-        ensures trail { TrailGrew (IsOk result) (asked self.old) (asked self.new) (trail self.old) (trail self.new) };
+        ensures asked { OnOk result (GrewBy (asked self.old) (asked self.new)
+            (arc_value key.now ∷ [])) }
+        ensures refused { OnErr result (GrewByAtMost (asked self.old) (asked self.new)
+            (arc_value key.now)) }
+        ensures trail { TrailGrew (IsOk result) (asked self.old) (asked self.new) (trail self.old)
+            (trail self.new) };
 
     /// The units are told wherever the library is.
     ghost told: { (d : Self) → IsSome (library d) → IsSome (units d) };

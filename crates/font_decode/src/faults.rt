@@ -15,9 +15,9 @@ pub enum FileKind {
 }
 
 /// What is wrong with a font: the first fault, in the order in which its name and its files are
-/// judged. First comes its name, then its TFM file. With a VF file follow that file and the sizes of
-/// its local fonts; without one the resolution, and the PK file. Of a file that is looked for it comes
-/// first that it isn't there, then that it is too long, then what it holds.
+/// judged. First comes its name, then its TFM file. With a VF file follow that file and the sizes
+/// of its local fonts; without one the resolution, and the PK file. Of a file that is looked for it
+/// comes first that it isn't there, then that it is too long, then what it holds.
 #[derive(Clone, Copy, Debug, PartialEq, Eq)]
 pub enum FontFault {
     /// There is no such file.
@@ -30,8 +30,8 @@ pub enum FontFault {
     Pk(PkFault),
     /// Files with this name aren't looked for.
     Name,
-    /// The resolution of its PK file lies outside 1 to 1,000,000 dots to the inch, or the size or the
-    /// design size of a local font of its VF file outside 1 to 2^27 - 1 DVI units.
+    /// The resolution of its PK file lies outside 1 to 1,000,000 dots to the inch, or the size or
+    /// the design size of a local font of its VF file outside 1 to 2^27 - 1 DVI units.
     Size,
     /// The file has more than 8,388,608 bytes.
     TooLong(FileKind),

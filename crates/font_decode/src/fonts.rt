@@ -10,10 +10,10 @@ use pk_runs::Glyph;
 use std::marker::Model;
 use std::sync::Arc;
 
-/// A font at a size: its widths, and its glyphs in dots or, of a virtual font, its packets of commands
-/// and its local fonts. A contract sees it as its size, the widths of the codes from 0 on, and what
-/// its characters are; `width_of`, `glyph_at` and `packet_of` say which ones a code has, and `local_of`
-/// which font a number.
+/// A font at a size: its widths, and its glyphs in dots or, of a virtual font, its packets of
+/// commands and its local fonts. A contract sees it as its size, the widths of the codes from 0 on,
+/// and what its characters are; `width_of`, `glyph_at` and `packet_of` say which ones a code has,
+/// and `local_of` which font a number.
 #[derive(Drop)]
 pub struct Font {
     size: u32,
@@ -28,7 +28,8 @@ impl Model for Font {
 
     ghost view = { λ f. record { size = f.size; widths = f.widths.items; shapes = f.shapes } };
 
-    ghost invariant = { λ f. IsFontSeen (record { size = f.size; widths = f.widths.items; shapes = f.shapes }) };
+    ghost invariant = { λ f. IsFontSeen
+        (record { size = f.size; widths = f.widths.items; shapes = f.shapes }) };
 }
 
 impl Font {
@@ -77,7 +78,8 @@ impl Font {
     /// the code, and in a virtual font.
     #[inline(always)]
     pub fn glyph(&self, c: u32) -> Option<&Glyph>
-        ensures { MatchOption result (glyph_at self.now c ≡ None) (λ g. glyph_at self.now c ≡ Some g.now) }
+        ensures { MatchOption result (glyph_at self.now c ≡ None)
+            (λ g. glyph_at self.now c ≡ Some g.now) }
     {
         match &self.shapes {
             Shapes::Packed(glyphs) => glyphs.glyph(c),
@@ -87,8 +89,8 @@ impl Font {
 
     /// The commands of a character of a virtual font: the bytes of the last packet with its code.
     /// They are whole commands, each of which may stand in a packet; their dimensions are fix_words
-    /// from -2^24 to 2^24 - 1, and each push has its pop. `None` where no packet has the code, and in
-    /// a packed font.
+    /// from -2^24 to 2^24 - 1, and each push has its pop. `None` where no packet has the code, and
+    /// in a packed font.
     pub fn packet(&self, c: u32) -> Option<&[u8]>
         ensures packet { MatchOption result (packet_of self.now c ≡ None)
             (λ packet. packet_of self.now c ≡ Some packet.now) }

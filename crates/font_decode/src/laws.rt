@@ -1,8 +1,8 @@
 //! What is true of the names of a font's files, and of what is found.
 ghost use Rattle.font_decode.specs.Laws.{NamesStayInFolder, AskedNamesStayInFolder, NamesAreDistinct, OneIsFound, FiveAtMost, OneOfItsFiles, OneInALibrary, EachKeyIsDecoded, RowsTellTheDecoding};
 
-/// The names of a font's files lead out of no folder, so that none of those asked for does, whatever
-/// the key; and no two of them are the same.
+/// The names of a font's files lead out of no folder, so that none of those asked for does,
+/// whatever the key; and no two of them are the same.
 pub fn names()
     ensures folder { NamesStayInFolder }
     ensures asked { AskedNamesStayInFolder }
@@ -15,9 +15,9 @@ pub fn answers()
     ensures five { FiveAtMost }
 {}
 
-/// Files come to one font or have one first fault, and so does a key in a library: two decodings are
-/// the same fault, or fonts that answer alike. One list of rows, in the order in which a font's name
-/// and files are judged, tells which: the first row that holds, and else the font.
+/// Files come to one font or have one first fault, and so does a key in a library: two decodings
+/// are the same fault, or fonts that answer alike. One list of rows, in the order in which a font's
+/// name and files are judged, tells which: the first row that holds, and else the font.
 pub fn decodings()
     ensures files { OneOfItsFiles }
     ensures library { OneInALibrary }

@@ -31,7 +31,8 @@ fn load_file<F: FontSource>(
     requires which { which < 5 }
     requires resolution { 2 ≤ which → IsTrue (is_resolution (dpi units.now key.now)) }
     ensures file { IfOk result (λ found. IfSome (F.library source.old) (λ l.
-        option_map (λ v. v.items) found ≡ get l (slice_index_or (file_names units.now key.now) which []))) }
+        option_map (λ v. v.items) found ≡ get l (slice_index_or (file_names units.now key.now)
+        which []))) }
     ensures library { F.library source.new ≡ F.library source.old }
     ensures cause { HasCause (F.faults source.old) (F.faults source.new)
         (IsErrOf result LoadStop.Failed) }
@@ -105,7 +106,8 @@ fn load_packed<F: FontSource>(
     requires valid { IsTrue (is_valid_name key.now) }
     ensures file { IfOk result (λ found. IfSome (F.library source.old) (λ l.
         option_map (λ v. v.items) found ≡ first_there l (pk_choices units.now key.now))) }
-    ensures in_range { IfOk result (λ found. IsSome found → IsTrue (is_resolution (dpi units.now key.now))) }
+    ensures in_range { IfOk result (λ found. IsSome found → IsTrue
+        (is_resolution (dpi units.now key.now))) }
     ensures library { F.library source.new ≡ F.library source.old }
     ensures cause { HasCause (F.faults source.old) (F.faults source.new)
         (IsErrOf result LoadStop.Failed) }
@@ -142,8 +144,8 @@ fn load_packed<F: FontSource>(
 /// file, PK files at the font's resolution, at one above and at one below, up to the first that is
 /// there. What a file holds doesn't matter.
 ///
-/// Nothing is loaded for a name that isn't valid, nothing after a TFM file that isn't there, and no PK
-/// file where the resolution lies outside 1 to 1,000,000 dots to the inch.
+/// Nothing is loaded for a name that isn't valid, nothing after a TFM file that isn't there, and no
+/// PK file where the resolution lies outside 1 to 1,000,000 dots to the inch.
 ///
 /// `Failed` is answered only where the source failed in this call, and `NoMemory` where memory was
 /// wanting.

@@ -49,7 +49,8 @@ impl LocalKeys {
     /// Gives the number of a local font this key, in place of the one that it may have.
     pub fn put(&mut self, local: &LocalDef, key: Arc<FontKey>) -> Result<(), NoMemory>
         ensures { OnOk result ((k : ℤ) → key_with self.new k
-            ≡ (if is_eq (int_cmp local.now.number k) then Some (arc_value key) else key_with self.old k)) }
+            ≡ (if is_eq (int_cmp local.now.number k) then Some (arc_value key)
+            else key_with self.old k)) }
     {
         self.keys.insert(local.number, key)?;
         Ok(())

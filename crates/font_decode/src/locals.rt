@@ -50,8 +50,8 @@ fn key_of(
     Ok(Some(Arc::new(alloc, key)?))
 }
 
-/// The keys of the local fonts in a virtual font of a size, by their numbers, or `None` where the size
-/// or the design size of one lies outside 1 to 2^27 - 1 DVI units.
+/// The keys of the local fonts in a virtual font of a size, by their numbers, or `None` where the
+/// size or the design size of one lies outside 1 to 2^27 - 1 DVI units.
 pub fn local_keys(
     alloc: Global,
     locals: &[LocalDef],
@@ -65,7 +65,8 @@ pub fn local_keys(
     ensures { IfOk result (λ keys. MatchOption keys
         (IsFalse (are_local_sizes units.now size locals.now))
         (λ keys. IsTrue (are_local_sizes units.now size locals.now)
-        × ((n : ℤ) → key_with keys n ≡ option_map (local_key units.now size) (local_with locals.now n)))) }
+        × ((n : ℤ) → key_with keys n ≡ option_map (local_key units.now size)
+        (local_with locals.now n)))) }
 {
     let mut keys = LocalKeys::new(alloc);
     for local in locals.iter().rev() {

@@ -24,8 +24,8 @@ fn has_name_bytes(name: &[u8]) -> bool
     name.iter().all(|byte| is_name_byte(*byte))
 }
 
-/// Whether files of this font are looked for: its name has no area and 1 to 100 bytes, each of them an
-/// ASCII letter, a digit, `-`, `_`, `+` or `.`, and the first of them no `.`.
+/// Whether files of this font are looked for: its name has no area and 1 to 100 bytes, each of them
+/// an ASCII letter, a digit, `-`, `_`, `+` or `.`, and the first of them no `.`.
 pub fn is_valid_name(key: &FontKey) -> bool
     ensures { result ≡ is_valid_name key.now }
 {
@@ -33,8 +33,8 @@ pub fn is_valid_name(key: &FontKey) -> bool
     key.area == 0 && matches!(name.len(), 1..=100) && has_name_bytes(name) && name[0] != b'.'
 }
 
-/// The resolution of a font's PK file, in dots to the inch: `res * mag * size / (1000 * design)` to the
-/// nearest whole number, halves up.
+/// The resolution of a font's PK file, in dots to the inch: `res * mag * size / (1000 * design)` to
+/// the nearest whole number, halves up.
 pub fn dpi(units: &Units, key: &FontKey) -> u128
     requires units { AreUnits units.now }
     requires key { IsFontKey key.now }
@@ -72,8 +72,8 @@ fn packed_name(alloc: Global, key: &FontKey, resolution: u128) -> Result<FileNam
     ending_in(alloc, key, &ending)
 }
 
-/// The name of one of a font's files: 0 is its TFM file, 1 its VF file, and 2, 3 and 4 are its PK files
-/// at its resolution, at one above and at one below.
+/// The name of one of a font's files: 0 is its TFM file, 1 its VF file, and 2, 3 and 4 are its PK
+/// files at its resolution, at one above and at one below.
 pub fn file_name(
     alloc: Global,
     key: &FontKey,

@@ -63,7 +63,7 @@ fn is_file(file: &Option<Vec<u8>>, bytes: &[u8]) -> bool {
     }
 }
 
-// Whether these three files are found by so many loads: the next load is the one that fails.
+// Whether these three files are found by n loads: the next load is the one that fails.
 fn finds(rt: &HostRuntime, key: &FontKey, loads: u64, files: [&[u8]; 3]) -> Result<bool, Fail>
     requires { IsFontKey key.now }
 {
@@ -182,14 +182,14 @@ fn a_failed_load_ends_a_fetch(rt: HostRuntime) -> Result<(), Fail> {
 
 // A source with a TFM file alone, of which the load numbered `fails`, from 1, wants memory.
 #[derive(Drop)]
-struct Wanting {
+struct OutOfMemory {
     alloc: Global,
     fails: u64,
     loads: u64,
     ghost loads_fit: { loads < 2 ^ 64 },
 }
 
-impl FontSource for Wanting {
+impl FontSource for OutOfMemory {
     ghost faults = { λ _. 0 };
 
     ghost loads = { λ s. s.loads };
@@ -215,19 +215,19 @@ fn each_load_may_stop_a_fetch(rt: HostRuntime) -> Result<(), Fail> {
         let mut source = MemFonts::new(library(&rt)?, vec![in rt.alloc(); n]?);
         let failed = fetch(rt.alloc(), &mut source, &dot, &UNITS);
         assert!(rt; matches!(failed, Err(LoadStop::Failed)), "load {n}");
-        let mut wanting = Wanting {
+        let mut without_memory = OutOfMemory {
             alloc: rt.alloc(),
             fails: n,
             loads: 0,
         };
-        let stopped = fetch(rt.alloc(), &mut wanting, &dot, &UNITS);
+        let stopped = fetch(rt.alloc(), &mut without_memory, &dot, &UNITS);
         assert!(rt; matches!(stopped, Err(LoadStop::NoMemory)), "load {n}");
     }
     Ok(())
 }
 
-// A source with a TFM file, and with the file of the load numbered `pk_at`, from 1. It hears whether
-// the names come in their order.
+// A source with a TFM file, and with the file of the load numbered `pk_at`, from 1. It hears
+// whether the names come in their order.
 #[derive(Drop)]
 struct Listening {
     alloc: Global,

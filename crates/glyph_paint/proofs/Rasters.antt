@@ -21,10 +21,10 @@ white_low : (raster : Bitmap) (x y : ℕ) → IsShaped raster → raster.height 
 white_low raster x y size below = ap (λ row. get_or row x false) (get_or_past raster.rows y [] (omega (arith, size.rows, below)))
 
 white_right : (raster : Bitmap) (x y : ℕ) → IsShaped raster → raster.width ≤ x → is_black raster x y ≡ false
-white_right raster x y size behind = by (cases_lt y raster.height)
+white_right raster x y size after = by (cases_lt y raster.height)
   where
     by : (y < raster.height) ⊎ (raster.height ≤ y) → is_black raster x y ≡ false
-    by (inl inside) = get_or_past (get_or raster.rows y []) x false (omega (arith, size.columns y inside, behind))
+    by (inl inside) = get_or_past (get_or raster.rows y []) x false (omega (arith, size.columns y inside, after))
     by (inr below) = white_low raster x y size below
 
 -- a place lies outside a raster
@@ -95,12 +95,12 @@ black_dot width height x y = by (cases_lt x width) (cases_lt y height)
     by (inl in_row) (inr below) =
         ap (λ row. get_or row x false) (from_fn_past height (λ r. from_fn width (λ k. true)) y [] below)
         ∙ sym (ap₂ (λ a b. a && b) (lt-ltb x width in_row) (le-ltb y height below))
-    by (inr behind) (inl inside) =
-        ap (λ row. get_or row x false) (get_or-from_fn height (λ r. from_fn width (λ k. true)) y [] inside) ∙ from_fn_past width (λ k. true) x false behind
-        ∙ sym (ap (λ a. a && ltb y height) (le-ltb x width behind))
-    by (inr behind) (inr below) =
+    by (inr after) (inl inside) =
+        ap (λ row. get_or row x false) (get_or-from_fn height (λ r. from_fn width (λ k. true)) y [] inside) ∙ from_fn_past width (λ k. true) x false after
+        ∙ sym (ap (λ a. a && ltb y height) (le-ltb x width after))
+    by (inr after) (inr below) =
         ap (λ row. get_or row x false) (from_fn_past height (λ r. from_fn width (λ k. true)) y [] below)
-        ∙ sym (ap (λ a. a && ltb y height) (le-ltb x width behind))
+        ∙ sym (ap (λ a. a && ltb y height) (le-ltb x width after))
 
 kept : (a b : Bool) → (a && b) ≡ (true && a && true && b)
 kept true true = refl

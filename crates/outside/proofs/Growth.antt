@@ -38,7 +38,7 @@ taken_none (Some x) = refl
 pub to_end : (xs : List ℕ) (n : ℕ) → take (length xs - n) (drop n xs) ≡ drop n xs
 to_end xs n = grind (arith, common_steps)
 
--- a front of a text, and then a front of the rest
+-- a prefix of a text, and then a prefix of the rest
 pub take_more : (xs : List ℕ) (at n : ℕ) → take at xs ++ take n (take (length xs - at) (drop at xs)) ≡ take (at + n) xs
 take_more xs at n = ap (λ w. take at xs ++ take n w) (to_end xs at) ∙ sym (take-add at n xs)
 
@@ -64,20 +64,20 @@ pub failed_now : {T E : Type 0} (r : Result T E) (a b c : ℕ) (failed failed2 :
 failed_now r a b c failed failed2 is p q =
     record { never_falls = omega (arith, p.never_falls, q.never_falls); rose = λ e. rose_later a b c p.never_falls (q.rose (sym is ∙ e)) q.never_falls }
 
--- ---- fronts
+-- ---- prefixes
 
-pub front_of_more : (a b c : Option (List ℕ)) (xs ys : List ℕ) → Appends a b xs → AppendsPrefix b c ys → AppendsPrefix a c (xs ++ ys)
-front_of_more a b c xs ys p q =
+pub prefix_of_more : (a b c : Option (List ℕ)) (xs ys : List ℕ) → Appends a b xs → AppendsPrefix b c ys → AppendsPrefix a c (xs ++ ys)
+prefix_of_more a b c xs ys p q =
     let fits : q.0 < length ys = q.1 in
-    (length xs + q.0, grind (arith, common_steps), subst (λ t. Appends a c t) (fronts xs ys q.0) (grown_twice a b c xs (take q.0 ys) p q.2))
+    (length xs + q.0, grind (arith, common_steps), subst (λ t. Appends a c t) (prefixes xs ys q.0) (grown_twice a b c xs (take q.0 ys) p q.2))
   where
-    fronts : (xs ys : List ℕ) (n : ℕ) → xs ++ take n ys ≡ take (length xs + n) (xs ++ ys)
-    fronts xs ys n = sym (take-append-add xs ys n)
+    prefixes : (xs ys : List ℕ) (n : ℕ) → xs ++ take n ys ≡ take (length xs + n) (xs ++ ys)
+    prefixes xs ys n = sym (take-append-add xs ys n)
 
-pub front_of_first : (a b : Option (List ℕ)) (xs ys : List ℕ) → AppendsPrefix a b xs → AppendsPrefix a b (xs ++ ys)
-front_of_first a b xs ys q =
+pub prefix_of_first : (a b : Option (List ℕ)) (xs ys : List ℕ) → AppendsPrefix a b xs → AppendsPrefix a b (xs ++ ys)
+prefix_of_first a b xs ys q =
     let fits : q.0 < length xs = q.1 in
-    (q.0, grind (arith, common_steps), subst (λ t. Appends a b t) (fronts xs ys q.0 (omega (arith, fits))) q.2)
+    (q.0, grind (arith, common_steps), subst (λ t. Appends a b t) (prefixes xs ys q.0 (omega (arith, fits))) q.2)
   where
-    fronts : (xs ys : List ℕ) (n : ℕ) → n ≤ length xs → take n xs ≡ take n (xs ++ ys)
-    fronts xs ys n le = sym (take-append-le n xs ys le)
+    prefixes : (xs ys : List ℕ) (n : ℕ) → n ≤ length xs → take n xs ≡ take n (xs ++ ys)
+    prefixes xs ys n le = sym (take-append-le n xs ys le)

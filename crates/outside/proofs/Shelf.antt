@@ -35,7 +35,7 @@ reversed Greater = refl
 either_way : (x y : List ℕ) → is_eq (slice_cmp nat_cmp x y) ≡ is_eq (slice_cmp nat_cmp y x)
 either_way x y = ap is_eq (nat_list_cmp_total.antisymm x y) ∙ reversed (slice_cmp nat_cmp y x)
 
--- what is found behind a reference
+-- what is found after a reference
 pub found-copied : {V : Type 0} (seen : V → List ℕ) (r : Option (Bor V)) (o : Option V) → option_copied r ≡ o → option_map (λ b. seen b.now) r ≡ option_map seen o
 found-copied seen None o e = ap (option_map seen) e
 found-copied seen (Some b) o e = ap (option_map seen) e

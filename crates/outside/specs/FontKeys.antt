@@ -1,4 +1,5 @@
--- What holds of every key that a document's definition gives: its sizes are positive fix_words below 2^27, and its area is part of its name.
+-- What holds of every key that a document's definition gives: its sizes are positive fix_words
+-- below 2^27, and its area is part of its name.
 use Rattle.std.specs.Prelude.{◌^◌, ◌<◌, ◌≤◌, length}
 use Rattle.outside.specs.declared.keys.FontKey.{FontKey}
 

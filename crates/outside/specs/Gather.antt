@@ -9,13 +9,13 @@ use Rattle.outside.specs.declared.gather.Gather.{Gather}
 abbrev pub held : Gather → List ℕ
 held g = take g.used g.piece
 
--- what is told grew by a front of the text; the rest is held
+-- what is told grew by a prefix of the text; the rest is held
 pub record IsHeld (held : List ℕ) (start now : Option (List ℕ)) (text : List ℕ) : Type 0 where
-  pub front : List ℕ
-  pub grew : Appends start now front
-  pub text_is : text ≡ front ++ held
+  pub prefix : List ℕ
+  pub grew : Appends start now prefix
+  pub text_is : text ≡ prefix ++ held
 
--- since the start the text was put: it is written or held, or a front of it is written
+-- since the start the text was put: it is written or held, or a prefix of it is written
 abbrev pub Gathered : Gather → Option (List ℕ) → Option (List ℕ) → List ℕ → Type 0
 Gathered g start now text =
     MatchBool g.failed (AppendsPrefix start now text) (IsHeld (held g) start now text)

@@ -9,7 +9,8 @@ use Rattle.std.specs.FinMap.{FinMap, get}
 abbrev pub Files : Type 0
 Files = FinMap (slice_cmp nat_cmp) (List ℕ)
 
--- what a source gives for a name: where the library is told, its bytes of that name, and none where it has none
+-- what a source gives for a name: where the library is told, its bytes of that name, and none where
+-- it has none
 abbrev pub IsFileOf : Option Files → List ℕ → Option (List ℕ) → Type 0
 IsFileOf told name found = IfSome told (λ files. found ≡ get files name)
 
@@ -17,7 +18,7 @@ IsFileOf told name found = IfSome told (λ files. found ≡ get files name)
 abbrev pub Names : Type 0
 Names = Option (List (List ℕ))
 
--- these names came behind those that are told
+-- these names came after those that are told
 abbrev pub Asks : Names → Names → List (List ℕ) → Type 0
 Asks old new names = new ≡ option_map (λ before. before ++ names) old
 

@@ -7,8 +7,8 @@ use crate::FileName;
 use std::alloc::{AllocError as NoMemory, Global};
 use std::marker::Model;
 
-/// Names in the order in which they were asked for. A contract sees the list, or none from a name on
-/// for which memory was wanting.
+/// Names in the order in which they were asked for. A contract sees the list, or none from a name
+/// on for which memory ran out.
 #[derive(Drop)]
 pub struct Asked {
     names: Vec<FileName>,
@@ -46,7 +46,7 @@ impl Asked {
         }
     }
 
-    // Keeps a name behind the others, without a look at whether they are told.
+    // Keeps a name after the others, without a look at whether they are told.
     fn keep(&mut self, name: &FileName) -> Result<(), NoMemory>
         ensures { OnOk result (Asks self.old self.new (name.now ∷ [])) }
     {
@@ -54,7 +54,7 @@ impl Asked {
         Ok(())
     }
 
-    /// Adds a name. Where memory is wanting, no name is told from then on.
+    /// Adds a name. Where memory runs out, no name is told from then on.
     pub fn add(&mut self, name: &FileName) -> Result<(), NoMemory>
         ensures ok { OnOk result (Asks self.old self.new (name.now ∷ [])) }
         ensures err { OnErr result (self.new ≡ None) }

@@ -13,7 +13,7 @@ pub enum LoadStop {
     /// The source failed, as a disk does.
     #[error("a font file could not be read")]
     Failed,
-    /// Memory was wanting.
+    /// Out of memory.
     #[error("out of memory")]
     NoMemory,
 }

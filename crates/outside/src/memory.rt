@@ -14,7 +14,7 @@ pub(crate) fn is_listed(fails: &[u64], call: u64) -> bool
 }
 
 // Copies as many of the bytes that are left as fit, and no more than a piece.
-pub(crate) fn copy_front(left: &[u8], piece: usize, buf: &mut [u8]) -> usize
+pub(crate) fn copy_prefix(left: &[u8], piece: usize, buf: &mut [u8]) -> usize
     ensures count { result ≡ min (length left.now) (min piece (length buf.new)) }
     ensures copied { take result buf.new ≡ take result left.now }
 {
@@ -84,7 +84,7 @@ impl Input for MemInput {
             self.faults = self.faults.saturating_add(1);
             return Err(Failed);
         }
-        let n = copy_front(&self.bytes[self.at..], self.piece, buf);
+        let n = copy_prefix(&self.bytes[self.at..], self.piece, buf);
         self.at += n;
         Ok(n)
     }

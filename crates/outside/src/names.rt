@@ -100,7 +100,7 @@ impl Hash for NameBytes {
     }
 }
 
-/// The name of a font, with its area in front: the bytes that a font definition gives.
+/// The name of a font, with its area first: the bytes that a font definition gives.
 #[derive(Clone, Debug, Drop, PartialEq, Eq, PartialOrd, Ord, Hash)]
 pub struct FontName {
     name: NameBytes,

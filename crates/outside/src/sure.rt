@@ -3,7 +3,7 @@ ghost use Rattle.std.specs.Prelude.{◌≡◌, ◌≤◌, ◌<◌, ◌-◌, ◌�
 ghost use Rattle.std.specs.Io.KnownBytes.{ReadConsumes, WriteAppends};
 ghost use Rattle.outside.specs.Counts.{HasCause, next_count};
 
-use crate::memory::copy_front;
+use crate::memory::copy_prefix;
 use crate::{Failed, Input, Output};
 use std::alloc::{AllocError as NoMemory, Global};
 
@@ -41,7 +41,7 @@ impl Input for SureInput {
             n ≡ min (length (drop self.old.at self.old.bytes.items)) (length buf.new)) }
     {
         let room = buf.len();
-        let n = copy_front(&self.bytes[self.at..], room, buf);
+        let n = copy_prefix(&self.bytes[self.at..], room, buf);
         self.at += n;
         Ok(n)
     }
@@ -58,7 +58,7 @@ pub struct SureOutput {
 }
 
 impl SureOutput {
-    /// Takes room for so many bytes, so that no write wants memory.
+    /// Takes room for n bytes, so that no write wants memory.
     pub fn new(alloc: Global, room: usize) -> Result<SureOutput, NoMemory>
         ensures empty { IfOk result (λ s. s.bytes.items ≡ []) }
         ensures room { IfOk result (λ s. s.room ≡ room) }

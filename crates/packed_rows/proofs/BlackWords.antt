@@ -97,10 +97,10 @@ row_blackened stride from until y word old new some few whole long small span jo
     padded width r wide fit p = record {
       len = now ∙ sym before ∙ p.len;
       small = All-from_get_or (λ b. b < 256) (row_at stride new r) 0 (λ i h. part_small new (r * stride) stride i small (omega (arith, h, now)));
-      zero_behind = λ x behind inside.
+      zero_after = λ x beyond inside.
           dots x r (omega (arith, inside, now)) fit
-          ∙ ap (λ b. b && is_within y (y + 1) r || pixel (row_at stride old r) x) (after_span from until x (omega (arith, behind, wide)))
-          ∙ p.zero_behind x behind (omega (arith, inside, now, before));
+          ∙ ap (λ b. b && is_within y (y + 1) r || pixel (row_at stride old r) x) (after_span from until x (omega (arith, beyond, wide)))
+          ∙ p.zero_after x beyond (omega (arith, inside, now, before));
     }
       where
         now : length (row_at stride new r) ≡ stride

@@ -28,7 +28,7 @@ tally n f = count_by (λ p. p) (from_fn n f)
 tally_one : (n : ℕ) (f : ℕ → Bool) → tally (suc n) f ≡ tally n f + cond (f n) 1 0
 tally_one n f = sum_by_push (λ p. cond p 1 0) (from_fn n f) (f n)
 
--- values behind the last true one count nothing
+-- values after the last true one count nothing
 tally_past : (n k : ℕ) (f : ℕ → Bool) → ((i : ℕ) → n ≤ i → i < n + k → f i ≡ false) → tally (n + k) f ≡ tally n f
 tally_past n zero f h = let none : n + 0 ≡ n = omega arith in ap (λ m. tally m f) none
 tally_past n (suc k) f h =
@@ -37,7 +37,7 @@ tally_past n (suc k) f h =
     one_more : n + suc k ≡ suc (n + k)
     one_more = omega arith
 
--- the first m values, and those behind them
+-- the first m values, and those after them
 tally_split : (m n : ℕ) (f : ℕ → Bool) → tally (m + n) f ≡ tally m f + tally n (λ i. f (m + i))
 tally_split m zero f = let none : m + 0 ≡ m = omega arith in ap (λ k. tally k f) none ∙ omega arith
 tally_split m (suc n) f =
@@ -110,7 +110,7 @@ bytes_tally (b ∷ bytes) small =
         ap (λ k. eqb (bit_at (get_or (b ∷ bytes) k 0) (7 - (8 + i) % 8)) 1) byte ∙ ap (λ r. eqb (bit_at (get_or bytes (i / 8) 0) (7 - r)) 1) place
 
 row_count : (w : ℕ) (row : List ℕ) → IsWords w row → count_by (λ p. p) (pixels_of w row) ≡ sum_by ones row
-row_count w row words = sym (tally_past w (8 * length row - w) (pixel row) (λ i low high. words.zero_behind i low (omega (arith, high, wide)))) ∙ ap (λ n. tally n (pixel row)) whole ∙ bytes_tally row words.small
+row_count w row words = sym (tally_past w (8 * length row - w) (pixel row) (λ i low high. words.zero_after i low (omega (arith, high, wide)))) ∙ ap (λ n. tally n (pixel row)) whole ∙ bytes_tally row words.small
   where
     wide : w ≤ 8 * length row
     wide = omega (arith, words.len)

@@ -46,7 +46,7 @@ in_row o x word h =
     let place : 8 * o + x - 8 * o ≡ x = omega arith in
     ap₂ (λ a b. a && b) (inside (8 * o) (8 * o + 64) (8 * o + x) (omega arith) (omega (arith, h))) (ap (word_pixel word) place)
 
--- it sets nothing in the others, as it is white behind the row's bytes
+-- it sets nothing in the others, as it is white after the row's bytes
 in_other : (o q k x word : ℕ) → x < 8 * k → (q + k ≤ o) ⊎ (o + k ≤ q) → IsWhiteFrom (8 * k) word
     → (is_within (8 * o) (8 * o + 64) (8 * q + x) && word_pixel word (8 * q + x - 8 * o)) ≡ false
 in_other o q k x word h (inl apart) white =
@@ -122,10 +122,10 @@ joined_stored w h word first last s old read new e f narrow white small stored j
     padded y on_page fit = record {
       len = long;
       small = All-from_get_or (λ b. b < 256) (row_at (div_ceil w 8) new y) 0 (λ i g. part_small new (y * div_ceil w 8) (div_ceil w 8) i small (omega (arith, g, long)));
-      zero_behind = λ x behind g.
+      zero_after = λ x beyond g.
           same.dots x y (omega (arith, g, long)) fit
-          ∙ ap (λ b. b || pixel (row_at (div_ceil w 8) old y) x) (and_right (is_within first last y) (word_pixel word x) (white x behind (omega (arith, g, long, narrow))))
-          ∙ (stored.padded y on_page).zero_behind x behind (omega (arith, g, long, (stored.padded y on_page).len));
+          ∙ ap (λ b. b || pixel (row_at (div_ceil w 8) old y) x) (and_right (is_within first last y) (word_pixel word x) (white x beyond (omega (arith, g, long, narrow))))
+          ∙ (stored.padded y on_page).zero_after x beyond (omega (arith, g, long, (stored.padded y on_page).len));
     }
       where
         long : length (row_at (div_ceil w 8) new y) ≡ div_ceil w 8

@@ -31,7 +31,7 @@ white_stored w h n narrow low e = record {
     white = record {
       len = length-replicate (8 * div_ceil w 64) 0;
       small = All-replicate (λ b. b < 256) (8 * div_ceil w 64) 0 (omega arith);
-      zero_behind = λ x _ _. white_dot (8 * div_ceil w 64) x;
+      zero_after = λ x _ _. white_dot (8 * div_ceil w 64) x;
     }
 
 pub white_is_white : (w h n : ℕ) → n ≡ h * (8 * div_ceil w 64) + 8 → padded_bitmap_of w h (zeros n) ≡ white_bitmap w h
@@ -44,17 +44,17 @@ pub row_dots : (w h y : ℕ) (bytes : List ℕ) → y < h → pixels_of w (row_a
 row_dots w h y bytes on_page = sym (get_or-from_fn h (λ r. pixels_of w (row_at (8 * div_ceil w 64) bytes r)) y [] on_page)
 
 -- the first bytes of a row's words hold its pixels
-front_dots : (w k at : ℕ) (bytes : List ℕ) → div_ceil w 8 ≤ k → pixels_of w (take (div_ceil w 8) (drop at bytes)) ≡ pixels_of w (take k (drop at bytes))
-front_dots w k at bytes fit = from_fn_same w (pixel (take (div_ceil w 8) (drop at bytes))) (pixel (take k (drop at bytes)))
+prefix_dots : (w k at : ℕ) (bytes : List ℕ) → div_ceil w 8 ≤ k → pixels_of w (take (div_ceil w 8) (drop at bytes)) ≡ pixels_of w (take k (drop at bytes))
+prefix_dots w k at bytes fit = from_fn_same w (pixel (take (div_ceil w 8) (drop at bytes))) (pixel (take k (drop at bytes)))
     (λ x h. of_part bytes at (div_ceil w 8) x (omega (arith, h)) ∙ sym (of_part bytes at k x (omega (arith, h, fit))))
 
-front_padded : (w at : ℕ) (bytes : List ℕ) → at + 8 * div_ceil w 64 ≤ length bytes → IsWords w (take (8 * div_ceil w 64) (drop at bytes)) → IsPadded w (take (div_ceil w 8) (drop at bytes))
-front_padded w at bytes fit words = record {
+prefix_padded : (w at : ℕ) (bytes : List ℕ) → at + 8 * div_ceil w 64 ≤ length bytes → IsWords w (take (8 * div_ceil w 64) (drop at bytes)) → IsPadded w (take (div_ceil w 8) (drop at bytes))
+prefix_padded w at bytes fit words = record {
   len = whole;
   small = All-from_get_or (λ b. b < 256) (take (div_ceil w 8) (drop at bytes)) 0 small;
-  zero_behind = λ x behind inside.
+  zero_after = λ x after inside.
       of_part bytes at (div_ceil w 8) x (omega (arith, inside, whole)) ∙ sym (of_part bytes at (8 * div_ceil w 64) x (omega (arith, inside, whole)))
-      ∙ words.zero_behind x behind (omega (arith, inside, whole, words.len));
+      ∙ words.zero_after x after (omega (arith, inside, whole, words.len));
 }
   where
     whole : length (take (div_ceil w 8) (drop at bytes)) ≡ div_ceil w 8
@@ -76,12 +76,12 @@ front_padded w at bytes fit words = record {
 pub row_padded : (w h y s n : ℕ) (bytes read : List ℕ) → IsStoredPadded w h bytes → y < h → s ≡ 8 * div_ceil w 64 → n ≡ div_ceil w 8 → read ≡ bytes
     → IsPadded w (take (y * s + n - y * s) (drop (y * s) read))
 row_padded w h y s n bytes read stored on_page is_s is_n is_read =
-    subst (λ (l : List ℕ). IsPadded w l) (sym (front_read w y s n bytes read is_s is_n is_read))
-    (front_padded w (y * (8 * div_ceil w 64)) bytes (omega (arith, stored.len, row_fits (8 * div_ceil w 64) h y on_page)) (stored.padded y on_page))
+    subst (λ (l : List ℕ). IsPadded w l) (sym (prefix_read w y s n bytes read is_s is_n is_read))
+    (prefix_padded w (y * (8 * div_ceil w 64)) bytes (omega (arith, stored.len, row_fits (8 * div_ceil w 64) h y on_page)) (stored.padded y on_page))
   where
-    front_read : (w y s n : ℕ) (bytes read : List ℕ) → s ≡ 8 * div_ceil w 64 → n ≡ div_ceil w 8 → read ≡ bytes
+    prefix_read : (w y s n : ℕ) (bytes read : List ℕ) → s ≡ 8 * div_ceil w 64 → n ≡ div_ceil w 8 → read ≡ bytes
         → take (y * s + n - y * s) (drop (y * s) read) ≡ take (div_ceil w 8) (drop (y * (8 * div_ceil w 64)) bytes)
-    front_read w y s n bytes read e f g = ap (λ k. take k (drop (y * s) read)) (whole ∙ f) ∙ ap (λ l. take (div_ceil w 8) (drop (y * s) l)) g ∙ ap (λ k. take (div_ceil w 8) (drop (y * k) bytes)) e
+    prefix_read w y s n bytes read e f g = ap (λ k. take k (drop (y * s) read)) (whole ∙ f) ∙ ap (λ l. take (div_ceil w 8) (drop (y * s) l)) g ∙ ap (λ k. take (div_ceil w 8) (drop (y * k) bytes)) e
       where
         whole : y * s + n - y * s ≡ n
         whole = omega arith
@@ -91,7 +91,7 @@ pub row_pixels : (w h y s n : ℕ) (bytes read : List ℕ) → y < h → s ≡ 8
 row_pixels w h y s n bytes read on_page is_s is_n is_read =
     ap (λ k. pixels_of w (take k (drop (y * s) read))) (whole ∙ is_n) ∙ ap (λ l. pixels_of w (take (div_ceil w 8) (drop (y * s) l))) is_read
     ∙ ap (λ k. pixels_of w (take (div_ceil w 8) (drop (y * k) bytes))) is_s
-    ∙ front_dots w (8 * div_ceil w 64) (y * (8 * div_ceil w 64)) bytes (omega arith) ∙ row_dots w h y bytes on_page
+    ∙ prefix_dots w (8 * div_ceil w 64) (y * (8 * div_ceil w 64)) bytes (omega arith) ∙ row_dots w h y bytes on_page
   where
     whole : y * s + n - y * s ≡ n
     whole = omega arith
@@ -108,10 +108,10 @@ words_read w y s bytes read is_s is_read = ap (λ k. take k (drop (y * s) read))
 pub words_text : (w h y : ℕ) (bytes : List ℕ) → IsStoredPadded w h bytes → y < h → take (div_ceil w 8) (row_at (8 * div_ceil w 64) bytes y) ≡ row_text (slice_index_or (padded_bitmap_of w h bytes).rows y [])
 words_text w h y bytes stored on_page =
     shorter ∙ sym (packing_gives_back w (take (div_ceil w 8) (drop (y * (8 * div_ceil w 64)) bytes)) padded)
-    ∙ ap row_text (front_dots w (8 * div_ceil w 64) (y * (8 * div_ceil w 64)) bytes (omega arith) ∙ row_dots w h y bytes on_page)
+    ∙ ap row_text (prefix_dots w (8 * div_ceil w 64) (y * (8 * div_ceil w 64)) bytes (omega arith) ∙ row_dots w h y bytes on_page)
   where
     padded : IsPadded w (take (div_ceil w 8) (drop (y * (8 * div_ceil w 64)) bytes))
-    padded = front_padded w (y * (8 * div_ceil w 64)) bytes (omega (arith, stored.len, row_fits (8 * div_ceil w 64) h y on_page)) (stored.padded y on_page)
+    padded = prefix_padded w (y * (8 * div_ceil w 64)) bytes (omega (arith, stored.len, row_fits (8 * div_ceil w 64) h y on_page)) (stored.padded y on_page)
 
     fit : div_ceil w 8 ≤ 8 * div_ceil w 64
     fit = omega arith
@@ -120,7 +120,7 @@ words_text w h y bytes stored on_page =
     shorter = take-take (div_ceil w 8) (8 * div_ceil w 64) (drop (y * (8 * div_ceil w 64)) bytes) fit
 
 pub words_zero : (w i : ℕ) (row : List ℕ) → IsWords w row → div_ceil w 8 ≤ i → get_or row i 0 ≡ 0
-words_zero w i row words behind = by (cases_lt i (length row))
+words_zero w i row words after = by (cases_lt i (length row))
   where
     by : (i < length row) ⊎ (length row ≤ i) → get_or row i 0 ≡ 0
     by (inl inside) = no_bits (get_or row i 0) (words.small i 0 inside) each
@@ -130,7 +130,7 @@ words_zero w i row words behind = by (cases_lt i (length row))
             let byte : (8 * i + k) / 8 ≡ i = omega (arith, below) in
             let place : (8 * i + k) % 8 ≡ k = omega (arith, below) in
             sym (ap (λ j. eqb (bit_at (get_or row j 0) (7 - (8 * i + k) % 8)) 1) byte ∙ ap (λ r. eqb (bit_at (get_or row i 0) (7 - r)) 1) place)
-            ∙ words.zero_behind (8 * i + k) (omega (arith, behind)) (omega (arith, inside, below))
+            ∙ words.zero_after (8 * i + k) (omega (arith, after)) (omega (arith, inside, below))
     by (inr past) = get_or_past row i 0 past
 
 -- ---- all rows
@@ -151,7 +151,7 @@ first_rows w h bytes stored same (suc n) low =
     padded = record {
       len = (stored.padded n (omega (arith, low))).len ∙ sym same;
       small = (stored.padded n (omega (arith, low))).small;
-      zero_behind = (stored.padded n (omega (arith, low))).zero_behind;
+      zero_after = (stored.padded n (omega (arith, low))).zero_after;
     }
 
     one_more : n * (8 * div_ceil w 64) + 8 * div_ceil w 64 ≡ suc n * (8 * div_ceil w 64)
@@ -171,13 +171,14 @@ blackened_dots w h cf cu rf ru old new stored dots = ap (made w h) (same_dots w 
         dots x y (omega (arith, in_row)) (omega (arith, stored.len, row_fits (8 * div_ceil w 64) h y on_page))
         ∙ ap (λ b. is_within cf cu x && is_within rf ru y || b) (dot_in_row (padded_bitmap_of w h old) w x y (row_at (8 * div_ceil w 64) old y) (row_dots w h y old on_page) in_row)
 
--- the bitmap after some pixels were blackened; the code reads the bytes as `read`, and s is the size of a row
+-- the bitmap after some pixels were blackened; the code reads the bytes as `read`, and s is the
+-- size of a row
 pub blackened : (w h cf cu rf ru s : ℕ) (old read new : List ℕ) → s ≡ 8 * div_ceil w 64 → read ≡ old → IsStoredPadded w h old → AreDots cf cu rf ru new s read
     → padded_bitmap_of w h new ≡ with_black (padded_bitmap_of w h old) cf cu rf ru
 blackened w h cf cu rf ru s old read new e f stored dots =
     blackened_dots w h cf cu rf ru old new stored (subst (λ (l : List ℕ). AreDots cf cu rf ru new (8 * div_ceil w 64) l) f (subst (λ (k : ℕ). AreDots cf cu rf ru new k read) e dots))
 
--- pixels that are not set behind the width stay white there
+-- pixels that are not set after the width stay white there
 pub set_words : (w h : ℕ) (f : ℕ → ℕ → Bool) (old new : List ℕ) → IsStoredPadded w h old → length new ≡ length old → ((j : ℕ) → get_or new j 0 < 256) → ((x y : ℕ) → w ≤ x → f x y ≡ false)
     → ((x y : ℕ) → x < 8 * (8 * div_ceil w 64) → y * (8 * div_ceil w 64) + 8 * div_ceil w 64 ≤ length old
     → pixel (row_at (8 * div_ceil w 64) new y) x ≡ (f x y || pixel (row_at (8 * div_ceil w 64) old y) x))
@@ -193,9 +194,9 @@ set_words w h f old new stored long small none dots = record {
     words y on_page = record {
       len = now;
       small = All-from_get_or (λ b. b < 256) (row_at (8 * div_ceil w 64) new y) 0 (λ i h. part_small new (y * (8 * div_ceil w 64)) (8 * div_ceil w 64) i small (omega (arith, h, now)));
-      zero_behind = λ x behind inside.
-          dots x y (omega (arith, inside, now)) fit ∙ ap (λ b. b || pixel (row_at (8 * div_ceil w 64) old y) x) (none x y behind)
-          ∙ (stored.padded y on_page).zero_behind x behind (omega (arith, inside, now, (stored.padded y on_page).len));
+      zero_after = λ x after inside.
+          dots x y (omega (arith, inside, now)) fit ∙ ap (λ b. b || pixel (row_at (8 * div_ceil w 64) old y) x) (none x y after)
+          ∙ (stored.padded y on_page).zero_after x after (omega (arith, inside, now, (stored.padded y on_page).len));
     }
       where
         fit : y * (8 * div_ceil w 64) + 8 * div_ceil w 64 ≤ length old
@@ -208,5 +209,5 @@ pub blackened_stored : (w h cf cu rf ru s : ℕ) (old read new : List ℕ) → s
     → AreDots cf cu rf ru new s read → IsStoredPadded w h new
 blackened_stored w h cf cu rf ru s old read new e f inside stored long small dots =
     set_words w h (λ x y. is_within cf cu x && is_within rf ru y) old new stored (long ∙ ap length f) small
-    (λ x y behind. ap (λ b. b && is_within rf ru y) (after_span cf cu x (omega (arith, behind, inside))))
+    (λ x y after. ap (λ b. b && is_within rf ru y) (after_span cf cu x (omega (arith, after, inside))))
     (subst (λ (l : List ℕ). AreDots cf cu rf ru new (8 * div_ceil w 64) l) f (subst (λ (k : ℕ). AreDots cf cu rf ru new k read) e dots))

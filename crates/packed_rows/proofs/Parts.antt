@@ -5,7 +5,7 @@ use Rattle.std.proofs.lemmas.List.{places, get_or_past}
 use Rattle.std.proofs.lemmas.Nat.Bits.{bit_at-zero}
 use Rattle.packed_rows.specs.Packing.{pixel}
 
--- what lies behind a row's bytes is white
+-- what lies after a row's bytes is white
 pub pixel_past : (row : List ℕ) (x : ℕ) → 8 * length row ≤ x → pixel row x ≡ false
 pixel_past row x h = ap (λ n. eqb (bit_at n (7 - x % 8)) 1) (get_or_past row (x / 8) 0 (omega (arith, h))) ∙ ap (λ n. eqb n 1) (bit_at-zero (7 - x % 8))
 

@@ -32,16 +32,16 @@ part_set upper at turn begin lo hi n to start skipped mask x turned is_begin ord
         by_place (inr from) =
             and_right (is_within (8 * to) (8 * to + 64) x) (word_pixel mask (x - 8 * to) && pixel upper (8 * at + (x - 8 * to + (64 - turn)) % 64))
             (ap (λ b. b && pixel upper (8 * at + (x - 8 * to + (64 - turn)) % 64)) (masked (x - 8 * to) inside ∙ none from))
-    off_mask (inr behind) none = ap (λ b. b && (word_pixel mask (x - 8 * to) && pixel upper (8 * at + (x - 8 * to + (64 - turn)) % 64))) (after_span (8 * to) (8 * to + 64) x (omega (arith, behind)))
+    off_mask (inr after) none = ap (λ b. b && (word_pixel mask (x - 8 * to) && pixel upper (8 * at + (x - 8 * to + (64 - turn)) % 64))) (after_span (8 * to) (8 * to + 64) x (omega (arith, after)))
 
     by : (x + skipped < start + lo) ⊎ (start + lo ≤ x + skipped) → (x + skipped < start + hi) ⊎ (start + hi ≤ x + skipped)
         → strip_over upper at turn mask to x ≡ part_over upper at start skipped lo hi x
     by (inl before) other =
         off_mask (cases_lt (x - 8 * to) 64) (λ from. before_span begin (begin + n) (x - 8 * to) (omega (arith, before, place, from)))
         ∙ sym (ap (λ b. b && pixel upper (8 * at + (x + skipped - start))) (before_span (start + lo) (start + hi) (x + skipped) before))
-    by (inr from) (inr behind) =
-        off_mask (cases_lt (x - 8 * to) 64) (λ low. after_span begin (begin + n) (x - 8 * to) (omega (arith, behind, place, low, ordered)))
-        ∙ sym (ap (λ b. b && pixel upper (8 * at + (x + skipped - start))) (after_span (start + lo) (start + hi) (x + skipped) behind))
+    by (inr from) (inr after) =
+        off_mask (cases_lt (x - 8 * to) 64) (λ low. after_span begin (begin + n) (x - 8 * to) (omega (arith, after, place, low, ordered)))
+        ∙ sym (ap (λ b. b && pixel upper (8 * at + (x + skipped - start))) (after_span (start + lo) (start + hi) (x + skipped) after))
     by (inr from) (inl until) =
         let same : 8 * at + (x - 8 * to + (64 - turn)) % 64 ≡ 8 * at + (x + skipped - start) = omega (arith, from, until, place, is_begin, word, turned) in
         ap₂ (λ a b. a && b) (in_span (8 * to) (8 * to + 64) x (omega (arith, from, place)) (omega (arith, until, place, one, ordered)))
@@ -91,7 +91,7 @@ part_moved upper at start skipped first moved words n x e = by (cases_lt (x + wo
         let place : 8 * (at + first) + (x + words - moved) ≡ 8 * at + (x + skipped - start) = omega (arith, e, from) in
         ap₂ (λ a b. a && b) alike (ap (pixel upper) place)
 
--- a piece more: n pixels from byte 8 p on, set behind those of the pieces before it
+-- a piece more: n pixels from byte 8 p on, set after those of the pieces before it
 pub piece_added : (upper : List ℕ) (at start skipped words moved p n kept x : ℕ) → p < div_ceil kept 64 → n ≡ min (kept - 64 * p) 64 → moved + skipped ≡ start + 64 * p + 64 * words
     → (part_over upper (at + 8 * p) moved (64 * words) 0 n x || part_over upper at start skipped 0 (min (64 * p) kept) x) ≡ part_over upper at start skipped 0 (min (64 * (p + 1)) kept) x
 piece_added upper at start skipped words moved p n kept x more is_n e =
@@ -123,9 +123,9 @@ part_is_row upper y stride start skipped kept width x is_kept = by (cases_lt (x 
     by (inl before) p q =
         ap (λ b. b && pixel upper (8 * (y * stride) + (x + skipped - start))) (before_span (start + 0) (start + kept) (x + skipped) (omega (arith, before)))
         ∙ sym (and_right (ltb x width) (pixel_over (row_at stride upper y) start skipped x) (ap (λ b. b && pixel (row_at stride upper y) (x + skipped - start)) (lt-leb start (x + skipped) before)))
-    by (inr from) (inr behind) q =
-        ap (λ b. b && pixel upper (8 * (y * stride) + (x + skipped - start))) (after_span (start + 0) (start + kept) (x + skipped) (omega (arith, behind, is_kept, from)))
-        ∙ sym (ap (λ b. b && pixel_over (row_at stride upper y) start skipped x) (le-ltb x width behind))
+    by (inr from) (inr after) q =
+        ap (λ b. b && pixel upper (8 * (y * stride) + (x + skipped - start))) (after_span (start + 0) (start + kept) (x + skipped) (omega (arith, after, is_kept, from)))
+        ∙ sym (ap (λ b. b && pixel_over (row_at stride upper y) start skipped x) (le-ltb x width after))
     by (inr from) (inl inside) (inr past) =
         ap (λ b. b && pixel upper (8 * (y * stride) + (x + skipped - start))) (after_span (start + 0) (start + kept) (x + skipped) (omega (arith, past, is_kept, from)))
         ∙ sym (and_right (ltb x width) (pixel_over (row_at stride upper y) start skipped x)

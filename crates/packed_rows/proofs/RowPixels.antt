@@ -44,8 +44,8 @@ in_between f u x h g = grind (arith, nat_tests)
 before_run : (f u x : ℕ) → x / 8 < f / 8 → (leb f x && ltb x u) ≡ false
 before_run f u x h = grind (arith, nat_tests)
 
-behind_run : (f u x : ℕ) → f < u → (u - 1) / 8 < x / 8 → (leb f x && ltb x u) ≡ false
-behind_run f u x h g = grind (arith, nat_tests)
+after_run : (f u x : ℕ) → f < u → (u - 1) / 8 < x / 8 → (leb f x && ltb x u) ≡ false
+after_run f u x h g = grind (arith, nat_tests)
 
 -- a run inside one byte
 pub one_byte : (row : List ℕ) (f u x : ℕ) → f < u → f / 8 ≡ (u - 1) / 8 → u ≤ 8 * length row
@@ -54,7 +54,7 @@ one_byte row f u x h e inside = by (cases_lt (x / 8) (f / 8)) (cases_lt (f / 8) 
   where
     by : (x / 8 < f / 8) ⊎ (f / 8 ≤ x / 8) → (f / 8 < x / 8) ⊎ (x / 8 ≤ f / 8) → pixel (set row (f / 8) (bit_or (get_or row (f / 8) 0) (bit_and (255 / 2 ^ (f % 8)) (255 * 2 ^ (7 - (u - 1) % 8) % 256)))) x ≡ ((leb f x && ltb x u) || pixel row x)
     by (inl before) other = set_elsewhere row (f / 8) _ x (omega (arith, before)) ∙ sym (ap (λ b. b || pixel row x) (before_run f u x before))
-    by (inr one) (inl behind) = set_elsewhere row (f / 8) _ x (omega (arith, behind)) ∙ sym (ap (λ b. b || pixel row x) (behind_run f u x h (omega (arith, behind, e))))
+    by (inr one) (inl beyond) = set_elsewhere row (f / 8) _ x (omega (arith, beyond)) ∙ sym (ap (λ b. b || pixel row x) (after_run f u x h (omega (arith, beyond, e))))
     by (inr one) (inr two) =
         let here : x / 8 ≡ f / 8 = omega (arith, one, two) in
         set_here row (f / 8) _ x (omega (arith, h, inside, e)) here
@@ -118,9 +118,9 @@ several_bytes row one two three filled f u x h e inside is_one is_filled is_two 
         set_elsewhere two ((u - 1) / 8) _ x (omega (arith, below)) ∙ ap (λ l. pixel l x) two_is
         ∙ filled_inside one (f / 8 + 1) ((u - 1) / 8 - (f / 8 + 1)) x (omega (arith, long, inside, h, e)) (omega (arith, after)) (omega (arith, below, after))
         ∙ sym (ap (λ b. b || pixel row x) (in_between f u x after below))
-    by (inr from) (inl after) (inr above) (inl behind) =
-        set_elsewhere two ((u - 1) / 8) _ x (omega (arith, behind)) ∙ outside (inr above) ∙ untouched (omega (arith, after))
-        ∙ sym (ap (λ b. b || pixel row x) (behind_run f u x h behind))
+    by (inr from) (inl after) (inr above) (inl beyond) =
+        set_elsewhere two ((u - 1) / 8) _ x (omega (arith, beyond)) ∙ outside (inr above) ∙ untouched (omega (arith, after))
+        ∙ sym (ap (λ b. b || pixel row x) (after_run f u x h beyond))
     by (inr from) (inl after) (inr above) (inr here) =
         let last : x / 8 ≡ (u - 1) / 8 = omega (arith, above, here) in
         set_here two ((u - 1) / 8) _ x (omega (arith, two_long, inside, h)) last
@@ -132,11 +132,11 @@ several_bytes row one two three filled f u x h e inside is_one is_filled is_two 
         ∙ ap (λ l. pixel l x) is_one ∙ set_here row (f / 8) _ x (omega (arith, inside, h, e)) first
         ∙ ap (λ b. b || pixel row x) (head_bit (f % 8) (x % 8) (omega arith) (omega arith) ∙ in_first_byte f u x h e first)
 
--- a run inside the row leaves the bits behind it zero
+-- a run inside the row leaves the bits after it zero
 pub still_padded : (width f u : ℕ) (old new : List ℕ) → u ≤ width → length new ≡ length old → ((i : ℕ) → get_or new i 0 < 256)
     → ((x : ℕ) → x < 8 * length old → pixel new x ≡ ((leb f x && ltb x u) || pixel old x)) → IsPadded width old → IsPadded width new
 still_padded width f u old new fit long small pixels padded = record {
   len = long ∙ padded.len;
   small = All-from_get_or (λ b. b < 256) new 0 (λ i _. small i);
-  zero_behind = λ x behind inside. pixels x (omega (arith, inside, long)) ∙ ap (λ b. b || pixel old x) (and_right (leb f x) (ltb x u) (le-ltb x u (omega (arith, behind, fit)))) ∙ padded.zero_behind x behind (omega (arith, inside, long));
+  zero_after = λ x beyond inside. pixels x (omega (arith, inside, long)) ∙ ap (λ b. b || pixel old x) (and_right (leb f x) (ltb x u) (le-ltb x u (omega (arith, beyond, fit)))) ∙ padded.zero_after x beyond (omega (arith, inside, long));
 }

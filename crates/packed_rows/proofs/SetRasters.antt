@@ -39,17 +39,17 @@ white_above raster (pos x) (negsuc y) h = refl
 white_above raster (negsuc x) (pos y) h = refl
 white_above raster (negsuc x) (negsuc y) h = refl
 
--- a pixel of a stored row, also behind its last
+-- a pixel of a stored row, also after its last
 pub source_dot : (w h x y : ℕ) (bytes : List ℕ) → IsStored w h bytes → y < h → pixel (row_at (div_ceil w 8) bytes y) x ≡ is_black (bitmap_of w h bytes) x y
 source_dot w h x y bytes stored on_page = by (cases_lt x w) (cases_lt x (8 * length (row_at (div_ceil w 8) bytes y)))
   where
     past : w ≤ x → false ≡ is_black (bitmap_of w h bytes) x y
-    past behind = sym (ap (λ row. get_or row x false) (get_or-from_fn h (λ r. pixels_of w (row_at (div_ceil w 8) bytes r)) y [] on_page) ∙ from_fn_past w (pixel (row_at (div_ceil w 8) bytes y)) x false behind)
+    past after = sym (ap (λ row. get_or row x false) (get_or-from_fn h (λ r. pixels_of w (row_at (div_ceil w 8) bytes r)) y [] on_page) ∙ from_fn_past w (pixel (row_at (div_ceil w 8) bytes y)) x false after)
 
     by : (x < w) ⊎ (w ≤ x) → (x < 8 * length (row_at (div_ceil w 8) bytes y)) ⊎ (8 * length (row_at (div_ceil w 8) bytes y) ≤ x) → pixel (row_at (div_ceil w 8) bytes y) x ≡ is_black (bitmap_of w h bytes) x y
     by (inl in_row) other = dot_in_row (bitmap_of w h bytes) w x y (row_at (div_ceil w 8) bytes y) (bitmaps.row_dots w h y bytes on_page) in_row
-    by (inr behind) (inl inside) = (stored.padded y on_page).zero_behind x behind inside ∙ past behind
-    by (inr behind) (inr outside) = pixel_past (row_at (div_ceil w 8) bytes y) x outside ∙ past behind
+    by (inr after) (inl inside) = (stored.padded y on_page).zero_after x after inside ∙ past after
+    by (inr after) (inr outside) = pixel_past (row_at (div_ceil w 8) bytes y) x outside ∙ past after
 
 white_below : (w h x y : ℕ) (bytes : List ℕ) → h ≤ y → is_black (bitmap_of w h bytes) x y ≡ false
 white_below w h x y bytes below = ap (λ row. get_or row x false) (from_fn_past h (λ r. pixels_of w (row_at (div_ceil w 8) bytes r)) y [] below)
@@ -99,7 +99,8 @@ set_dots w h sw sh a s b t from until old new source stored upper is_from is_unt
         ∙ ap (λ c. is_within from until y && (c && pixel_over (row_at (div_ceil sw 8) source (y + t - b)) a s x) || pixel (row_at (8 * div_ceil w 64) old y) x) (lt-ltb x w in_row)
         ∙ ap₂ (λ c d. c || d) (covered h sw sh a s b t from until x y source upper on_page is_from is_until) (dot_in_row (padded_bitmap_of w h old) w x y (row_at (8 * div_ceil w 64) old y) (row_dots w h y old on_page) in_row)
 
--- the bitmap after a raster was set; the code reads the bytes as `read`, and k is the size of the raster's rows
+-- the bitmap after a raster was set; the code reads the bytes as `read`, and k is the size of the
+-- raster's rows
 pub raster_set : (w h sw sh a s b t from until k : ℕ) (left top : ℤ) (old read new source : List ℕ) → k ≡ div_ceil sw 8 → read ≡ old
     → IsStoredPadded w h old → IsStored sw sh source → (pos a -ℤ pos s) ≡ left → (pos b -ℤ pos t) ≡ top → from ≡ min (b - t) h → until ≡ max from (min (b + sh - t) h)
     → AreSet w from until a s b t new k source read → padded_bitmap_of w h new ≡ with_raster (padded_bitmap_of w h old) (bitmap_of sw sh source) left top
@@ -108,12 +109,12 @@ raster_set w h sw sh a s b t from until k left top old read new source e f store
     (subst (λ (l : List ℕ). AreSet w from until a s b t new (div_ceil sw 8) source l) f (subst (λ (n : ℕ). AreSet w from until a s b t new n source read) e dots))
     ∙ ap₂ (with_raster (padded_bitmap_of w h old) (bitmap_of sw sh source)) is_left is_top
 
--- nothing is set behind the width
+-- nothing is set after the width
 pub set_stored : (w h a s b t from until k : ℕ) (old read new source : List ℕ) → read ≡ old → IsStoredPadded w h old → length new ≡ length read → ((j : ℕ) → get_or new j 0 < 256)
     → AreSet w from until a s b t new k source read → IsStoredPadded w h new
 set_stored w h a s b t from until k old read new source f stored long small dots =
     set_words w h (λ x y. is_within from until y && (ltb x w && pixel_over (row_at k source (y + t - b)) a s x)) old new stored (long ∙ ap length f) small
-    (λ x y behind. and_right (is_within from until y) (ltb x w && pixel_over (row_at k source (y + t - b)) a s x) (ap (λ c. c && pixel_over (row_at k source (y + t - b)) a s x) (le-ltb x w behind)))
+    (λ x y after. and_right (is_within from until y) (ltb x w && pixel_over (row_at k source (y + t - b)) a s x) (ap (λ c. c && pixel_over (row_at k source (y + t - b)) a s x) (le-ltb x w after)))
     (λ x y inside fit. now x y (omega (arith, inside)) fit)
   where
     now : AreSet w from until a s b t new k source old

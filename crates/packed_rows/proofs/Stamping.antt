@@ -9,7 +9,7 @@ use Rattle.packed_rows.specs.Changes.{is_within}
 use Rattle.packed_rows.proofs.Blackened.{elsewhere, ordered}
 use Rattle.packed_rows.proofs.StoredRows.{row_at-put_same, row_at-put_other, row_at-length}
 
--- what the pixels of a row of so many bytes become under one that has the pixels f
+-- what the pixels of a row of n bytes become under one that has the pixels f
 abbrev pub AreUnder : ℕ → (ℕ → Bool) → List ℕ → List ℕ → Type 0
 AreUnder stride f old new = (x : ℕ) → x < 8 * stride → pixel new x ≡ (f x || pixel old x)
 
@@ -82,7 +82,7 @@ stamped_more stride first y k f old mid new e low fit long under before =
     row : take k (drop (y * stride) mid) ≡ row_at stride mid y
     row = ap (λ n. take n (drop (y * stride) mid)) e
 
--- rows set behind those that were set before
+-- rows set after those that were set before
 pub stamped_on : (stride first y last : ℕ) (f : ℕ → ℕ → Bool) (old mid new : List ℕ) → first ≤ y → y ≤ last
     → IsStamped stride y last f mid new → IsStamped stride first y f old mid → IsStamped stride first last f old new
 stamped_on stride first y last f old mid new low high after before = record {

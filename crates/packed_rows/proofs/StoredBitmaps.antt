@@ -59,7 +59,7 @@ white_stored w h n narrow low e = record {
     white = record {
       len = length-replicate (div_ceil w 8) 0;
       small = All-replicate (λ b. b < 256) (div_ceil w 8) 0 (omega arith);
-      zero_behind = λ x _ _. white_dot (div_ceil w 8) x;
+      zero_after = λ x _ _. white_dot (div_ceil w 8) x;
     }
 
 pub white_is_white : (w h n : ℕ) → n ≡ h * div_ceil w 8 + 8 → bitmap_of w h (zeros n) ≡ white_bitmap w h
@@ -120,7 +120,8 @@ blackened_dots w h cf cu rf ru old new stored dots = ap (made w h) (same_dots w 
         dots x y (omega (arith, in_row)) (omega (arith, stored.len, row_fits (div_ceil w 8) h y on_page))
         ∙ ap (λ b. is_within cf cu x && is_within rf ru y || b) (dot_in_row (bitmap_of w h old) w x y (row_at (div_ceil w 8) old y) (row_dots w h y old on_page) in_row)
 
--- the bitmap after some pixels were blackened; the code reads the bytes as `read`, and s is the size of a row
+-- the bitmap after some pixels were blackened; the code reads the bytes as `read`, and s is the
+-- size of a row
 pub blackened : (w h cf cu rf ru s : ℕ) (old read new : List ℕ) → s ≡ div_ceil w 8 → read ≡ old → IsStored w h old → AreDots cf cu rf ru new s read
     → bitmap_of w h new ≡ with_black (bitmap_of w h old) cf cu rf ru
 blackened w h cf cu rf ru s old read new e f stored dots =

@@ -54,7 +54,7 @@ same_byte width bytes i padded h = bits_of_value 8 (get_or bytes i 0) (drop (8 *
 
     inside : (k : ℕ) → k < 8 → (8 * i + k < width) ⊎ (width ≤ 8 * i + k) → get_or (pixels_of width bytes) (8 * i + k) false ≡ pixel bytes (8 * i + k)
     inside k below (inl in_row) = get_or-from_fn width (pixel bytes) (8 * i + k) false in_row
-    inside k below (inr behind) = from_fn_past width (pixel bytes) (8 * i + k) false behind ∙ sym (padded.zero_behind (8 * i + k) behind (omega (arith, below, h)))
+    inside k below (inr after) = from_fn_past width (pixel bytes) (8 * i + k) false after ∙ sym (padded.zero_after (8 * i + k) after (omega (arith, below, h)))
 
     each : (k : ℕ) → k < 8 → get_or (drop (8 * i) (pixels_of width bytes)) k false ≡ eqb (bit_at (get_or bytes i 0) (8 - 1 - k)) 1
     each k below =

@@ -62,8 +62,8 @@ word_turned n r s j small h is g =
 outside_before : (to x : ℕ) → x < 8 * to → is_within (8 * to) (8 * to + 64) x ≡ false
 outside_before to x h = grind (arith, nat_tests)
 
-outside_behind : (to x : ℕ) → 8 * to + 64 ≤ x → is_within (8 * to) (8 * to + 64) x ≡ false
-outside_behind to x h = grind (arith, nat_tests)
+outside_after : (to x : ℕ) → 8 * to + 64 ≤ x → is_within (8 * to) (8 * to + 64) x ≡ false
+outside_after to x h = grind (arith, nat_tests)
 
 both_turned : (a b : Bool) → (a && b) ≡ (b && a)
 both_turned true true = refl
@@ -82,9 +82,9 @@ strip_set upper word other at turn mask to x read turned = by (cases_lt x (8 * t
     by (inl before) h =
         ap (λ b. b && word_pixel (bit_and other mask) (x - 8 * to)) (outside_before to x before)
         ∙ sym (ap (λ b. b && (word_pixel mask (x - 8 * to) && pixel upper (8 * at + (x - 8 * to + (64 - turn)) % 64))) (outside_before to x before))
-    by (inr from) (inr behind) =
-        ap (λ b. b && word_pixel (bit_and other mask) (x - 8 * to)) (outside_behind to x behind)
-        ∙ sym (ap (λ b. b && (word_pixel mask (x - 8 * to) && pixel upper (8 * at + (x - 8 * to + (64 - turn)) % 64))) (outside_behind to x behind))
+    by (inr from) (inr after) =
+        ap (λ b. b && word_pixel (bit_and other mask) (x - 8 * to)) (outside_after to x after)
+        ∙ sym (ap (λ b. b && (word_pixel mask (x - 8 * to) && pixel upper (8 * at + (x - 8 * to + (64 - turn)) % 64))) (outside_after to x after))
     by (inr from) (inl until) =
         ap (λ b. is_within (8 * to) (8 * to + 64) x && b)
         (bit_of_and other mask (63 - (x - 8 * to))

@@ -10,7 +10,8 @@ pub record Bitmap : Type 0 where
 -- a raster has as many rows as it is high, each as long as it is wide
 pub record IsShaped (raster : Bitmap) : Type 0 where
   pub rows : length raster.rows ≡ raster.height
-  pub columns : (y : ℕ) → y < raster.height → length (slice_index_or raster.rows y []) ≡ raster.width
+  pub columns : (y : ℕ) → y < raster.height → length (slice_index_or raster.rows y [])
+      ≡ raster.width
 
 -- a pixel of a raster, white outside it
 abbrev pub is_black : Bitmap → ℕ → ℕ → Bool

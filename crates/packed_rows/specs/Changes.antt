@@ -8,15 +8,32 @@ abbrev pub is_within : ℕ → ℕ → ℕ → Bool
 is_within from until place = nat_le from place && nat_lt place until
 
 abbrev pub white_bitmap : ℕ → ℕ → Bitmap
-white_bitmap width height = record { width = width; height = height; rows = from_fn height (λ y. from_fn width (λ x. false)) }
+white_bitmap width height =
+    record {
+      width = width;
+      height = height;
+      rows = from_fn height (λ y. from_fn width (λ x. false));
+    }
 
 -- the pixels of some columns in some rows are black, the others as they were
 abbrev pub with_black : Bitmap → ℕ → ℕ → ℕ → ℕ → Bitmap
-with_black b from until first last = record { width = b.width; height = b.height; rows = from_fn b.height (λ y. from_fn b.width (λ x. is_within from until x && is_within first last y || is_black b x y)) }
+with_black b from until first last =
+    record {
+      width = b.width;
+      height = b.height;
+      rows = from_fn b.height (λ y. from_fn b.width
+          (λ x. is_within from until x && is_within first last y || is_black b x y));
+    }
 
--- so many rows below row y are copies of it, the others as they were
+-- n rows below row y are copies of it, the others as they were
 abbrev pub with_copies : Bitmap → ℕ → ℕ → Bitmap
-with_copies b y copies = record { width = b.width; height = b.height; rows = from_fn b.height (λ r. slice_index_or b.rows (if is_within (y + 1) (y + 1 + copies) r then y else r) []) }
+with_copies b y copies =
+    record {
+      width = b.width;
+      height = b.height;
+      rows = from_fn b.height (λ r. slice_index_or b.rows
+          (if is_within (y + 1) (y + 1 + copies) r then y else r) []);
+    }
 
 -- how many pixels are black
 abbrev pub black_count : Bitmap → ℕ

@@ -1,4 +1,5 @@
--- A word of sixty-four pixels that is joined into rows: what is black in the word becomes black there.
+-- A word of sixty-four pixels that is joined into rows: what is black in the word becomes black
+-- there.
 use Rattle.std.specs.Prelude.{◌≡◌, ℕ, ◌<◌, ◌≤◌, false, ◌&&◌, ◌||◌}
 use Rattle.packed_rows.specs.Bitmap.{Bitmap, is_black, from_fn}
 use Rattle.packed_rows.specs.Changes.{is_within}
@@ -10,4 +11,10 @@ IsWhiteFrom n word = (i : ℕ) → n ≤ i → i < 64 → word_pixel word i ≡ 
 
 -- a bitmap with a word joined into the rows from `first` to `last`
 abbrev pub with_word : Bitmap → ℕ → ℕ → ℕ → Bitmap
-with_word b word first last = record { width = b.width; height = b.height; rows = from_fn b.height (λ y. from_fn b.width (λ x. is_within first last y && word_pixel word x || is_black b x y)) }
+with_word b word first last =
+    record {
+      width = b.width;
+      height = b.height;
+      rows = from_fn b.height (λ y. from_fn b.width
+          (λ x. is_within first last y && word_pixel word x || is_black b x y));
+    }

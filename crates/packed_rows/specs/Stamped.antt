@@ -1,4 +1,5 @@
--- A raster that is set on a bitmap: the pixels that lie on its black ones become black, the others stay.
+-- A raster that is set on a bitmap: the pixels that lie on its black ones become black, the others
+-- stay.
 use Rattle.std.specs.Prelude.{ℕ, ◌+◌, ◌-◌, ◌*◌, ◌%◌, ℤ, pos, ◌-ℤ◌, Bool, false, ◌&&◌, ◌||◌, ◌==◌, List, nat_le}
 use Rattle.std.specs.Int.{bit_at}
 use Rattle.packed_rows.specs.Bitmap.{Bitmap, is_black, from_fn}
@@ -12,7 +13,13 @@ is_black_at raster _ _ = false
 
 -- a bitmap on which a raster is set, with its upper left pixel in column `left` of row `top`
 abbrev pub with_raster : Bitmap → Bitmap → ℤ → ℤ → Bitmap
-with_raster b raster left top = record { width = b.width; height = b.height; rows = from_fn b.height (λ y. from_fn b.width (λ x. is_black_at raster (pos x -ℤ left) (pos y -ℤ top) || is_black b x y)) }
+with_raster b raster left top =
+    record {
+      width = b.width;
+      height = b.height;
+      rows = from_fn b.height (λ y. from_fn b.width
+          (λ x. is_black_at raster (pos x -ℤ left) (pos y -ℤ top) || is_black b x y));
+    }
 
 -- ---- one row over another, its first pixel over pixel start - skipped
 
@@ -30,10 +37,16 @@ word_pixel word i = bit_at word (63 - i) == 1
 
 -- ---- by words
 
--- what a word sets on pixel x of a row: the word is read from byte `at` on, turned right, masked, and set from byte `to` on
+-- what a word sets on pixel x of a row: the word is read from byte `at` on, turned right, masked,
+-- and set from byte `to` on
 abbrev pub strip_over : List ℕ → ℕ → ℕ → ℕ → ℕ → ℕ → Bool
-strip_over upper at turn mask to x = is_within (8 * to) (8 * to + 64) x && (word_pixel mask (x - 8 * to) && pixel upper (8 * at + (x - 8 * to + (64 - turn)) % 64))
+strip_over upper at turn mask to x =
+    is_within (8 * to) (8 * to + 64) x && (word_pixel mask (x - 8 * to) && pixel upper
+    (8 * at + (x - 8 * to + (64 - turn)) % 64))
 
--- what lies over pixel x of the pixels from `lo` on and before `hi` that follow byte `at`, its first pixel over pixel start - skipped
+-- what lies over pixel x of the pixels from `lo` on and before `hi` that follow byte `at`, its
+-- first pixel over pixel start - skipped
 abbrev pub part_over : List ℕ → ℕ → ℕ → ℕ → ℕ → ℕ → ℕ → Bool
-part_over upper at start skipped lo hi x = is_within (start + lo) (start + hi) (x + skipped) && pixel upper (8 * at + (x + skipped - start))
+part_over upper at start skipped lo hi x =
+    is_within (start + lo) (start + hi) (x + skipped) && pixel upper (8 * at +
+    (x + skipped - start))

@@ -62,8 +62,8 @@ fn blacken_words(bytes: &mut [u8], stride: usize, columns: Span, rows: Span)
     }
 }
 
-/// Joins a word into some rows, each of `stride` bytes, at most eight. At a row's end the word reaches
-/// into the next row, and is white there.
+/// Joins a word into some rows, each of `stride` bytes, at most eight. At a row's end the word
+/// reaches into the next row, and is white there.
 pub fn join_rows(bytes: &mut [u8], stride: usize, word: u64, rows: Span)
     requires small { stride ≤ 8 }
     requires few { rows.until < 2 ^ 20 }

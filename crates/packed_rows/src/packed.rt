@@ -35,8 +35,8 @@ impl Model for PackedBitmap {
 }
 
 impl PackedBitmap {
-    /// A bitmap of white pixels, in one allocation that is filled with zeros. The only call that takes
-    /// memory.
+    /// A bitmap of white pixels, in one allocation that is filled with zeros. The only call that
+    /// takes memory.
     pub fn white(alloc: Global, width: u32, height: u32) -> Result<PackedBitmap, NoMemory>
         requires narrow { width < 2 ^ 16 }
         requires low { height < 2 ^ 16 }

@@ -48,8 +48,8 @@ fn whiten(bytes: &mut Vec<u8>)
 }
 
 impl PaddedBitmap {
-    /// A bitmap of white pixels, in one allocation that is filled with zeros. The only call that takes
-    /// memory.
+    /// A bitmap of white pixels, in one allocation that is filled with zeros. The only call that
+    /// takes memory.
     pub fn white(alloc: Global, width: u32, height: u32) -> Result<PaddedBitmap, NoMemory>
         requires narrow { width < 2 ^ 16 }
         requires low { height < 2 ^ 16 }
@@ -143,7 +143,8 @@ impl PaddedBitmap {
         &self.bytes[start..start + row_bytes(self.width)]
     }
 
-    /// The bytes of row `y` with its padding: whole words of eight bytes, zero after those of the row.
+    /// The bytes of row `y` with its padding: whole words of eight bytes, zero after those of the
+    /// row.
     pub fn padded(&self, y: u32) -> &[u8]
         requires { y < self.now.height }
         ensures len { length result.now ≡ 8 * div_ceil self.now.width 64 }

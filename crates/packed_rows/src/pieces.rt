@@ -16,8 +16,8 @@ use crate::strips::{Strip, stamp_strip};
 use crate::words::span_word;
 
 // Sets some pixels of a piece that begins at byte `from` of each upper row. They lie in one word of
-// the row, or before the row. `across` is the place of the piece's first pixel, moved right by whole
-// words.
+// the row, or before the row. `across` is the place of the piece's first pixel, moved right by
+// whole words.
 fn stamp_part(
     bytes: &mut [u8],
     row_len: usize,
@@ -172,8 +172,8 @@ fn stamp_pieces(
     }
 }
 
-/// Sets upper rows, each of `stride` bytes, on some rows of `width` pixels: by one word each where a
-/// row of the raster lies in eight bytes of the lower row, else piece by piece.
+/// Sets upper rows, each of `stride` bytes, on some rows of `width` pixels: by one word each where
+/// a row of the raster lies in eight bytes of the lower row, else piece by piece.
 pub fn stamp_over(
     bytes: &mut [u8],
     width: u32,

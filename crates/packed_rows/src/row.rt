@@ -26,8 +26,8 @@ pub fn is_black(row: &[u8], x: usize) -> bool
     (row[x / 8] >> (7 - x % 8)) & 1 == 1
 }
 
-/// Makes the pixels from `from` up to but not including `until` black, and leaves the others as they
-/// are.
+/// Makes the pixels from `from` up to but not including `until` black, and leaves the others as
+/// they are.
 pub fn blacken(row: &mut [u8], from: usize, until: usize)
     requires ordered { from ≤ until }
     requires inside { until ≤ 8 * length row.old }

@@ -5,7 +5,8 @@ use Rattle.atomic_table.specs.Seated.{TableId}
 use Rattle.page_counter.specs.declared.example.Claimer.{Claimer}
 use Rattle.page_counter.specs.Seats.{SeatView}
 
--- a claimer with a seat at this counter that has claimed nothing, and with room for the numbers below a bound
+-- a claimer with a seat at this counter that has claimed nothing, and with room for the numbers
+-- below a bound
 pub record CanNote (counter : TableId) (bound : ℕ) (w : Claimer) : Type 0 where
   pub seat : SeatView
   pub seat_is : w.seat ≡ Some seat

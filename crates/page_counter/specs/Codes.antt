@@ -10,4 +10,5 @@ abbrev pub view_code : Coded View
 view_code = the_row.coded
 
 abbrev pub seat_code : Coded SeatView
-seat_code = code_by (TableId × View) (coded× table_id_coded view_code) (λ s. (s.counter, s.view)) (λ p. record { counter = p.0; view = p.1 }) (λ _. refl)
+seat_code = code_by (TableId × View) (coded× table_id_coded view_code) (λ s. (s.counter, s.view))
+    (λ p. record { counter = p.0; view = p.1 }) (λ _. refl)

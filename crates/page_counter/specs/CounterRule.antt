@@ -1,5 +1,6 @@
--- The rule of the page counter, which holds between any two steps: of its one word, and of the views of all seats. The
--- word is how many numbers were claimed. It is the project's own: no public standard speaks of it.
+-- The rule of the page counter, which holds between any two steps: of its one word, and of the
+-- views of all seats. The word is how many numbers were claimed. It is the project's own: no public
+-- standard speaks of it.
 use Rattle.std.specs.Prelude.{◌≡◌, ◌≢◌, ℕ, ◌≤◌, true, List, [], ◌∷◌, All, length}
 use Rattle.std.specs.List.Sorted.{IsStrictlyIncreasing}
 use mathlib.Core.Option.{some}
@@ -31,4 +32,5 @@ pub record CounterRule (s : State (Unit {0}) Standing) : Type 0 where
   -- the numbers of all live and joined seats are those below the number of seats made, each once
   pub numbers_once : EachOnce (length s.views) (numbers_of (all_seats s.views))
   pub few : length s.views ≤ 33
-  pub each : (n : ℕ) (p : Standing) → get_elem? s.views n ≡ some p → p.live ≡ true → LiveFits (length s.views) n p.view
+  pub each : (n : ℕ) (p : Standing) → get_elem? s.views n ≡ some p → p.live ≡ true
+      → LiveFits (length s.views) n p.view

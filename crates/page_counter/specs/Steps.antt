@@ -7,7 +7,8 @@ use Rattle.page_counter.specs.declared.view.Standing.{Standing}
 use Rattle.page_counter.specs.Views.{known_claims, claimed_view, claimed_standing}
 use Rattle.page_counter.specs.Seats.{AllJoined}
 
--- the number is above all that the seat knows, and is no less than how many it knows; where it knows all it is their count
+-- the number is above all that the seat knows, and is no less than how many it knows; where it
+-- knows all it is their count
 pub record ClaimTells (v : View) (claim : ℕ) : Type 0 where
   pub rises : IsStrictlyIncreasing (claimed_view v claim).claims
   pub above : All (λ c. c < claim) (known_claims v)
@@ -17,4 +18,5 @@ pub record ClaimTells (v : View) (claim : ℕ) : Type 0 where
 
 -- the number claimed is the word that was found
 abbrev pub Claimed : Step (Unit {0}) → Me (Unit {0}) Standing → ℕ → Me (Unit {0}) Standing → Type 0
-Claimed step before found after = (after ≡ (claimed_standing before.0 found, before.1)) × ClaimTells before.0.view found
+Claimed step before found after =
+    (after ≡ (claimed_standing before.0 found, before.1)) × ClaimTells before.0.view found

@@ -39,7 +39,8 @@ joined_view v w = record v { joined = v.joined ++ seat_claims w ∷ [] }
 
 -- ---- what the rule knows of a seat
 
--- the seats whose claims stand in a view: the seat's own, and those that it keeps; none, once it was joined
+-- the seats whose claims stand in a view: the seat's own, and those that it keeps; none, once it
+-- was joined
 abbrev pub seats_of : Standing → List SeatClaims
 seats_of s = cond s.live (seat_claims s.view ∷ s.view.joined) []
 
@@ -66,4 +67,5 @@ joined_standing s t = record s { view = joined_view s.view t.view }
 
 -- what a join leaves of the seat that was taken in
 abbrev pub spent_standing : Standing
-spent_standing = record { live = false; view = record { number = 0; claims = []; made = 0; joined = [] } }
+spent_standing =
+    record { live = false; view = record { number = 0; claims = []; made = 0; joined = [] } }

@@ -62,9 +62,9 @@ impl PageCounter {
         CounterSeat { place }
     }
 
-    /// Claims the next number, which is how many claims all seats made before. It is the seat's last
-    /// claim, of at most 64, and above all claims that the seat knows. Where seat 0 has joined all
-    /// others it knows all claims. It neither waits nor takes memory.
+    /// Claims the next number, which is how many claims all seats made before. It is the seat's
+    /// last claim, of at most 64, and above all claims that the seat knows. Where seat 0 has joined
+    /// all others it knows all claims. It neither waits nor takes memory.
     pub fn claim(&self, seat: &mut CounterSeat) -> u64
         requires counter { seat.old.counter ≡ self.now }
         requires room { length seat.old.view.claims < 64 }

@@ -112,8 +112,8 @@ fn join_all(
     Ok(all)
 }
 
-/// The numbers below the bound, each once, as the claimers claimed them, each in a thread of its own
-/// where one can be made. `Err` means out of memory.
+/// The numbers below the bound, each once, as the claimers claimed them, each in a thread of its
+/// own where one can be made. `Err` means out of memory.
 pub fn count_off<R: Threads + Sync>(
     rt: &R,
     alloc: Global,

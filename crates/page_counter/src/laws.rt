@@ -25,7 +25,8 @@ pub fn rule_says()
 {}
 
 /// What it means that each number below n stands once in a list, as `close` says of all claims: how
-/// many there are, which there are, that two parts have none in common, and which are below a bound.
+/// many there are, which there are, that two parts have none in common, and which are below a
+/// bound.
 pub fn each_once()
     ensures count { OnceIsCount }
     ensures all { OnceHasAll }

@@ -89,7 +89,8 @@ fn join_all(
     Some(all)
 }
 
-// The threads meet, and then claim 64 numbers each. All that were claimed, and what `close` answers.
+// The threads meet, and then claim 64 numbers each. All that were claimed, and what `close`
+// answers.
 fn crowd<R: Threads + Sync>(rt: &R, alloc: Global, all: u32) -> Option<(Vec<u64>, u64)>
     requires some { 0 < all }
     requires few { all ≤ 32 }

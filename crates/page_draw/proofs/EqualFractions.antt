@@ -13,7 +13,7 @@ use Rattle.drift_rules.specs.declared.flat.Registers.{Registers}
 use Rattle.packed_rows.specs.Bitmap.{Bitmap}
 use Rattle.raster_page.specs.Ink.{Inked, page_of}
 use Rattle.vf_expand.specs.Course.{Course, Gives, Asks, Ends, Stops}
-use Rattle.page_draw.specs.Members.{Finding, Flat, Look, Member, and_then, behind, last_state, marks_from}
+use Rattle.page_draw.specs.Members.{Finding, Flat, Look, Member, and_then, marks_after, last_state, marks_from}
 use Rattle.page_draw.specs.Sheets.{inks_of}
 use Rattle.page_draw.specs.Values.{EndsIn, HasValue, PageValue, bitmap_of}
 use Rattle.page_draw.specs.declared.sheet.Sheet.{Sheet}
@@ -97,17 +97,17 @@ module _ (c d : Fraction) (same : AreEqual c d) where
       ∙ then_alike (after d s f) members (λ t. states_alike t members)
   states_alike s (Look k at ∷ members) = states_alike s members
 
-  behind_alike : (r : Result State PenFault) (sheet : Sheet) (members : List Member) → ((t : State) → marks_from c sheet t members ≡ marks_from d sheet t members)
-      → behind r (λ t. marks_from c sheet t members) ≡ behind r (λ t. marks_from d sheet t members)
-  behind_alike (Ok t) sheet members h = h t
-  behind_alike (Err fault) sheet members h = refl
+  marks_after_alike : (r : Result State PenFault) (sheet : Sheet) (members : List Member) → ((t : State) → marks_from c sheet t members ≡ marks_from d sheet t members)
+      → marks_after r (λ t. marks_from c sheet t members) ≡ marks_after r (λ t. marks_from d sheet t members)
+  marks_after_alike (Ok t) sheet members h = h t
+  marks_after_alike (Err fault) sheet members h = refl
 
   marks_alike : (sheet : Sheet) (s : State) (members : List Member) → marks_from c sheet s members ≡ marks_from d sheet s members
   marks_alike sheet s [] = refl
   marks_alike sheet s (Flat f g at ∷ members) =
       ap₂ (λ (m : Option Mark) (rest : List Inked). inks_of sheet m g ++ rest) (mark_alike s.now f)
-      (ap (λ (r : Result State PenFault). behind r (λ t. marks_from c sheet t members)) (after_alike s f)
-      ∙ behind_alike (after d s f) sheet members (λ t. marks_alike sheet t members))
+      (ap (λ (r : Result State PenFault). marks_after r (λ t. marks_from c sheet t members)) (after_alike s f)
+      ∙ marks_after_alike (after d s f) sheet members (λ t. marks_alike sheet t members))
   marks_alike sheet s (Look k at ∷ members) = marks_alike sheet s members
 
   ends_alike : (s : State) (page : Bitmap) (to : Course) (value : PageValue) → EndsIn c s page to value → EndsIn d s page to value

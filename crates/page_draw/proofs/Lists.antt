@@ -13,7 +13,7 @@ use Rattle.font_decode.specs.Desks.{GrewBy}
 use Rattle.font_decode.specs.declared.decoded.Decoded.{Decoded}
 use Rattle.vf_expand.specs.Course.{Course, Gives, Asks}
 use Rattle.page_draw.specs.Sheets.{inks_of}
-use Rattle.page_draw.specs.Members.{Member, Flat, Look, Finding, Leads, looks_of, and_then, last_state, behind, marks_from}
+use Rattle.page_draw.specs.Members.{Member, Flat, Look, Finding, Leads, looks_of, and_then, last_state, marks_after, marks_from}
 pub use Rattle.page_draw.specs.SoFar.{IsSoFar}
 use Rattle.page_draw.specs.declared.sheet.Sheet.{Sheet}
 
@@ -48,7 +48,7 @@ looks_look (Look k' at' ∷ members) k at = ap (λ (keys : List FontKey). k' ∷
 
 -- ---- states and marks
 
--- a state behind one member and others
+-- a state after one member and others
 pub apart : (c : Fraction) (r : Result State PenFault) (members : List Member) (t : State) → and_then r (λ u. last_state c u members) ≡ Ok t
     → (u : State) × (r ≡ Ok u) × (last_state c u members ≡ Ok t)
 apart c (Ok u) members t e = (u, refl, e)
@@ -64,33 +64,33 @@ state_flat c s t u (Flat f' g' at' ∷ members) f g at e moved =
     ap (λ (r : Result State PenFault). and_then r (λ v. last_state c v (with_flat members f g at))) there.1 ∙ state_flat c there.0 t u members f g at there.2 moved
 state_flat c s t u (Look k' at' ∷ members) f g at e moved = state_flat c s t u members f g at e moved
 
-state_behind : (c : Fraction) (r : Result State PenFault) (members others : List Member) → ((u : State) → last_state c u members ≡ last_state c u others)
+state_after : (c : Fraction) (r : Result State PenFault) (members others : List Member) → ((u : State) → last_state c u members ≡ last_state c u others)
     → and_then r (λ u. last_state c u members) ≡ and_then r (λ u. last_state c u others)
-state_behind c (Ok u) members others same = same u
-state_behind c (Err fault) members others same = refl
+state_after c (Ok u) members others same = same u
+state_after c (Err fault) members others same = refl
 
 state_look : (c : Fraction) (s : State) (members : List Member) (k : FontKey) (at : ℕ) → last_state c s (with_look members k at) ≡ last_state c s members
 state_look c s [] k at = refl
-state_look c s (Flat f' g' at' ∷ members) k at = state_behind c (after c s f') (with_look members k at) members (λ u. state_look c u members k at)
+state_look c s (Flat f' g' at' ∷ members) k at = state_after c (after c s f') (with_look members k at) members (λ u. state_look c u members k at)
 state_look c s (Look k' at' ∷ members) k at = state_look c s members k at
 
-nothing_behind : (r : Result State PenFault) → behind r (λ u. []) ≡ []
-nothing_behind (Ok u) = refl
-nothing_behind (Err fault) = refl
+nothing_after : (r : Result State PenFault) → marks_after r (λ u. []) ≡ []
+nothing_after (Ok u) = refl
+nothing_after (Err fault) = refl
 
 marks_flat : (c : Fraction) (sheet : Sheet) (s t : State) (members : List Member) (f : FlatCommand) (g : Option Glyph) (at : ℕ) → last_state c s members ≡ Ok t
     → marks_from c sheet s (with_flat members f g at) ≡ marks_from c sheet s members ++ inks_of sheet (mark_of c t.now f) g
 marks_flat c sheet s t [] f g at e =
     let same : s ≡ t = cc in
-    ap (λ (marks : List Inked). inks_of sheet (mark_of c s.now f) g ++ marks) (nothing_behind (after c s f)) ∙ append-nil (inks_of sheet (mark_of c s.now f) g)
+    ap (λ (marks : List Inked). inks_of sheet (mark_of c s.now f) g ++ marks) (nothing_after (after c s f)) ∙ append-nil (inks_of sheet (mark_of c s.now f) g)
     ∙ ap (λ (x : State). inks_of sheet (mark_of c x.now f) g) same
 marks_flat c sheet s t (Flat f' g' at' ∷ members) f g at e =
     let there = apart c (after c s f') members t e in
     let own = inks_of sheet (mark_of c s.now f') g' in
-    ap (λ (r : Result State PenFault). own ++ behind r (λ v. marks_from c sheet v (with_flat members f g at))) there.1
+    ap (λ (r : Result State PenFault). own ++ marks_after r (λ v. marks_from c sheet v (with_flat members f g at))) there.1
     ∙ ap (λ (marks : List Inked). own ++ marks) (marks_flat c sheet there.0 t members f g at there.2)
     ∙ sym (append_assoc own (marks_from c sheet there.0 members) (inks_of sheet (mark_of c t.now f) g))
-    ∙ ap (λ (r : Result State PenFault). (own ++ behind r (λ v. marks_from c sheet v members)) ++ inks_of sheet (mark_of c t.now f) g) (sym there.1)
+    ∙ ap (λ (r : Result State PenFault). (own ++ marks_after r (λ v. marks_from c sheet v members)) ++ inks_of sheet (mark_of c t.now f) g) (sym there.1)
 marks_flat c sheet s t (Look k' at' ∷ members) f g at e = marks_flat c sheet s t members f g at e
 
 marks_look : (c : Fraction) (sheet : Sheet) (s t : State) (members : List Member) (k : FontKey) (at : ℕ) → last_state c s members ≡ Ok t
@@ -99,9 +99,9 @@ marks_look c sheet s t [] k at e = refl
 marks_look c sheet s t (Flat f' g' at' ∷ members) k at e =
     let there = apart c (after c s f') members t e in
     let own = inks_of sheet (mark_of c s.now f') g' in
-    ap (λ (r : Result State PenFault). own ++ behind r (λ v. marks_from c sheet v (with_look members k at))) there.1
+    ap (λ (r : Result State PenFault). own ++ marks_after r (λ v. marks_from c sheet v (with_look members k at))) there.1
     ∙ ap (λ (marks : List Inked). own ++ marks) (marks_look c sheet there.0 t members k at there.2)
-    ∙ ap (λ (r : Result State PenFault). own ++ behind r (λ v. marks_from c sheet v members)) (sym there.1)
+    ∙ ap (λ (r : Result State PenFault). own ++ marks_after r (λ v. marks_from c sheet v members)) (sym there.1)
 marks_look c sheet s t (Look k' at' ∷ members) k at e = marks_look c sheet s t members k at e
 
 -- ---- the keys asked for

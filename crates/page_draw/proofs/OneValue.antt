@@ -19,7 +19,8 @@ use Rattle.font_decode.proofs.Alike.{one_in_a_library}
 use Rattle.page_draw.specs.Laws.{PagesHaveOneValue}
 use Rattle.vf_expand.proofs.Similar.{Similar, course_similar}
 
--- the page can't go on from here: no look-up stands next, and a flat command that does has no next state
+-- the page can't go on from here: no look-up stands next, and a flat command that does has no next
+-- state
 abbrev pub IsAtEnd : Fraction → State → Course → Type 0
 IsAtEnd c s (Gives f g at rest) = (fault : PenFault) × (after c s f ≡ Err fault)
 IsAtEnd c s (Asks k at rest) = ⊥

@@ -9,7 +9,7 @@ use Rattle.drift_rules.proofs.Near.{saved_is}
 use Rattle.drift_rules.proofs.Stack.{pops_give_back}
 use Rattle.raster_page.specs.Ink.{Inked}
 use Rattle.page_draw.specs.Sheets.{inks_of}
-use Rattle.page_draw.specs.Members.{Member, Flat, Look, and_then, behind, last_state, marks_from}
+use Rattle.page_draw.specs.Members.{Member, Flat, Look, and_then, marks_after, last_state, marks_from}
 use Rattle.page_draw.specs.Laws.{PacketsAreSetInPlace, flats_of}
 use Rattle.page_draw.specs.declared.sheet.Sheet.{Sheet}
 use Rattle.page_draw.proofs.Lists.{apart}
@@ -47,10 +47,10 @@ marks_append c sheet u m [] others e =
 marks_append c sheet u m (Flat f g at ∷ members) others e =
     let there = apart c (after c u f) members m e in
     let own = inks_of sheet (mark_of c u.now f) g in
-    ap (λ (r : Result State PenFault). own ++ behind r (λ v. marks_from c sheet v (members ++ others))) there.1
+    ap (λ (r : Result State PenFault). own ++ marks_after r (λ v. marks_from c sheet v (members ++ others))) there.1
     ∙ ap (λ (marks : List Inked). own ++ marks) (marks_append c sheet there.0 m members others there.2)
     ∙ sym (append_assoc own (marks_from c sheet there.0 members) (marks_from c sheet m others))
-    ∙ ap (λ (r : Result State PenFault). (own ++ behind r (λ v. marks_from c sheet v members)) ++ marks_from c sheet m others) (sym there.1)
+    ∙ ap (λ (r : Result State PenFault). (own ++ marks_after r (λ v. marks_from c sheet v members)) ++ marks_from c sheet m others) (sym there.1)
 marks_append c sheet u m (Look k at ∷ members) others e = marks_append c sheet u m members others e
 
 pub packets_are_set_in_place : PacketsAreSetInPlace
@@ -62,7 +62,7 @@ packets_are_set_in_place c sheet s t g h at end packet rest balanced e =
     let last = apart c (after c parts.0 Leave) [] t parts.2 in
     let leads = one_more c first.0 parts.0 last.0 (flats_of packet) Leave (moved_by c first.0 parts.0 packet parts.1) last.1 in
     let back : last.0 ≡ s = pops_give_back c s last.0 Enter Leave (flats_of packet) refl refl balanced (first.0, first.1, leads) in
-    ap (λ (r : Result State PenFault). behind r (λ v. marks_from c sheet v (packet ++ Flat Leave h end ∷ rest))) first.1
+    ap (λ (r : Result State PenFault). marks_after r (λ v. marks_from c sheet v (packet ++ Flat Leave h end ∷ rest))) first.1
     ∙ marks_append c sheet first.0 parts.0 packet (Flat Leave h end ∷ rest) parts.1
-    ∙ ap (λ (r : Result State PenFault). marks_from c sheet first.0 packet ++ behind r (λ v. marks_from c sheet v rest)) last.1
+    ∙ ap (λ (r : Result State PenFault). marks_from c sheet first.0 packet ++ marks_after r (λ v. marks_from c sheet v rest)) last.1
     ∙ ap₂ (λ (a b : State). marks_from c sheet a packet ++ marks_from c sheet b rest) (sym same) back

@@ -29,9 +29,9 @@ follow : (Finds : Finding) → ((k : FontKey) → (d : Decoded) × Finds k d) �
 follow Finds each c s (Gives f g at rest) = by (λ t. follow Finds each c t rest) (after c s f) refl
   where
     by : ((t : State) → Followed Finds c t rest) → (r : Result State PenFault) → after c s f ≡ r → Followed Finds c s (Gives f g at rest)
-    by behind (Err fault) e = record { members = []; to = Gives f g at rest; state = s; leads = refl; moved = refl; ends = λ page. (fault_at (Pen fault) at, (fault, e, refl)) }
-    by behind (Ok t) e =
-        let r = behind t in
+    by follows (Err fault) e = record { members = []; to = Gives f g at rest; state = s; leads = refl; moved = refl; ends = λ page. (fault_at (Pen fault) at, (fault, e, refl)) }
+    by follows (Ok t) e =
+        let r = follows t in
         record {
           members = Flat f g at ∷ r.members;
           to = r.to;

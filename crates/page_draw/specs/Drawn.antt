@@ -1,4 +1,5 @@
--- What a drawn page, and one that wasn't drawn, say of the page's value and of the keys that were asked for.
+-- What a drawn page, and one that wasn't drawn, say of the page's value and of the keys that were
+-- asked for.
 use Rattle.std.specs.Prelude.{◌≡◌, ◌⊎◌, ℕ, List, [], ◌∷◌, ◌++◌, Option, Some, Result, Ok, Err}
 use Rattle.outside.specs.declared.keys.FontKey.{FontKey}
 use Rattle.pixel_round.specs.Pixels.{conversion}
@@ -17,17 +18,22 @@ use Rattle.page_draw.specs.declared.stop.PageStop.{PageStop}
 use Rattle.page_draw.specs.declared.stop.PageStop.TheVariants as stop
 
 -- the value of the page of an index with a number, from 0, and the keys that are looked up
-pub record IsPageValue (Finds : Finding) (indexed : Indexed) (sheet : Sheet) (i : ℕ) (value : PageValue) (looks : List FontKey) : Type 0 where
+pub record IsPageValue (Finds : Finding) (indexed : Indexed) (sheet : Sheet) (i : ℕ)
+    (value : PageValue) (looks : List FontKey) : Type 0 where
   pub units : Units
   pub of_document : document_units indexed.res indexed.reading ≡ Some units
   pub has : HasValue Finds (conversion units) sheet (course_of indexed.reading i) value looks
 
 -- the page has this value, and the keys asked for are its look-ups, in order
-abbrev pub IsDrawn : Finding → Indexed → Sheet → ℕ → PageValue → Option (List FontKey) → Option (List FontKey) → Type 0
-IsDrawn Finds indexed sheet i value old new = (looks : List FontKey) × IsPageValue Finds indexed sheet i value looks × GrewBy old new looks
+abbrev pub IsDrawn : Finding → Indexed → Sheet → ℕ → PageValue → Option (List FontKey)
+    → Option (List FontKey) → Type 0
+IsDrawn Finds indexed sheet i value old new =
+    (looks : List FontKey) × IsPageValue Finds indexed sheet i value looks × GrewBy old new looks
 
--- the page was followed up to a look-up or a want of memory: the keys asked for are its look-ups so far, and perhaps the one that stands next
-pub record IsBroken (Finds : Finding) (indexed : Indexed) (i : ℕ) (old new : Option (List FontKey)) : Type 0 where
+-- the page was followed up to a look-up or a want of memory: the keys asked for are its look-ups so
+-- far, and perhaps the one that stands next
+pub record IsBroken (Finds : Finding) (indexed : Indexed) (i : ℕ)
+    (old new : Option (List FontKey)) : Type 0 where
   pub members : List Member
   pub to : Course
   pub units : Units
@@ -36,11 +42,14 @@ pub record IsBroken (Finds : Finding) (indexed : Indexed) (i : ℕ) (old new : O
   pub leads : Leads Finds (course_of indexed.reading i) members to
   pub moved : last_state (conversion units) at_origin members ≡ Ok state
   pub asked : GrewBy old new (looks_of members)
-      ⊎ ((k : FontKey) × (at : ℕ) × (rest : Decoded → Course) × (to ≡ Asks k at rest) × GrewBy old new (looks_of members ++ k ∷ []))
+      ⊎ ((k : FontKey) × (at : ℕ) × (rest : Decoded → Course) × (to ≡ Asks k at rest)
+      × GrewBy old new (looks_of members ++ k ∷ []))
 
--- a fault is the page's own; where a source failed or memory was wanting the page was broken off
-abbrev pub IsStop : Finding → Indexed → Sheet → ℕ → PageStop → Option (List FontKey) → Option (List FontKey) → Type 0
-IsStop Finds indexed sheet i (stop.Fault fault at) old new = IsDrawn Finds indexed sheet i (fault_at (seen_fault fault) at) old new
+-- a fault is the page's own; where a source failed or memory ran out the page was broken off
+abbrev pub IsStop : Finding → Indexed → Sheet → ℕ → PageStop → Option (List FontKey)
+    → Option (List FontKey) → Type 0
+IsStop Finds indexed sheet i (stop.Fault fault at) old new =
+    IsDrawn Finds indexed sheet i (fault_at (seen_fault fault) at) old new
 IsStop Finds indexed sheet i stop.SourceFault old new = IsBroken Finds indexed i old new
 IsStop Finds indexed sheet i stop.NoMemory old new = IsBroken Finds indexed i old new
 
@@ -58,7 +67,8 @@ IsWhole (Err reason) = IsOwnStop reason
 
 -- why a flat command, whose next state is given, stops the page at a position
 abbrev pub IsPenStop : Result State PenFault → ℕ → PageStop → Type 0
-IsPenStop after at (stop.Fault fault place) = (found : PenFault) × (after ≡ Err found) × (seen_fault fault ≡ Pen found) × (place ≡ at)
+IsPenStop after at (stop.Fault fault place) =
+    (found : PenFault) × (after ≡ Err found) × (seen_fault fault ≡ Pen found) × (place ≡ at)
 IsPenStop after at stop.SourceFault = ⊥
 IsPenStop after at stop.NoMemory = Unit {0}
 

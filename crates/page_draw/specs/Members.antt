@@ -9,8 +9,9 @@ pub use Rattle.vf_expand.specs.Members.{Member, Flat, Look, Finding, Leads, look
 use Rattle.page_draw.specs.Sheets.{inks_of}
 use Rattle.page_draw.specs.declared.sheet.Sheet.{Sheet}
 
--- the state behind the members, from a state on, or the fault of the first that has no next state
-abbrev pub and_then : {A : Type 0} → Result State PenFault → (State → Result A PenFault) → Result A PenFault
+-- the state after the members, from a state on, or the fault of the first that has no next state
+abbrev pub and_then : {A : Type 0} → Result State PenFault → (State → Result A PenFault)
+    → Result A PenFault
 and_then (Ok s) next = next s
 and_then (Err fault) next = Err fault
 
@@ -19,12 +20,14 @@ last_state c s [] = Ok s
 last_state c s (Flat f g at ∷ members) = and_then (after c s f) (λ t. last_state c t members)
 last_state c s (Look k at ∷ members) = last_state c s members
 
-abbrev pub behind : Result State PenFault → (State → List Inked) → List Inked
-behind (Ok s) next = next s
-behind (Err fault) next = []
+abbrev pub marks_after : Result State PenFault → (State → List Inked) → List Inked
+marks_after (Ok s) next = next s
+marks_after (Err fault) next = []
 
 -- what is set on the sheet, in order; a command marks where the pen stands before it
 abbrev pub marks_from : Fraction → Sheet → State → List Member → List Inked
 marks_from c sheet s [] = []
-marks_from c sheet s (Flat f g at ∷ members) = inks_of sheet (mark_of c s.now f) g ++ behind (after c s f) (λ t. marks_from c sheet t members)
+marks_from c sheet s (Flat f g at ∷ members) =
+    inks_of sheet (mark_of c s.now f) g ++ marks_after (after c s f)
+    (λ t. marks_from c sheet t members)
 marks_from c sheet s (Look k at ∷ members) = marks_from c sheet s members

@@ -19,24 +19,33 @@ use Rattle.page_draw.specs.Drawn.{IsStop}
 use Rattle.page_draw.specs.declared.sheet.Sheet.{Sheet}
 use Rattle.page_draw.specs.declared.stop.PageStop.{PageStop}
 
--- the members that were taken lead here, moved the pen to this state and set what the page has; the keys asked for are their look-ups
-pub record IsSoFar (Finds : Finding) (c : Fraction) (sheet : Sheet) (from to : Course) (s : State) (page : Bitmap) (old new : Option (List FontKey)) : Type 0 where
+-- the members that were taken lead here, moved the pen to this state and set what the page has; the
+-- keys asked for are their look-ups
+pub record IsSoFar (Finds : Finding) (c : Fraction) (sheet : Sheet) (from to : Course) (s : State)
+    (page : Bitmap) (old new : Option (List FontKey)) : Type 0 where
   pub members : List Member
   pub leads : Leads Finds from members to
   pub moved : last_state c at_origin members ≡ Ok s
   pub has : page ≡ bitmap_of c sheet members
   pub asked : GrewBy old new (looks_of members)
 
--- what was drawn up to one place was drawn up to another, whatever led to the first, and no key was asked for between them
+-- what was drawn up to one place was drawn up to another, whatever led to the first, and no key was
+-- asked for between them
 abbrev pub GoesOn : Fraction → Sheet → Course → State → Bitmap → Course → State → Bitmap → Type 0
-GoesOn c sheet to s page to' s' page' = (told : Option library.Files) (units : Option Units) (from : Course) (old new : Option (List FontKey))
-    → IsSoFar (IsFontOf told units) c sheet from to s page old new → IsSoFar (IsFontOf told units) c sheet from to' s' page' old new
+GoesOn c sheet to s page to' s' page' =
+    (told : Option library.Files) (units : Option Units) (from : Course)
+    (old new : Option (List FontKey))
+    → IsSoFar (IsFontOf told units) c sheet from to s page old new
+    → IsSoFar (IsFontOf told units) c sheet from to' s' page' old new
 
 -- a page that was drawn so far stops so
 abbrev pub StopsSo : Fraction → Sheet → Course → State → Bitmap → PageStop → Type 0
-StopsSo c sheet to s page why = (told : Option library.Files) (units : Option Units) (indexed : Indexed) (i : ℕ) (old new : Option (List FontKey))
+StopsSo c sheet to s page why =
+    (told : Option library.Files) (units : Option Units) (indexed : Indexed) (i : ℕ)
+    (old new : Option (List FontKey))
     → IsConversionOf (document_units indexed.res indexed.reading) c
-    → IsSoFar (IsFontOf told units) c sheet (course_of indexed.reading i) to s page old new → IsStop (IsFontOf told units) indexed sheet i why old new
+    → IsSoFar (IsFontOf told units) c sheet (course_of indexed.reading i) to s page old new
+    → IsStop (IsFontOf told units) indexed sheet i why old new
 
 -- at a look-up there are no more steps left than before
 abbrev pub HasFewerAtLook : Doing → Step → Doing → Type 0

@@ -38,7 +38,14 @@ asked_by c = Some (looks c.history)
 
 -- the loads of its source are those that it counts
 abbrev pub trail_by : ℕ → Cache Decoded → Option Trail
-trail_by loads c = Some (record { seat = 1; capacity = c.capacity; calls = c.history; loads = loads; counted = loads })
+trail_by loads c =
+    Some (record {
+      seat = 1;
+      capacity = c.capacity;
+      calls = c.history;
+      loads = loads;
+      counted = loads;
+    })
 
 -- how many look-ups there is room for: each takes three turns at most
 abbrev pub room_by : ℕ → ℕ

@@ -1,4 +1,5 @@
--- The value of a page: its bitmap, or its first fault and the place. Knuth, DVItype, "Translation to symbolic form".
+-- The value of a page: its bitmap, or its first fault and the place. Knuth, DVItype, "Translation
+-- to symbolic form".
 use Rattle.std.specs.Prelude.{◌≡◌, ℕ, List, [], ◌∷◌, Result, Ok, Err}
 use Rattle.outside.specs.declared.keys.FontKey.{FontKey}
 use Rattle.pixel_round.specs.Pixels.{Fraction}
@@ -13,7 +14,8 @@ use Rattle.vf_expand.specs.Faults.{PageFaultSeen, Pen}
 use Rattle.page_draw.specs.Members.{Finding, Leads, Member, last_state, looks_of, marks_from}
 use Rattle.page_draw.specs.declared.sheet.Sheet.{Sheet}
 
--- why a page has no bitmap, with the position of the page's command that has the fault, or of its Eop
+-- why a page has no bitmap, with the position of the page's command that has the fault, or of its
+-- Eop
 pub record PlacedFault : Type 0 where
   pub fault : PageFaultSeen
   pub at : ℕ
@@ -33,15 +35,18 @@ abbrev pub ended_with : List Registers → ℕ → Bitmap → PageValue
 ended_with [] eop page = Ok page
 ended_with (r ∷ saved) eop page = fault_at (Pen StackLeft) eop
 
--- how a page ends that is in a state, by what is left of its course: with a command that has no next state, at a stop, or at its end
+-- how a page ends that is in a state, by what is left of its course: with a command that has no
+-- next state, at a stop, or at its end
 abbrev pub EndsIn : Fraction → State → Bitmap → Course → PageValue → Type 0
-EndsIn c s page (Gives f g at rest) value = (fault : PenFault) × (after c s f ≡ Err fault) × (value ≡ fault_at (Pen fault) at)
+EndsIn c s page (Gives f g at rest) value =
+    (fault : PenFault) × (after c s f ≡ Err fault) × (value ≡ fault_at (Pen fault) at)
 EndsIn c s page (Asks k at rest) value = ⊥
 EndsIn c s page (Ends at) value = value ≡ ended_with s.saved at page
 EndsIn c s page (Stops fault at) value = value ≡ fault_at fault at
 
 -- the value of a page with this course, and the keys that are looked up before its end
-pub record HasValue (Finds : Finding) (c : Fraction) (sheet : Sheet) (from : Course) (value : PageValue) (looks : List FontKey) : Type 0 where
+pub record HasValue (Finds : Finding) (c : Fraction) (sheet : Sheet) (from : Course)
+    (value : PageValue) (looks : List FontKey) : Type 0 where
   pub members : List Member
   pub to : Course
   pub state : State

@@ -36,12 +36,13 @@ fn finished(page: Page, pen: &Pen, at: usize) -> Result<Page, PageStop>
     }
 }
 
-/// Draws the page of a document with a number, from 0, on a blank page that has the sheet's sides, with
-/// the fonts of a desk. It is that page, or its fault, that `draw` answers.
+/// Draws the page of a document with a number, from 0, on a blank page that has the sheet's sides,
+/// with the fonts of a desk. It is that page, or its fault, that `draw` answers.
 ///
-/// A page's fault is the first of its list: a fault of the page's commands or fonts where it stands, or a
-/// command that the pen can't take, or registers that are still saved at the page's end. `SourceFault`
-/// comes only where the desk's source failed in this call, and `NoMemory` where memory was wanting.
+/// A page's fault is the first of its list: a fault of the page's commands or fonts where it
+/// stands, or a command that the pen can't take, or registers that are still saved at the page's
+/// end. `SourceFault` comes only where the desk's source failed in this call, and `NoMemory` where
+/// memory ran out.
 ///
 /// Knuth, DVItype, "Translation to symbolic form".
 pub fn draw_on<R: Wait, D: Desk>(
@@ -57,7 +58,8 @@ pub fn draw_on<R: Wait, D: Desk>(
     requires page { i < pages_begun index.now.reading }
     requires sheet { IsDrawable sheet.now }
     requires fits { D.fits desk.old shared.now }
-    requires units { IfSome (D.units desk.old) (λ u. document_units index.now.res index.now.reading ≡ Some u) }
+    requires units { IfSome (D.units desk.old) (λ u. document_units index.now.res index.now.reading
+        ≡ Some u) }
     requires room { 2 ^ 24 ≤ D.room desk.old }
     requires blank { page ≡ page_of sheet.now.width sheet.now.height [] }
 
@@ -66,16 +68,20 @@ pub fn draw_on<R: Wait, D: Desk>(
     ensures room { D.room desk.old ≤ D.room desk.new + 2 ^ 24 }
     ensures library { D.library desk.new ≡ D.library desk.old }
     ensures units { D.units desk.new ≡ D.units desk.old }
-    ensures cause { HasCause (D.faults desk.old) (D.faults desk.new) (IsErrOf result PageStop.SourceFault) }
+    ensures cause { HasCause (D.faults desk.old) (D.faults desk.new)
+        (IsErrOf result PageStop.SourceFault) }
 
     // The bitmap or the first fault is the page's, and the keys asked for are its look-ups.
-    ensures drawn { IfOk result (λ page. IsDrawn (IsFontOf (D.library desk.old) (D.units desk.old)) index.now sheet.now i
+    ensures drawn { IfOk result (λ page. IsDrawn (IsFontOf (D.library desk.old) (D.units desk.old))
+        index.now sheet.now i
         (Ok page) (D.asked desk.old) (D.asked desk.new)) }
-    ensures stop { IfErr result (λ stop. IsStop (IsFontOf (D.library desk.old) (D.units desk.old)) index.now sheet.now i
+    ensures stop { IfErr result (λ stop. IsStop (IsFontOf (D.library desk.old) (D.units desk.old))
+        index.now sheet.now i
         stop (D.asked desk.old) (D.asked desk.new)) }
 
     // What the desk's seat did for these keys.
-    ensures trail { TrailGrew (IsWhole result) (D.asked desk.old) (D.asked desk.new) (D.trail desk.old) (D.trail desk.new) }
+    ensures trail { TrailGrew (IsWhole result) (D.asked desk.old) (D.asked desk.new)
+        (D.trail desk.old) (D.trail desk.new) }
 {
     let mut pen = Pen::new(alloc, index.conv());
     let Ok(mut expander) = Expander::new(alloc, index, i) else {
@@ -102,9 +108,10 @@ pub fn draw_on<R: Wait, D: Desk>(
 
 /// Draws the page of a document with a number, from 0, on a sheet, with the fonts of a desk.
 ///
-/// A page's fault is the first of its list: a fault of the page's commands or fonts where it stands, or a
-/// command that the pen can't take, or registers that are still saved at the page's end. `SourceFault`
-/// comes only where the desk's source failed in this call, and `NoMemory` where memory was wanting.
+/// A page's fault is the first of its list: a fault of the page's commands or fonts where it
+/// stands, or a command that the pen can't take, or registers that are still saved at the page's
+/// end. `SourceFault` comes only where the desk's source failed in this call, and `NoMemory` where
+/// memory ran out.
 ///
 /// Knuth, DVItype, "Translation to symbolic form".
 pub fn draw<R: Wait, D: Desk>(
@@ -119,7 +126,8 @@ pub fn draw<R: Wait, D: Desk>(
     requires page { i < pages_begun index.now.reading }
     requires sheet { IsDrawable sheet.now }
     requires fits { D.fits desk.old shared.now }
-    requires units { IfSome (D.units desk.old) (λ u. document_units index.now.res index.now.reading ≡ Some u) }
+    requires units { IfSome (D.units desk.old) (λ u. document_units index.now.res index.now.reading
+        ≡ Some u) }
     requires room { 2 ^ 24 ≤ D.room desk.old }
 
     // What the desk is afterwards.
@@ -127,18 +135,23 @@ pub fn draw<R: Wait, D: Desk>(
     ensures room { D.room desk.old ≤ D.room desk.new + 2 ^ 24 }
     ensures library { D.library desk.new ≡ D.library desk.old }
     ensures units { D.units desk.new ≡ D.units desk.old }
-    ensures cause { HasCause (D.faults desk.old) (D.faults desk.new) (IsErrOf result PageStop.SourceFault) }
+    ensures cause { HasCause (D.faults desk.old) (D.faults desk.new)
+        (IsErrOf result PageStop.SourceFault) }
 
     // The bitmap or the first fault is the page's, and the keys asked for are its look-ups.
-    ensures drawn { IfOk result (λ page. IsDrawn (IsFontOf (D.library desk.old) (D.units desk.old)) index.now sheet.now i
+    ensures drawn { IfOk result (λ page. IsDrawn (IsFontOf (D.library desk.old) (D.units desk.old))
+        index.now sheet.now i
         (Ok page) (D.asked desk.old) (D.asked desk.new)) }
-    ensures stop { IfErr result (λ stop. IsStop (IsFontOf (D.library desk.old) (D.units desk.old)) index.now sheet.now i
+    ensures stop { IfErr result (λ stop. IsStop (IsFontOf (D.library desk.old) (D.units desk.old))
+        index.now sheet.now i
         stop (D.asked desk.old) (D.asked desk.new)) }
 
     // What the desk's seat did for these keys.
-    ensures trail { TrailGrew (IsWhole result) (D.asked desk.old) (D.asked desk.new) (D.trail desk.old) (D.trail desk.new) }
+    ensures trail { TrailGrew (IsWhole result) (D.asked desk.old) (D.asked desk.new)
+        (D.trail desk.old) (D.trail desk.new) }
 {
-    // A document has units, so where memory is wanting its page was broken off before its first command.
+    // A document has units, so where memory runs out its page was broken off before its first
+    // command.
     let _conv = index.conv();
     let Ok(page) = Page::blank(alloc, sheet.width, sheet.height) else {
         return Err(PageStop::NoMemory);

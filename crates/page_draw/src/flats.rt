@@ -43,8 +43,8 @@ fn glyph_of<'e>(expander: &'e Expander, flat: &Flat) -> Option<&'e Glyph>
     glyph_at(expander, *code)
 }
 
-// Where a glyph's upper left pixel stands on the sheet, across or down, whose reference pixel stands at
-// this place.
+// Where a glyph's upper left pixel stands on the sheet, across or down, whose reference pixel
+// stands at this place.
 #[inline(always)]
 fn placed(place: i64, offset: i32, margin: u32) -> i64
     requires near { IsPlaceable place }
@@ -91,13 +91,16 @@ fn draw_one(
 ) -> Result<(), PageStop>
     requires sheet { IsDrawable sheet.now }
     requires reach { IsInReach (seen_flat flat.now) }
-    ensures moved { IfOk result (λ _. after pen.old.conv pen.old.state (seen_flat flat.now) ≡ Ok pen.new.state) }
+    ensures moved { IfOk result (λ _. after pen.old.conv pen.old.state (seen_flat flat.now)
+        ≡ Ok pen.new.state) }
     ensures inked { IfOk result (λ _. (done : List Inked)
         → page.old ≡ page_of sheet.now.width sheet.now.height done
         → page.new ≡ page_of sheet.now.width sheet.now.height (done ++ inks_of sheet.now
-        (mark_of pen.old.conv pen.old.state.now (seen_flat flat.now)) (glyph_for expander.now (seen_flat flat.now)))) }
+        (mark_of pen.old.conv pen.old.state.now (seen_flat flat.now))
+        (glyph_for expander.now (seen_flat flat.now)))) }
     ensures conv { pen.new.conv ≡ pen.old.conv }
-    ensures stop { IfErr result (IsPenStop (after pen.old.conv pen.old.state (seen_flat flat.now)) expander.now.at) }
+    ensures stop { IfErr result (IsPenStop (after pen.old.conv pen.old.state (seen_flat flat.now))
+        expander.now.at) }
 {
     match pen.step(flat) {
         Ok(mark) => {
@@ -123,14 +126,17 @@ fn draw_plain(
 ) -> Result<(), PageStop>
     requires sheet { IsDrawable sheet.now }
     requires reach { IsNumber plain.width }
-    ensures moved { IfOk result (λ _. (key : FontKey) → after pen.old.conv pen.old.state (Char key plain.code plain.width false) ≡ Ok pen.new.state) }
+    ensures moved { IfOk result (λ _. (key : FontKey) → after pen.old.conv pen.old.state
+        (Char key plain.code plain.width false) ≡ Ok pen.new.state) }
     ensures inked { IfOk result (λ _. (key : FontKey) (done : List Inked)
         → page.old ≡ page_of sheet.now.width sheet.now.height done
         → page.new ≡ page_of sheet.now.width sheet.now.height (done ++ inks_of sheet.now
-        (mark_of pen.old.conv pen.old.state.now (Char key plain.code plain.width false)) (glyph_in (marked_font expander.now) plain.code))) }
+        (mark_of pen.old.conv pen.old.state.now (Char key plain.code plain.width false))
+        (glyph_in (marked_font expander.now) plain.code))) }
     ensures conv { pen.new.conv ≡ pen.old.conv }
     ensures stop { IfErr result (λ stop. (key : FontKey)
-        → IsPenStop (after pen.old.conv pen.old.state (Char key plain.code plain.width false)) expander.now.at stop) }
+        → IsPenStop (after pen.old.conv pen.old.state (Char key plain.code plain.width false))
+        expander.now.at stop) }
 {
     match pen.set(plain.width) {
         Ok(mark) => {
@@ -144,8 +150,9 @@ fn draw_plain(
     }
 }
 
-/// Draws the flat commands that stand next, up to a step of another kind. A page's commands are almost all
-/// of them flat ones: this loop is one for all desks, and what a command passes through stands in it.
+/// Draws the flat commands that stand next, up to a step of another kind. A page's commands are
+/// almost all of them flat ones: this loop is one for all desks, and what a command passes through
+/// stands in it.
 #[inline(never)]
 pub fn draw_flats(
     page: &mut Page,
@@ -154,7 +161,8 @@ pub fn draw_flats(
     expander: &mut Expander,
 ) -> Result<Step, PageStop>
     requires sheet { IsDrawable sheet.now }
-    ensures drawn { OnOk result (GoesOn pen.old.conv sheet.now (left expander.old) pen.old.state page.old
+    ensures drawn { OnOk result (GoesOn pen.old.conv sheet.now (left expander.old)
+        pen.old.state page.old
         (left expander.new) pen.new.state page.new) }
     ensures conv { OnOk result (pen.new.conv ≡ pen.old.conv) }
     ensures asks { OnOk result (asks_left expander.new ≤ asks_left expander.old) }
@@ -164,7 +172,8 @@ pub fn draw_flats(
     ensures next { IfOk result (λ step. Steps expander.new step expander.new) }
     ensures fits { IfOk result (λ step. Fits step expander.new) }
     ensures source { IsErrOf result PageStop.SourceFault → ⊥ }
-    ensures stop { IfErr result (StopsSo pen.old.conv sheet.now (left expander.old) pen.old.state page.old) }
+    ensures stop { IfErr result (StopsSo pen.old.conv sheet.now (left expander.old)
+        pen.old.state page.old) }
 {
     'flats: loop {
         if let Some(plain) = expander.next_plain() {

@@ -15,7 +15,8 @@ use font_decode::{Decoded, DeskStop};
 use outside::FontKey;
 use std::sync::Arc;
 
-/// Hands the font of the claimed key in, and gives it back; where memory is wanting it gives the claim up.
+/// Hands the font of the claimed key in, and gives it back; where memory runs out it gives the
+/// claim up.
 pub fn keep(
     cache: &mut CacheState<Decoded>,
     key: &Arc<FontKey>,
@@ -29,7 +30,8 @@ pub fn keep(
     ensures same { IfOk result (λ kept. arc_value kept ≡ arc_value font) }
     ensures filled { IfOk result (λ _. (gone : Option FontKey)
         × (cache.new.history ≡ cache.old.history ++ call 1 (arc_value key.now) (Filled gone) ∷ [])) }
-    ensures released { OnErr result (cache.new.history ≡ cache.old.history ++ call 1 (arc_value key.now) Released ∷ []) }
+    ensures released { OnErr result (cache.new.history ≡ cache.old.history ++ call 1
+        (arc_value key.now) Released ∷ []) }
     ensures stands { (part : Common) → StateStands stands_so cache.old part
         → IsFontOf part.library (Some part.units) (arc_value key.now) (arc_value font)
         → StateStands stands_so cache.new part }

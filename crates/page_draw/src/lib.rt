@@ -1,6 +1,6 @@
-//! One page over any desk of fonts: the expander's flat commands move the pen, and its marks are set on
-//! the sheet. `PlainDesk` is a desk that loads and decodes a font each time it is asked for one, and
-//! `SoloDesk` keeps fonts in a cache.
+//! One page over any desk of fonts: the expander's flat commands move the pen, and its marks are
+//! set on the sheet. `PlainDesk` is a desk that loads and decodes a font each time it is asked for
+//! one, and `SoloDesk` keeps fonts in a cache.
 #![tactic(auto)]
 
 mod drawing;

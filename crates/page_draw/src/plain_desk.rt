@@ -10,8 +10,8 @@ use std::alloc::Global;
 use std::marker::Model;
 use std::sync::{Arc, Wait};
 
-/// A desk that loads and decodes a font each time it is asked for one. It tells the library of its source,
-/// where that tells one, and the units; not which keys were asked for.
+/// A desk that loads and decodes a font each time it is asked for one. It tells the library of its
+/// source, where that tells one, and the units; not which keys were asked for.
 #[derive(Drop)]
 pub struct PlainDesk<F: FontSource> {
     source: F,

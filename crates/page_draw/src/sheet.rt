@@ -1,7 +1,7 @@
 //! The sheet that a page is drawn on.
 
-/// A sheet: its sides, from 1 to 20,000, and its margins, from 0 to 20,000, in dots. The margins are added
-/// to each column and each row.
+/// A sheet: its sides, from 1 to 20,000, and its margins, from 0 to 20,000, in dots. The margins
+/// are added to each column and each row.
 #[derive(Clone, Copy, Debug, PartialEq, Eq)]
 pub struct Sheet {
     pub width: u32,

@@ -21,8 +21,8 @@ use std::alloc::{AllocError as NoMemory, Global};
 use std::marker::Model;
 use std::sync::{Arc, Wait};
 
-/// A desk that keeps fonts in a cache, whose only seat it has, with number 1. It tells the library of its source,
-/// where that tells one, the units, the keys asked for, and the calls of its seat.
+/// A desk that keeps fonts in a cache, whose only seat it has, with number 1. It tells the library
+/// of its source, where that tells one, the units, the keys asked for, and the calls of its seat.
 #[derive(Drop)]
 pub struct SoloDesk<F: FontSource> {
     source: F,
@@ -41,8 +41,8 @@ impl<F: FontSource> Model for SoloDesk<F> {
 }
 
 impl<F: FontSource> SoloDesk<F> {
-    /// A desk over a source, for the units of a document, with a cache of so many fonts at most: 1 to 256.
-    /// `NoMemory` lets the source go.
+    /// A desk over a source, for the units of a document, with a cache of n fonts at most: 1 to
+    /// 256. `NoMemory` lets the source go.
     pub fn new(
         alloc: Global,
         source: F,
@@ -134,8 +134,10 @@ fn ask<F: FontSource>(
     ensures turns { cache.new.turns ≤ cache.old.turns + 3 }
     ensures cause { HasCause (F.faults source.old) (F.faults source.new)
         (IsErrOf result DeskStop.SourceFault) }
-    ensures asked { OnOk result (GrewBy (asked_by cache.old) (asked_by cache.new) (arc_value key.now ∷ [])) }
-    ensures refused { OnErr result (GrewByAtMost (asked_by cache.old) (asked_by cache.new) (arc_value key.now)) }
+    ensures asked { OnOk result (GrewBy (asked_by cache.old) (asked_by cache.new)
+        (arc_value key.now ∷ [])) }
+    ensures refused { OnErr result (GrewByAtMost (asked_by cache.old) (asked_by cache.new)
+        (arc_value key.now)) }
     ensures trail { TrailGrew (IsOk result) (asked_by cache.old) (asked_by cache.new)
         (trail_by (F.loads source.old) cache.old) (trail_by (F.loads source.new) cache.new) }
 {

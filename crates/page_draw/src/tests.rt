@@ -11,7 +11,8 @@ use std::alloc::Global;
 use std::test::Fail;
 use vf_expand::PageFault;
 
-/// What a page came to: its rows, or why and where it stopped, with the number that the fault names.
+/// What a page came to: its rows, or why and where it stopped, with the number that the fault
+/// names.
 #[derive(Drop)]
 pub struct Outcome {
     pub rows: Vec<u8>,

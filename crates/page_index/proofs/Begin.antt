@@ -18,7 +18,7 @@ use Rattle.dvi_commands.proofs.Told.{told_by_bytes}
 use Rattle.page_index.specs.Judged.{preamble_fault, preamble_fields}
 use Rattle.page_index.specs.Document.{context_after, is_bop, is_post, is_postpost, key_or, preamble_or, whole_fault}
 use Rattle.page_index.specs.Fonts.{Fonts}
-use Rattle.page_index.specs.Walked.{IsBegun, IsReadTo, behind_preamble}
+use Rattle.page_index.specs.Walked.{IsBegun, IsReadTo, after_preamble}
 use Rattle.page_index.specs.declared.faults.DocFault.{DocFault}
 use Rattle.page_index.specs.declared.preamble.Scaled.{Scaled}
 use Rattle.page_index.proofs.Fields.{AllThere, preamble_same, preamble_there}
@@ -61,7 +61,7 @@ is_pre (b ∷ fields) c h op =
     let first : b ≡ 247 = op in
     (_, told_by_bytes c (b ∷ fields) h ∙ ap (λ (n : ℕ). command_of (n ∷ fields)) first)
 
--- a number of four bytes at the front is read again
+-- a number of four bytes at the beginning is read again
 four : (z : ℤ) (more : List ℕ) → IsSigned 4 z → signed_of (take 4 (quad z ++ more)) ≡ z
 four z more h = ap signed_of (take_at (quad z) more 4 (length-number_bytes 4 z (omega arith) (omega arith))) ∙ signed_is_read_again 4 z (omega arith) (omega arith) h
 
@@ -76,15 +76,15 @@ module _ (bytes : List ℕ) (s : Scaled) (b : IsBegun bytes s) (c : DviCommand) 
   is_247 : slice_index bytes 0 ≡ 247
   is_247 = eqb-true (slice_index bytes 0) 247 allowed
 
-  front : (text more : List ℕ) → 0 < length text → slice_index (text ++ more) 0 ≡ slice_index text 0
-  front [] more h = absurd (omega (arith, h))
-  front (x ∷ text) more h = refl
+  prefix : (text more : List ℕ) → 0 < length text → slice_index (text ++ more) 0 ≡ slice_index text 0
+  prefix [] more h = absurd (omega (arith, h))
+  prefix (x ∷ text) more h = refl
 
   size : length q.bytes ≡ next
   size = grind (arith, length-take, length-drop)
 
   op : slice_index q.bytes 0 ≡ 247
-  op = sym (front q.bytes (drop next bytes) (omega (arith, size, some))) ∙ ap (λ (t : List ℕ). slice_index t 0) (sym whole) ∙ is_247
+  op = sym (prefix q.bytes (drop next bytes) (omega (arith, size, some))) ∙ ap (λ (t : List ℕ). slice_index t 0) (sym whole) ∙ is_247
 
   pre : (p : Preamble) × (c ≡ Pre p)
   pre = is_pre q.bytes c spelled op
@@ -112,7 +112,7 @@ module _ (bytes : List ℕ) (s : Scaled) (b : IsBegun bytes s) (c : DviCommand) 
   mag : signed_at bytes 10 4 ≡ p.mag
   mag = ap (λ (t : List ℕ). signed_at t 10 4) all ∙ four p.mag [] text.1.4
 
-  pub begun : (fonts : Fonts) → fonts ≡ empty → IsReadTo bytes s (behind_preamble next) [] fonts
+  pub begun : (fonts : Fonts) → fonts ≡ empty → IsReadTo bytes s (after_preamble next) [] fonts
   begun fonts none = record {
     reading = q ∷ [];
     fits = b.fits;

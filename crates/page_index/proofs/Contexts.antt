@@ -28,7 +28,7 @@ pub says_of : (r : Reading) → SaysOf (context_after r) r
 says_of [] = refl
 says_of (p ∷ before) = said_of (p ∷ before) (is_post_read (p ∷ before)) (is_page_open (p ∷ before)) refl refl
 
--- the context behind one command more
+-- the context after one command more
 pub context_next : (q : Placed) (r : Reading) (post open_page : Bool) → (is_post q.command || is_post_read r) ≡ post → (is_bop q.command || not (is_eop q.command) && is_page_open r) ≡ open_page
     → by_tests post open_page ≡ context_after (q ∷ r)
 context_next q r post open_page p o = rw (p, o) refl
@@ -65,19 +65,19 @@ on_page context.Page h = refl
 on_page context.Packet h = cc
 on_page context.Post h = cc
 
-pub behind_pages : (place : Context) → IsTrue (may_stand place 248) → place ≡ context.Between
-behind_pages context.Start h = cc
-behind_pages context.Between h = refl
-behind_pages context.Page h = cc
-behind_pages context.Packet h = cc
-behind_pages context.Post h = cc
+pub after_pages : (place : Context) → IsTrue (may_stand place 248) → place ≡ context.Between
+after_pages context.Start h = cc
+after_pages context.Between h = refl
+after_pages context.Page h = cc
+after_pages context.Packet h = cc
+after_pages context.Post h = cc
 
-pub behind_post : (place : Context) → IsTrue (may_stand place 249) → place ≡ context.Post
-behind_post context.Start h = cc
-behind_post context.Between h = cc
-behind_post context.Page h = cc
-behind_post context.Packet h = cc
-behind_post context.Post h = refl
+pub after_post : (place : Context) → IsTrue (may_stand place 249) → place ≡ context.Post
+after_post context.Start h = cc
+after_post context.Between h = cc
+after_post context.Page h = cc
+after_post context.Packet h = cc
+after_post context.Post h = refl
 
 -- a command with the opcode 247 is a preamble
 abbrev pub is_pre : DviCommand → Bool

@@ -16,7 +16,7 @@ use Rattle.dvi_commands.specs.declared.command.Context.TheVariants as context
 use Rattle.page_index.specs.Judged.{is_filler, tail_fault}
 use Rattle.page_index.specs.Limits.{LONGEST}
 use Rattle.page_index.specs.Document.{IsDocument, Reading, Sound, context_after, end_of, is_ended, is_post_read, is_postpost, pages_begun, text_of, units_of}
-use Rattle.page_index.specs.Faults.{FaultAfter, FaultBehind, IsFirstFault}
+use Rattle.page_index.specs.Faults.{FaultAfterCommand, FaultAfter, IsFirstFault}
 use Rattle.page_index.specs.Fonts.{Fonts}
 use Rattle.page_index.specs.Pages.{Indexed, eop_at, is_page, page_commands, reading_to}
 use Rattle.page_index.specs.Walked.{IsIndex, IsReadTo, IsScaled, IsSpan, Runs, one_if}
@@ -24,7 +24,7 @@ use Rattle.page_index.specs.declared.faults.DocFault.{DocFault}
 use Rattle.page_index.specs.declared.preamble.Scaled.{Scaled}
 use Rattle.page_index.specs.declared.progress.Progress.{Progress}
 use Rattle.page_index.specs.declared.progress.PageSpan.{PageSpan}
-use Rattle.page_index.proofs.Contexts.{SaysOf, behind_post, says_of}
+use Rattle.page_index.proofs.Contexts.{SaysOf, after_post, says_of}
 use Rattle.page_index.proofs.Filler.{filler_is, tail_right}
 use Rattle.page_index.proofs.FontKeys.{fonts_fit}
 use Rattle.page_index.proofs.Runs.{runs_more, runs_placed, runs_read}
@@ -46,10 +46,10 @@ all_run res (p ∷ before) s =
 
 pub reading_is : (res : ℕ) (bytes rest : List ℕ) (r : Reading) (end : ℕ) → Sound res r → text_of r ++ rest ≡ bytes → end ≡ end_of r → reading_to bytes end ≡ r
 reading_is res bytes rest r end s text at =
-    let front : take end bytes ≡ text_of r = ap (take end) (sym text) ∙ take_at (text_of r) rest end (text_length res r s ∙ sym at) in
-    ap (λ (t : List ℕ). reverse (placed_from 0 t)) front ∙ ap reverse (runs_placed 0 (reverse r) (text_of r) (all_run res r s)) ∙ reverse-reverse r
+    let prefix : take end bytes ≡ text_of r = ap (take end) (sym text) ∙ take_at (text_of r) rest end (text_length res r s ∙ sym at) in
+    ap (λ (t : List ℕ). reverse (placed_from 0 t)) prefix ∙ ap reverse (runs_placed 0 (reverse r) (text_of r) (all_run res r s)) ∙ reverse-reverse r
 
--- no page is open behind PostPost
+-- no page is open after PostPost
 its_parts : (c : DviCommand) → is_postpost c ≡ true → (x : ℤ) × (id : ℕ) × (c ≡ PostPost x id)
 its_parts (PostPost x id) e = (x, id, refl)
 its_parts _ e = cc
@@ -60,7 +60,7 @@ post_is_read res (q ∷ before) s e =
     let c = its_parts q.command e in
     let spelled : Spells (PostPost c.0 c.1) q.bytes = subst (λ (x : DviCommand). Spells x q.bytes) c.2 s.1.spelled in
     let op : slice_index q.bytes 0 ≡ 249 = ap (λ (t : List ℕ). slice_index t 0) spelled.2 in
-    let place : context_after before ≡ context.Post = behind_post (context_after before) (subst (λ (n : ℕ). IsTrue (may_stand (context_after before) n)) op s.1.allowed) in
+    let place : context_after before ≡ context.Post = after_post (context_after before) (subst (λ (n : ℕ). IsTrue (may_stand (context_after before) n)) op s.1.allowed) in
     let says : SaysOf context.Post before = subst (λ (x : Context). SaysOf x before) place (says_of before) in
     rw (c.2, says) refl
 
@@ -74,17 +74,17 @@ module _ (bytes : List ℕ) (s : Scaled) (p : Progress) (pages : List PageSpan) 
   ended_so : is_ended w.reading ≡ true
   ended_so = sym w.follows.ended ∙ ended
 
-  -- something is wrong behind PostPost
+  -- something is wrong after PostPost
   pub tail_is_fault : (g : DocFault) → tail_fault p.at (drop p.at bytes) ≡ Some g → IsFirstFault s.units.res bytes g
-  tail_is_fault g h = inr (w.fits, w.reading, drop p.at bytes, w.sound, sym w.text, behind w.reading ended_so (ap (λ (n : ℕ). tail_fault n (drop p.at bytes)) (sym w.follows.at) ∙ h))
+  tail_is_fault g h = inr (w.fits, w.reading, drop p.at bytes, w.sound, sym w.text, after w.reading ended_so (ap (λ (n : ℕ). tail_fault n (drop p.at bytes)) (sym w.follows.at) ∙ h))
     where
-      after : (reading : Reading) (c : DviCommand) → is_postpost c ≡ true → tail_fault (end_of reading) (drop p.at bytes) ≡ Some g → FaultAfter s.units.res reading c (drop p.at bytes) g
-      after reading (PostPost q id) e h = h
-      after reading _ e h = cc
+      after_command : (reading : Reading) (c : DviCommand) → is_postpost c ≡ true → tail_fault (end_of reading) (drop p.at bytes) ≡ Some g → FaultAfterCommand s.units.res reading c (drop p.at bytes) g
+      after_command reading (PostPost q id) e h = h
+      after_command reading _ e h = cc
 
-      behind : (reading : Reading) → is_ended reading ≡ true → tail_fault (end_of reading) (drop p.at bytes) ≡ Some g → FaultBehind s.units.res reading (drop p.at bytes) g
-      behind [] e h = cc
-      behind (q ∷ before) e h = after (q ∷ before) q.command e h
+      after : (reading : Reading) → is_ended reading ≡ true → tail_fault (end_of reading) (drop p.at bytes) ≡ Some g → FaultAfter s.units.res reading (drop p.at bytes) g
+      after [] e h = cc
+      after (q ∷ before) e h = after_command (q ∷ before) q.command e h
 
   pub document : tail_fault p.at (drop p.at bytes) ≡ None → IsDocument s.units.res bytes w.reading
   document h =

@@ -1,4 +1,5 @@
--- Fields that are judged one by one: where they are all there, and that bytes behind them change nothing.
+-- Fields that are judged one by one: where they are all there, and that bytes after them change
+-- nothing.
 use Rattle.std.proofs.Common.{◌≡◌, ℕ, ◌+◌, ◌≤◌, ℤ, Bool, true, false, cond, List, [], ◌∷◌, ◌++◌, length, Option, Some, None, refl, sym, ap, ◌∙◌, arith}
 use Rattle.std.specs.Prelude.{◌||◌, nat_lt, is_some}
 use Rattle.std.proofs.lemmas.Bool.{le-ltb}
@@ -16,9 +17,9 @@ abbrev pub AllThere : {F : Type 0} → ℕ → List (Field F) → Type 0
 AllThere len [] = Unit {0}
 AllThere len (f ∷ fields) = (f.until ≤ len) × AllThere len fields
 
-judge_whole : {F : Type 0} (len : ℕ) (wanting : F) (fields : List (Field F)) → AllThere len fields → judge len wanting fields ≡ first_wrong fields
-judge_whole len wanting [] h = refl
-judge_whole len wanting (f ∷ fields) h = rw (le-ltb len f.until h.0) (ap (λ x. cond f.right x f.fault) (judge_whole len wanting fields h.1))
+judge_whole : {F : Type 0} (len : ℕ) (missing : F) (fields : List (Field F)) → AllThere len fields → judge len missing fields ≡ first_wrong fields
+judge_whole len missing [] h = refl
+judge_whole len missing (f ∷ fields) h = rw (le-ltb len f.until h.0) (ap (λ x. cond f.right x f.fault) (judge_whole len missing fields h.1))
 
 -- ---- where nothing is wrong all fields are there
 
@@ -30,12 +31,12 @@ AreNamed (f ∷ fields) = ((is_some f.fault || f.right) ≡ true) × AreNamed fi
 ltb-false : (a b : ℕ) → nat_lt a b ≡ false → b ≤ a
 ltb-false a b h = grind arith
 
-pub all_there : {F : Type 0} (len : ℕ) (wanting : F) (fields : List (Field F)) → AreNamed fields → judge len wanting fields ≡ None → AllThere len fields
-all_there len wanting [] named h = tt
-all_there len wanting (f ∷ fields) named h = by (nat_lt len f.until) refl f.right f.fault named.0 h (all_there len wanting fields named.1)
+pub all_there : {F : Type 0} (len : ℕ) (missing : F) (fields : List (Field F)) → AreNamed fields → judge len missing fields ≡ None → AllThere len fields
+all_there len missing [] named h = tt
+all_there len missing (f ∷ fields) named h = by (nat_lt len f.until) refl f.right f.fault named.0 h (all_there len missing fields named.1)
   where
-    by : (less : Bool) → nat_lt len f.until ≡ less → (right : Bool) (fault : Option _) → (is_some fault || right) ≡ true → cond less (Some wanting) (cond right (judge len wanting fields) fault) ≡ None
-        → (judge len wanting fields ≡ None → AllThere len fields) → (f.until ≤ len) × AllThere len fields
+    by : (less : Bool) → nat_lt len f.until ≡ less → (right : Bool) (fault : Option _) → (is_some fault || right) ≡ true → cond less (Some missing) (cond right (judge len missing fields) fault) ≡ None
+        → (judge len missing fields ≡ None → AllThere len fields) → (f.until ≤ len) × AllThere len fields
     by true e right fault n h rest = cc
     by false e true fault n h rest = (ltb-false len f.until e, rest h)
     by false e false None n h rest = cc
@@ -47,7 +48,7 @@ preamble_there res bytes h = all_there (length bytes) (Truncated (length bytes))
 pub postpost_there : (post : Option ℕ) (at : ℕ) (bytes : List ℕ) → postpost_fault post at bytes ≡ None → AllThere (length bytes) (postpost_fields post at bytes)
 postpost_there post at bytes h = all_there (length bytes) (Truncated (at + length bytes)) (postpost_fields post at bytes) (refl, (refl, (refl, tt))) h
 
--- ---- bytes behind
+-- ---- bytes after
 
 pub preamble_same : (res : ℕ) (p : Preamble) (more : List ℕ) → preamble_fault res (spelling (Pre p) 0 ++ more) ≡ preamble_fault res (spelling (Pre p) 0)
 preamble_same res p more =

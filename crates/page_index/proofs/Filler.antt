@@ -1,4 +1,4 @@
--- What stands behind PostPost.
+-- What stands after PostPost.
 use Rattle.std.proofs.Common.{◌≡◌, ℕ, suc, ◌+◌, ◌≤◌, ◌<◌, Bool, true, false, cond, List, [], ◌∷◌, length, refl, ap, arith, eqb-true, sym, ◌∙◌, length-take}
 use Rattle.std.specs.Prelude.{◌==◌, ◌&&◌, not, if◌then◌else◌, nat_lt, replicate, Some, None}
 use Rattle.std.proofs.lemmas.Bool.{le-ltb, lt-ltb, ltb-false}
@@ -7,16 +7,16 @@ use Rattle.page_index.specs.Judged.{is_filler, tail_fault}
 use Rattle.page_index.specs.declared.faults.DocFault.{DocFault}
 use Rattle.page_index.specs.declared.faults.DocFault.TheVariants.{Trailer, Truncated}
 
-front_within : (bytes : List ℕ) → prefix_len is_filler bytes ≤ length bytes
-front_within [] = omega arith
-front_within (b ∷ bytes) = by (b == 223) (front_within bytes)
+prefix_within : (bytes : List ℕ) → prefix_len is_filler bytes ≤ length bytes
+prefix_within [] = omega arith
+prefix_within (b ∷ bytes) = by (b == 223) (prefix_within bytes)
   where
     by : (is : Bool) → prefix_len is_filler bytes ≤ length bytes → cond is (1 + prefix_len is_filler bytes) 0 ≤ suc (length bytes)
     by true h = omega (arith, h)
     by false h = omega arith
 
-front_length : (bytes : List ℕ) → length (take_while is_filler bytes) ≡ prefix_len is_filler bytes
-front_length bytes = grind (arith, length-take, front_within bytes)
+prefix_length : (bytes : List ℕ) → length (take_while is_filler bytes) ≡ prefix_len is_filler bytes
+prefix_length bytes = grind (arith, length-take, prefix_within bytes)
 
 all_fill : (bytes : List ℕ) → prefix_len is_filler bytes ≡ length bytes → list_all is_filler bytes ≡ true
 all_fill [] h = refl
@@ -34,12 +34,12 @@ not_all_fill (b ∷ bytes) h = by (b == 223) h (not_all_fill bytes)
     by true h rest = rest (omega (arith, h))
     by false h rest = refl
 
--- all bytes are filler where the filler at their front is as long as they are
+-- all bytes are filler where the filler at their beginning is as long as they are
 pub all_by_length : (bytes : List ℕ) → length (take_while is_filler bytes) ≡ length bytes → list_all is_filler bytes ≡ true
-all_by_length bytes h = all_fill bytes (sym (front_length bytes) ∙ h)
+all_by_length bytes h = all_fill bytes (sym (prefix_length bytes) ∙ h)
 
 pub not_all_by_length : (bytes : List ℕ) → length (take_while is_filler bytes) < length bytes → list_all is_filler bytes ≡ false
-not_all_by_length bytes h = not_all_fill bytes (omega (arith, h, front_length bytes))
+not_all_by_length bytes h = not_all_fill bytes (omega (arith, h, prefix_length bytes))
 
 pub filler_is : (bytes : List ℕ) → list_all is_filler bytes ≡ true → bytes ≡ replicate (length bytes) 223
 filler_is [] h = refl
@@ -51,7 +51,7 @@ filler_is (b ∷ bytes) h = by (b == 223) refl h (filler_is bytes)
         ap (λ (x : ℕ). x ∷ bytes) first ∙ ap (λ (t : List ℕ). 223 ∷ t) (rest h)
     by false e h rest = cc
 
--- ---- by the length of the filler at the front
+-- ---- by the length of the filler at the beginning
 
 module _ (at : ℕ) (rest : List ℕ) (n : ℕ) (is : n ≡ length (take_while is_filler rest)) where
   pub wrong_byte : n < length rest → tail_fault at rest ≡ Some (Trailer (at + n))

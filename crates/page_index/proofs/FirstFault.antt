@@ -8,7 +8,7 @@ use Rattle.dvi_commands.specs.Refusal.{may_stand, refusal}
 use Rattle.dvi_commands.specs.Reading.{Placed, command_of}
 use Rattle.page_index.specs.Judged.{is_filler, preamble_fault, postpost_fault, tail_fault}
 use Rattle.page_index.specs.Document.{Reading, text_of, end_of, context_after, post_at, Sound, IsSound, is_postpost, is_ended, whole_fault}
-use Rattle.page_index.specs.Faults.{FaultBehind, FaultAfter, FaultWithin, FaultAtCommand, as_doc_fault, is_postpost_at}
+use Rattle.page_index.specs.Faults.{FaultAfter, FaultAfterCommand, FaultWithin, FaultAtCommand, as_doc_fault, is_postpost_at}
 use Rattle.page_index.specs.Laws.{DocumentsHaveNoFault, FirstFaultsAreOne, DocumentsHaveOneReading}
 use Rattle.dvi_commands.specs.declared.command.CommandFault.{CommandFault}
 use Rattle.page_index.specs.declared.faults.DocFault.{DocFault}
@@ -16,7 +16,7 @@ use Rattle.dvi_commands.proofs.Prefix.{no_spelling_begins_another}
 use Rattle.dvi_commands.proofs.Told.{spelling_tells_the_command, told_by_bytes}
 use Rattle.dvi_commands.proofs.Refusals.{spelled_is_not_refused, spelled_some}
 use Rattle.page_index.proofs.Fields.{postpost_same, preamble_same}
-use Rattle.page_index.proofs.Readings.{Begins, readings_agree, split_last, sound_older, text_behind, cancelled}
+use Rattle.page_index.proofs.Readings.{Begins, readings_agree, split_last, sound_older, text_after, cancelled}
 
 -- ---- the command of a first byte
 
@@ -93,12 +93,12 @@ no_fault_within res r q more f h e =
       | inr not_here ↦ no_command_fault res r q more f h (MatchBool-at_false _ _ not_here e)
     ]
 
--- behind a command that is not PostPost
-within : (res : ℕ) (r : Reading) (c : DviCommand) (rest : List ℕ) (f : DocFault) → is_postpost c ≡ false → FaultAfter res r c rest f → FaultWithin res r rest f
+-- after a command that is not PostPost
+within : (res : ℕ) (r : Reading) (c : DviCommand) (rest : List ℕ) (f : DocFault) → is_postpost c ≡ false → FaultAfterCommand res r c rest f → FaultWithin res r rest f
 within res r (PostPost q id) rest f e h = absurd cc
 within res r _ rest f e h = h
 
-no_fault_there : (res : ℕ) (r : Reading) (q : Placed) (more : List ℕ) (f : DocFault) → IsSound res r q → FaultBehind res r (q.bytes ++ more) f → ⊥
+no_fault_there : (res : ℕ) (r : Reading) (q : Placed) (more : List ℕ) (f : DocFault) → IsSound res r q → FaultAfter res r (q.bytes ++ more) f → ⊥
 no_fault_there res [] q more f h e = no_start_fault res q more f h e
 no_fault_there res (p ∷ before) q more f h e = no_fault_within res (p ∷ before) q more f h (within res (p ∷ before) p.command (q.bytes ++ more) f h.unfinished e)
 
@@ -121,39 +121,39 @@ long_filler n h = le-ltb (length (filler_bytes n)) 4 (omega (arith, length-fille
 no_tail_fault : (at n : ℕ) → 4 ≤ n → tail_fault at (replicate n 223) ≡ None
 no_tail_fault at n h = rw (all_filler n, long_filler n h) refl
 
--- behind a PostPost
-at_end : (res : ℕ) (r : Reading) (c : DviCommand) (rest : List ℕ) (f : DocFault) → is_postpost c ≡ true → FaultAfter res r c rest f → tail_fault (end_of r) rest ≡ Some f
+-- after a PostPost
+at_end : (res : ℕ) (r : Reading) (c : DviCommand) (rest : List ℕ) (f : DocFault) → is_postpost c ≡ true → FaultAfterCommand res r c rest f → tail_fault (end_of r) rest ≡ Some f
 at_end res r (PostPost q id) rest f e h = h
 at_end res r _ rest f e h = absurd cc
 
-no_fault_at_end : (res : ℕ) (r : Reading) (n : ℕ) (f : DocFault) → is_ended r ≡ true → 4 ≤ n → FaultBehind res r (replicate n 223) f → ⊥
+no_fault_at_end : (res : ℕ) (r : Reading) (n : ℕ) (f : DocFault) → is_ended r ≡ true → 4 ≤ n → FaultAfter res r (replicate n 223) f → ⊥
 no_fault_at_end res [] n f ended h e = absurd cc
 no_fault_at_end res (p ∷ before) n f ended h e = none_is_some _ f (no_tail_fault (end_of (p ∷ before)) n h) (at_end res (p ∷ before) p.command (replicate n 223) f ended e)
 
--- a longer sound reading has a next command behind the shorter one
+-- a longer sound reading has a next command after the shorter one
 next_command : (res : ℕ) (r s : Reading) (n : Placed) (newer : Reading) (x y : List ℕ) → Sound res s → s ≡ (n ∷ newer) ++ r → text_of r ++ x ≡ text_of s ++ y → (q : Placed) × (more : List ℕ) × IsSound res r q × (x ≡ q.bytes ++ more)
 next_command res r s n newer x y sound e same =
     let parts = split_last n newer in
     let q = parts.1 in
     let regrouped : s ≡ parts.0 ++ (q ∷ r) = e ∙ ap (λ t. t ++ r) parts.2 ∙ append_assoc parts.0 (q ∷ []) r in
     let older : Sound res (q ∷ r) = sound_older res parts.0 (q ∷ r) (subst (λ (t : Reading). Sound res t) regrouped sound) in
-    let behind = text_behind parts.0 (q ∷ r) in
-    let text : text_of s ≡ (text_of r ++ q.bytes) ++ behind.0 = ap text_of regrouped ∙ behind.1 in
-    let right : text_of s ++ y ≡ text_of r ++ (q.bytes ++ (behind.0 ++ y)) =
-    ap (λ t. t ++ y) text ∙ append_assoc (text_of r ++ q.bytes) behind.0 y ∙ append_assoc (text_of r) q.bytes (behind.0 ++ y) in
-    (q, behind.0 ++ y, older.1, cancelled (text_of r) x (q.bytes ++ (behind.0 ++ y)) (same ∙ right))
+    let after = text_after parts.0 (q ∷ r) in
+    let text : text_of s ≡ (text_of r ++ q.bytes) ++ after.0 = ap text_of regrouped ∙ after.1 in
+    let right : text_of s ++ y ≡ text_of r ++ (q.bytes ++ (after.0 ++ y)) =
+    ap (λ t. t ++ y) text ∙ append_assoc (text_of r ++ q.bytes) after.0 y ∙ append_assoc (text_of r) q.bytes (after.0 ++ y) in
+    (q, after.0 ++ y, older.1, cancelled (text_of r) x (q.bytes ++ (after.0 ++ y)) (same ∙ right))
 
 ended_is_last : (res : ℕ) (d : Reading) (q : Placed) → is_ended d ≡ true → IsSound res d q → ⊥
 ended_is_last res d q ended h = true≢false (sym ended ∙ h.unfinished)
 
-no_fault : (res n : ℕ) (d r : Reading) (rest : List ℕ) (f : DocFault) → Sound res d → Sound res r → is_ended d ≡ true → 4 ≤ n → text_of d ++ replicate n 223 ≡ text_of r ++ rest → FaultBehind res r rest f → ⊥
+no_fault : (res n : ℕ) (d r : Reading) (rest : List ℕ) (f : DocFault) → Sound res d → Sound res r → is_ended d ≡ true → 4 ≤ n → text_of d ++ replicate n 223 ≡ text_of r ++ rest → FaultAfter res r rest f → ⊥
 no_fault res n d r rest f hd hr ended four same e = by (readings_agree res d r (replicate n 223) rest hd hr same)
   where
     here : r ≡ d → ⊥
     here eq =
         let tail : text_of r ++ rest ≡ text_of r ++ replicate n 223 = sym same ∙ ap (λ t. text_of t ++ replicate n 223) (sym eq) in
         let is : rest ≡ replicate n 223 = cancelled (text_of r) rest (replicate n 223) tail in
-        no_fault_at_end res r n f (ap is_ended eq ∙ ended) four (subst (λ (b : List ℕ). FaultBehind res r b f) is e)
+        no_fault_at_end res r n f (ap is_ended eq ∙ ended) four (subst (λ (b : List ℕ). FaultAfter res r b f) is e)
 
     by : (Begins d r ⊎ Begins r d) → ⊥
     by (inl b) = longer b.0 b.1
@@ -167,7 +167,7 @@ no_fault res n d r rest f hd hr ended four same e = by (readings_agree res d r (
         shorter [] eq = here (sym eq)
         shorter (m ∷ newer) eq =
             let q = next_command res r d m newer rest (replicate n 223) hd eq (sym same) in
-            no_fault_there res r q.0 q.1 f q.2 (subst (λ (b : List ℕ). FaultBehind res r b f) q.3 e)
+            no_fault_there res r q.0 q.1 f q.2 (subst (λ (b : List ℕ). FaultAfter res r b f) q.3 e)
 
 pub documents_have_no_fault : DocumentsHaveNoFault
 documents_have_no_fault res bytes reading f h (inl long) = absurd (omega (arith, h.fits, long.0))
@@ -221,33 +221,33 @@ one_within res r rest f g e h =
       | inr not_here ↦ one_at_command res r rest f g (MatchBool-at_false _ _ not_here e) (MatchBool-at_false _ _ not_here h)
     ]
 
-one_behind : (res : ℕ) (r : Reading) (rest : List ℕ) (f g : DocFault) → FaultBehind res r rest f → FaultBehind res r rest g → f ≡ g
-one_behind res [] rest f g e h = some_is_one _ f g e h
-one_behind res (p ∷ before) rest f g e h =
+one_after : (res : ℕ) (r : Reading) (rest : List ℕ) (f g : DocFault) → FaultAfter res r rest f → FaultAfter res r rest g → f ≡ g
+one_after res [] rest f g e h = some_is_one _ f g e h
+one_after res (p ∷ before) rest f g e h =
     elim (cases_Bool (is_postpost p.command)) [
       | inl last ↦ some_is_one _ f g (at_end res (p ∷ before) p.command rest f last e) (at_end res (p ∷ before) p.command rest g last h)
       | inr not_last ↦ one_within res (p ∷ before) rest f g (within res (p ∷ before) p.command rest f not_last e) (within res (p ∷ before) p.command rest g not_last h)
     ]
 
-one_fault : (res : ℕ) (r s : Reading) (x y : List ℕ) (f g : DocFault) → Sound res r → Sound res s → text_of r ++ x ≡ text_of s ++ y → FaultBehind res r x f → FaultBehind res s y g → f ≡ g
+one_fault : (res : ℕ) (r s : Reading) (x y : List ℕ) (f g : DocFault) → Sound res r → Sound res s → text_of r ++ x ≡ text_of s ++ y → FaultAfter res r x f → FaultAfter res s y g → f ≡ g
 one_fault res r s x y f g hr hs same e h = by (readings_agree res r s x y hr hs same)
   where
     here : s ≡ r → f ≡ g
     here eq =
         let tail : x ≡ y = cancelled (text_of r) x y (same ∙ ap (λ t. text_of t ++ y) eq) in
-        one_behind res r x f g e (subst (λ (t : Reading). FaultBehind res t x g) eq (subst (λ (b : List ℕ). FaultBehind res s b g) (sym tail) h))
+        one_after res r x f g e (subst (λ (t : Reading). FaultAfter res t x g) eq (subst (λ (b : List ℕ). FaultAfter res s b g) (sym tail) h))
 
     by : (Begins r s ⊎ Begins s r) → f ≡ g
     by (inl b) = longer b.0 b.1
       where
         longer : (newer : Reading) → s ≡ newer ++ r → f ≡ g
         longer [] eq = here eq
-        longer (m ∷ newer) eq = let q = next_command res r s m newer x y hs eq same in absurd (no_fault_there res r q.0 q.1 f q.2 (subst (λ (b : List ℕ). FaultBehind res r b f) q.3 e))
+        longer (m ∷ newer) eq = let q = next_command res r s m newer x y hs eq same in absurd (no_fault_there res r q.0 q.1 f q.2 (subst (λ (b : List ℕ). FaultAfter res r b f) q.3 e))
     by (inr b) = shorter b.0 b.1
       where
         shorter : (newer : Reading) → r ≡ newer ++ s → f ≡ g
         shorter [] eq = here (sym eq)
-        shorter (m ∷ newer) eq = let q = next_command res s r m newer y x hr eq (sym same) in absurd (no_fault_there res s q.0 q.1 g q.2 (subst (λ (b : List ℕ). FaultBehind res s b g) q.3 h))
+        shorter (m ∷ newer) eq = let q = next_command res s r m newer y x hr eq (sym same) in absurd (no_fault_there res s q.0 q.1 g q.2 (subst (λ (b : List ℕ). FaultAfter res s b g) q.3 h))
 
 pub first_faults_are_one : FirstFaultsAreOne
 first_faults_are_one res bytes f g (inl e) (inl h) = e.1 ∙ sym h.1

@@ -15,7 +15,7 @@ use Rattle.page_index.specs.Pages.{is_on_page, is_page, page_commands}
 use Rattle.page_index.specs.Walked.{AreOnPage, AreSpans, FillSpan, Follows, IsSpan, Runs, fonts_after, one_if, pages_after, progress_after}
 use Rattle.page_index.specs.declared.progress.Progress.{Progress}
 use Rattle.page_index.specs.declared.progress.PageSpan.{PageSpan}
-use Rattle.page_index.proofs.Contexts.{at_start, between_pages, on_page, behind_pages, behind_post, SaysOf, says_of, context_next, pre_by_opcode, is_pre}
+use Rattle.page_index.proofs.Contexts.{at_start, between_pages, on_page, after_pages, after_post, SaysOf, says_of, context_next, pre_by_opcode, is_pre}
 use Rattle.page_index.proofs.Keys.{keys_more}
 use Rattle.page_index.proofs.Spans.{fills_more, get_push, no_span, none_yet, spans_stay}
 
@@ -187,7 +187,7 @@ module _ (bytes : List ℕ) (p : Progress) (pages : List PageSpan) (fonts : Font
   pub follows_post : (post : Postamble) → q.command ≡ Post post → Follows bytes (progress_after p (Post post) next) pages fonts (q ∷ r)
   follows_post post e =
       let spelled_so : Spells (Post post) q.bytes = subst (λ (c : DviCommand). Spells c q.bytes) e spelled in
-      let here : context_after r ≡ context.Between = behind_pages (context_after r) (opcode 248 (first 248 _ spelled_so.2)) in
+      let here : context_after r ≡ context.Between = after_pages (context_after r) (opcode 248 (first 248 _ spelled_so.2)) in
       let zero_open : one_if (is_page p.context) ≡ 0 = ap one_if (ap is_page (here_is here)) in
       record {
         at = end_is;
@@ -206,7 +206,7 @@ module _ (bytes : List ℕ) (p : Progress) (pages : List PageSpan) (fonts : Font
   pub follows_postpost : (pointer : ℤ) (id : ℕ) → q.command ≡ PostPost pointer id → Follows bytes (progress_after p (PostPost pointer id) next) pages fonts (q ∷ r)
   follows_postpost pointer id e =
       let spelled_so : Spells (PostPost pointer id) q.bytes = subst (λ (c : DviCommand). Spells c q.bytes) e spelled in
-      let here : context_after r ≡ context.Post = behind_post (context_after r) (opcode 249 (first 249 _ spelled_so.2)) in
+      let here : context_after r ≡ context.Post = after_post (context_after r) (opcode 249 (first 249 _ spelled_so.2)) in
       let s : SaysOf context.Post r = says context.Post here in
       record {
         at = end_is;

@@ -44,7 +44,7 @@ fonts_fit res (p ∷ before) s k = by p.command refl (fonts_fit res before s.0 k
     by (Define d) e older = chosen (int_eq d.number k) (key_of d) (font_table before k) (key_fits res before p d s.1 e) older
     by _ e older = older
 
--- what is found behind a reference
+-- what is found after a reference
 pub found_fits : {A : Type 0} (seen : A → FontKey) (found : Option A) (o : Option FontKey) → option_map seen found ≡ o → IfSome o IsFontKey → IfSome found (λ a. IsFontKey (seen a))
 found_fits seen None o e fits = tt
 found_fits seen (Some a) None e fits = cc

@@ -25,7 +25,7 @@ module _ {V W : Type 0} (seen : V → W) where
   map-cond true v o = refl
   map-cond false v o = refl
 
-  -- what is found behind a reference
+  -- what is found after a reference
   pub found-copied : (r : Option (Bor V)) (o : Option V) → option_copied r ≡ o → option_map (λ b. seen b.now) r ≡ option_map seen o
   found-copied None o e = ap (option_map seen) e
   found-copied (Some b) o e = ap (option_map seen) e

@@ -91,7 +91,7 @@ known_key d (Some first) agrees k old e some = elim (cases_Bool (int_eq d.number
   | inr other ↦ sym (ap (λ (b : Bool). if b then Some (key_of d) else old k) other)
 ]
 
--- the table behind a definition that nothing is wrong with
+-- the table after a definition that nothing is wrong with
 pub keys_more : (fonts : Fonts) (r : Reading) (d : Definition) (at : ℕ) → ((k : ℤ) → get fonts k ≡ font_table r k) → define_fault (get fonts d.number) at d ≡ None
     → (k : ℤ) → get (fonts_after fonts (Define d)) k ≡ key_or (font_table r k) k (Define d)
 keys_more fonts r d at keys right k = elim (cases_Bool (is_some (get fonts d.number))) [

@@ -10,7 +10,7 @@ use Rattle.dvi_commands.specs.declared.command.Context.TheVariants as context
 use Rattle.page_index.specs.Document.{IsSound, Reading, Sound, context_after, is_bop, is_eop, is_page_open, is_post, is_post_read, pages_begun}
 use Rattle.page_index.specs.Pages.{eop_at, is_page}
 use Rattle.page_index.specs.Laws.{EachPageEnds}
-use Rattle.page_index.proofs.Contexts.{SaysOf, behind_pages, between_pages, says_of}
+use Rattle.page_index.proofs.Contexts.{SaysOf, after_pages, between_pages, says_of}
 use Rattle.page_index.proofs.Ended.{post_is_read}
 
 says_at : (r : Reading) (place : Context) → context_after r ≡ place → SaysOf place r
@@ -70,12 +70,12 @@ ends_or_open res (q ∷ before) s i h =
       | inr open_page ↦ inr open_page
     ]
 
--- behind the postamble no page is open
+-- after the postamble no page is open
 post_closed : (res : ℕ) (q : Placed) (r : Reading) (c : DviCommand) → IsSound res r q → q.command ≡ c → is_post c ≡ true → is_page_open r ≡ false
 post_closed res q r (Post x) h e is =
     let spelled : Spells (Post x) q.bytes = subst (λ (c : DviCommand). Spells c q.bytes) e h.spelled in
     let op : slice_index q.bytes 0 ≡ 248 = first_op 248 q.bytes _ spelled.2 in
-    (says_at r context.Between (behind_pages (context_after r) (subst (λ (n : ℕ). IsTrue (may_stand (context_after r) n)) op h.allowed))).1
+    (says_at r context.Between (after_pages (context_after r) (subst (λ (n : ℕ). IsTrue (may_stand (context_after r) n)) op h.allowed))).1
 post_closed res q r _ h e is = cc
 
 not_begun : (res : ℕ) (q : Placed) (r : Reading) (c : DviCommand) → IsSound res r q → q.command ≡ c → is_post_read r ≡ true → is_bop c ≡ false
@@ -86,11 +86,11 @@ not_begun res q r (Bop counts back) h e read =
     absurd (true≢false (sym read ∙ place.0))
 not_begun res q r _ h e read = refl
 
-closed_behind_post : (res : ℕ) (r : Reading) → Sound res r → is_post_read r ≡ true → is_page_open r ≡ false
-closed_behind_post res [] s h = refl
-closed_behind_post res (q ∷ before) s h =
+closed_after_post : (res : ℕ) (r : Reading) → Sound res r → is_post_read r ≡ true → is_page_open r ≡ false
+closed_after_post res [] s h = refl
+closed_after_post res (q ∷ before) s h =
     elim (cases_Bool (is_post_read before)) [
-      | inl read ↦ rw (not_begun res q before q.command s.1 refl read) (shut (is_eop q.command) (is_page_open before) (closed_behind_post res before s.0 read))
+      | inl read ↦ rw (not_begun res q before q.command s.1 refl read) (shut (is_eop q.command) (is_page_open before) (closed_after_post res before s.0 read))
       | inr unread ↦
           let post : is_post q.command ≡ true = this (is_post q.command) (is_post_read before) h unread in
           rw (post_not_bop q.command post) (shut (is_eop q.command) (is_page_open before) (post_closed res q before q.command s.1 refl post))
@@ -113,5 +113,5 @@ pub each_page_ends : EachPageEnds
 each_page_ends res bytes reading i doc h =
     elim (ends_or_open res reading doc.sound i h) [
       | inl some ↦ some
-      | inr open_page ↦ absurd (true≢false (sym open_page.0 ∙ closed_behind_post res reading doc.sound (post_is_read res reading doc.sound doc.ended)))
+      | inr open_page ↦ absurd (true≢false (sym open_page.0 ∙ closed_after_post res reading doc.sound (post_is_read res reading doc.sound doc.ended)))
     ]

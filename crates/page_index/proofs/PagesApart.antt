@@ -25,7 +25,7 @@ begun_more q before = by (is_bop q.command) (pages_begun before)
     by true n = omega arith
     by false n = omega arith
 
--- the Eop of page i stands behind the beginning of page i
+-- the Eop of page i stands after the beginning of page i
 ended_is_begun : (i : ℕ) (r : Reading) (e : ℕ) → eop_at i r ≡ Some e → i < pages_begun r
 ended_is_begun i [] e h = cc
 ended_is_begun i (q ∷ before) e h = elim (some_at (is_eop q.command && pages_begun before == suc i) q.at (eop_at i before) e h) [
@@ -76,10 +76,11 @@ ended_before res i (q ∷ before) e s h =
 abbrev EndsBy : ℕ → Placed → Type 0
 EndsBy end p = p.at + length p.bytes ≤ end
 
-abbrev IsBehind : ℕ → Placed → Type 0
-IsBehind end p = end < p.at
+abbrev IsAfter : ℕ → Placed → Type 0
+IsAfter end p = end < p.at
 
--- what holds of the commands of a page so far holds of them and of one more, where it is on the page
+-- what holds of the commands of a page so far holds of them and of one more, where it is on the
+-- page
 abbrev OnPage : (Placed → Type 0) → ℕ → Reading → Type 0
 OnPage P i r = All P (page_commands i r)
 
@@ -117,19 +118,19 @@ before_eop res i (q ∷ before) end s h = elim (some_at (is_eop q.command && pag
         let page : is_page (context_after before) ≡ true = (and_parts (is_page (context_after before)) (not (is_eop q.command)) (and_parts (is_page (context_after before) && not (is_eop q.command)) (pages_begun before == suc i) on).0).0 in
         true≢false (sym page ∙ closed_is_off_page before (ended_is_closed i before end ended last))
 
--- and those of a later page behind it
-behind_eop : (res i j : ℕ) (r : Reading) (end : ℕ) → Sound res r → i < j → eop_at i r ≡ Some end → OnPage (IsBehind end) j r
-behind_eop res i j [] end s lt h = cc
-behind_eop res i j (q ∷ before) end s lt h = elim (some_at (is_eop q.command && pages_begun before == suc i) q.at (eop_at i before) end h) [
+-- and those of a later page after it
+after_eop : (res i j : ℕ) (r : Reading) (end : ℕ) → Sound res r → i < j → eop_at i r ≡ Some end → OnPage (IsAfter end) j r
+after_eop res i j [] end s lt h = cc
+after_eop res i j (q ∷ before) end s lt h = elim (some_at (is_eop q.command && pages_begun before == suc i) q.at (eop_at i before) end h) [
   | inl here ↦
       let last : pages_begun before ≡ suc i = eqb-true _ _ (and_parts (is_eop q.command) (pages_begun before == suc i) here.0).1 in
-      one_more (IsBehind end) j q before (subst (All (IsBehind end)) (sym (none_yet j before (omega (arith, last, lt)))) (All-nil (IsBehind end)))
+      one_more (IsAfter end) j q before (subst (All (IsAfter end)) (sym (none_yet j before (omega (arith, last, lt)))) (All-nil (IsAfter end)))
       (λ on. absurd (omega (arith, last, lt, eqb-true _ _ (and_parts (is_page (context_after before) && not (is_eop q.command)) (pages_begun before == suc j) on).1)))
-  | inr older ↦ one_more (IsBehind end) j q before (behind_eop res i j before end s.0 lt older.1) (λ on. omega (arith, ended_before res i before end s.0 older.1, s.1.place))
+  | inr older ↦ one_more (IsAfter end) j q before (after_eop res i j before end s.0 lt older.1) (λ on. omega (arith, ended_before res i before end s.0 older.1, s.1.place))
 ]
 
 pub pages_follow_one_another : PagesFollowOneAnother
-pages_follow_one_another res bytes reading i j end doc lt ends = (before_eop res i reading end doc.sound ends, behind_eop res i j reading end doc.sound lt ends)
+pages_follow_one_another res bytes reading i j end doc lt ends = (before_eop res i reading end doc.sound ends, after_eop res i j reading end doc.sound lt ends)
 
 -- ---- apart
 
@@ -139,7 +140,7 @@ its_end (Some e) h = (e, refl)
 
 -- of two pages the first ends before the second
 earlier_and_later : (res : ℕ) (bytes : List ℕ) (reading : Reading) (i j : ℕ) → IsDocument res bytes reading → i < j
-    → (page_commands j reading ≡ []) ⊎ ((end : ℕ) × OnPage (EndsBy end) i reading × OnPage (IsBehind end) j reading)
+    → (page_commands j reading ≡ []) ⊎ ((end : ℕ) × OnPage (EndsBy end) i reading × OnPage (IsAfter end) j reading)
 earlier_and_later res bytes reading i j doc lt = elim (cases_lt j (pages_begun reading)) [
   | inl begun ↦
       let e = its_end (eop_at i reading) (each_page_ends res bytes reading i doc (omega (arith, begun, lt))) in

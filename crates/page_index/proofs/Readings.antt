@@ -18,10 +18,10 @@ pub cancelled : (a x y : List ℕ) → a ++ x ≡ a ++ y → x ≡ y
 cancelled a x y same = sym (drop_at a x (length a) refl) ∙ ap (drop (length a)) same ∙ drop_at a y (length a) refl
 
 -- what the newer commands spell
-pub text_behind : (newer older : Reading) → (later : List ℕ) × (text_of (newer ++ older) ≡ text_of older ++ later)
-text_behind [] older = ([], sym (append-nil (text_of older)))
-text_behind (p ∷ newer) older =
-    let s = text_behind newer older in
+pub text_after : (newer older : Reading) → (later : List ℕ) × (text_of (newer ++ older) ≡ text_of older ++ later)
+text_after [] older = ([], sym (append-nil (text_of older)))
+text_after (p ∷ newer) older =
+    let s = text_after newer older in
     (s.0 ++ p.bytes, ap (λ t. t ++ p.bytes) s.1 ∙ append_assoc (text_of older) s.0 p.bytes)
 
 pub sound_older : (res : ℕ) (newer older : Reading) → Sound res (newer ++ older) → Sound res older
@@ -52,13 +52,13 @@ begins_by res p b r (n ∷ newer) x y hb hr e same =
     let q = s.1 in
     let regrouped : r ≡ s.0 ++ (q ∷ b) = e ∙ ap (λ t. t ++ b) s.2 ∙ append_assoc s.0 (q ∷ []) b in
     let sound : Sound res (q ∷ b) = sound_older res s.0 (q ∷ b) (subst (λ (t : Reading). Sound res t) regrouped hr) in
-    let behind = text_behind s.0 (q ∷ b) in
-    let text : text_of r ≡ (text_of b ++ q.bytes) ++ behind.0 = ap text_of regrouped ∙ behind.1 in
+    let after = text_after s.0 (q ∷ b) in
+    let text : text_of r ≡ (text_of b ++ q.bytes) ++ after.0 = ap text_of regrouped ∙ after.1 in
     let left : text_of b ++ (p.bytes ++ x) ≡ text_of (p ∷ b) ++ x = sym (append_assoc (text_of b) p.bytes x) in
-    let right : text_of r ++ y ≡ text_of b ++ (q.bytes ++ (behind.0 ++ y)) =
-    ap (λ t. t ++ y) text ∙ append_assoc (text_of b ++ q.bytes) behind.0 y ∙ append_assoc (text_of b) q.bytes (behind.0 ++ y) in
-    let next : p.bytes ++ x ≡ q.bytes ++ (behind.0 ++ y) = cancelled (text_of b) _ _ (left ∙ same ∙ right) in
-    let one = one_command res b p q x (behind.0 ++ y) hb.1 sound.1 next in
+    let right : text_of r ++ y ≡ text_of b ++ (q.bytes ++ (after.0 ++ y)) =
+    ap (λ t. t ++ y) text ∙ append_assoc (text_of b ++ q.bytes) after.0 y ∙ append_assoc (text_of b) q.bytes (after.0 ++ y) in
+    let next : p.bytes ++ x ≡ q.bytes ++ (after.0 ++ y) = cancelled (text_of b) _ _ (left ∙ same ∙ right) in
+    let one = one_command res b p q x (after.0 ++ y) hb.1 sound.1 next in
     inl (s.0, regrouped ∙ ap (λ t. s.0 ++ (t ∷ b)) (sym one.0))
 
 pub readings_agree : (res : ℕ) (r s : Reading) (x y : List ℕ) → Sound res r → Sound res s → text_of r ++ x ≡ text_of s ++ y → Begins r s ⊎ Begins s r

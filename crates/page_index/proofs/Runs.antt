@@ -17,12 +17,12 @@ runs_more at [] bytes c runs place spelled =
 runs_more at (d ∷ commands) bytes c runs place spelled =
     let rest = runs.0 in
     let long : length bytes ≡ length d.bytes + length rest = ap length runs.1 ∙ length-append d.bytes rest in
-    let behind : c.at ≡ (at + length d.bytes) + length rest = omega (arith, place, long) in (
+    let after : c.at ≡ (at + length d.bytes) + length rest = omega (arith, place, long) in (
       rest ++ c.bytes,
       ap (λ (b : List ℕ). b ++ c.bytes) runs.1 ∙ append_assoc d.bytes rest c.bytes,
       runs.2,
       runs.3,
-      runs_more (at + length d.bytes) commands rest c runs.4 behind spelled,
+      runs_more (at + length d.bytes) commands rest c runs.4 after spelled,
     )
 
 pub on_page_more : (commands : List Placed) (c : Placed) → AreOnPage commands → IsTrue (may_stand context.Page (slice_index c.bytes 0)) → AreOnPage (commands ++ c ∷ [])

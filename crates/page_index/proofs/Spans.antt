@@ -15,7 +15,7 @@ use Rattle.page_index.specs.Walked.{AreSpans, FillSpan, IsSpan, Runs}
 use Rattle.page_index.specs.declared.progress.PageSpan.{PageSpan}
 use Rattle.page_index.proofs.Runs.{on_page_more, runs_more}
 
--- a span and the one behind it
+-- a span and the one after it
 spans : (bytes : List ℕ) (start end next : ℕ) → start ≤ end → end ≤ next → slice_range bytes start next ≡ slice_range bytes start end ++ slice_range bytes end next
 spans bytes start end next a b =
     let sum : (end - start) + (next - end) ≡ next - start = omega arith in
@@ -48,7 +48,7 @@ get_push [] x (suc i) s e = absurd cc
 get_push (y ∷ xs) x zero s e = inl e
 get_push (y ∷ xs) x (suc i) s e = elim (get_push xs x i s e) [ inl there ↦ inl there | inr last ↦ inr (ap suc last.0, last.1) ]
 
--- a command behind so many whole pages changes none of them
+-- a command after n whole pages changes none of them
 module _ (r : Reading) (q : Placed) (done : ℕ) (whole : is_page (context_after r) ≡ true → pages_begun r ≡ suc done) (end_on_page : is_eop q.command ≡ true → is_page (context_after r) ≡ true) where
   on_later : (i : ℕ) → i < done → is_page (context_after r) ≡ true → (pages_begun r == suc i) ≡ false
   on_later i h on = ne_eqb (pages_begun r) (suc i) (λ same. omega (arith, h, whole on, same))
@@ -81,12 +81,12 @@ pub fills_more : (bytes : List ℕ) (commands : List Placed) (start at next : �
     → Spells q.command q.bytes → IsTrue (may_stand context.Page (slice_index q.bytes 0)) → FillSpan bytes (commands ++ q ∷ []) start next
 fills_more bytes commands start at next q old place lie some within spelled allowed =
     let size : length (slice_range bytes start at) ≡ at - start = grind (arith, length-take, length-drop, old.inside) in
-    let behind : q.at ≡ start + length (slice_range bytes start at) = omega (arith, place, size, old.order) in
+    let after : q.at ≡ start + length (slice_range bytes start at) = omega (arith, place, size, old.order) in
     let whole : slice_range bytes start at ++ q.bytes ≡ slice_range bytes start next =
     ap (λ (b : List ℕ). slice_range bytes start at ++ b) lie ∙ sym (spans bytes start at next old.order (omega (arith, some))) in
     record {
       order = omega (arith, old.order, some);
       inside = within;
-      runs = subst (λ (b : List ℕ). Runs start (commands ++ q ∷ []) b) whole (runs_more start commands (slice_range bytes start at) q old.runs behind spelled);
+      runs = subst (λ (b : List ℕ). Runs start (commands ++ q ∷ []) b) whole (runs_more start commands (slice_range bytes start at) q old.runs after spelled);
       allowed = on_page_more commands q old.allowed allowed;
     }

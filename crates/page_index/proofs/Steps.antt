@@ -15,7 +15,7 @@ use Rattle.dvi_commands.proofs.Told.{told_by_bytes}
 use Rattle.page_index.specs.Judged.{bop_fault, define_fault, post_fault, post_fault_against, postpost_fault}
 use Rattle.page_index.specs.Limits.{MOST_PAGES}
 use Rattle.page_index.specs.Document.{Reading, context_after, end_of, is_ended, is_postpost, last_bop, post_at, preamble_of, preamble_or, text_of, whole_fault}
-use Rattle.page_index.specs.Faults.{FaultAfter, FaultAtCommand, FaultBehind, FaultWithin, IsFirstFault, as_doc_fault, is_postpost_at}
+use Rattle.page_index.specs.Faults.{FaultAfterCommand, FaultAtCommand, FaultAfter, FaultWithin, IsFirstFault, as_doc_fault, is_postpost_at}
 use Rattle.page_index.specs.Fonts.{Fonts}
 use Rattle.page_index.specs.Walked.{EarlyFault, Follows, IsReadTo, KeepsPreamble, fault_by, fonts_after, pages_after, position_or_none, progress_after}
 use Rattle.page_index.specs.declared.faults.DocFault.{DocFault}
@@ -34,14 +34,14 @@ first_byte bytes at next some within =
     ap (λ (k : ℕ). slice_index (take k (drop at bytes)) 0) size
     ∙ ap (λ (t : List ℕ). slice_index (take (suc (next - at - 1)) t) 0) (drop-cons bytes at 0 here)
 
-front_byte : (bytes : List ℕ) (at : ℕ) → at < length bytes → slice_index (drop at bytes) 0 ≡ slice_index bytes at
-front_byte bytes at h = ap (λ (t : List ℕ). slice_index t 0) (drop-cons bytes at 0 h)
+prefix_byte : (bytes : List ℕ) (at : ℕ) → at < length bytes → slice_index (drop at bytes) 0 ≡ slice_index bytes at
+prefix_byte bytes at h = ap (λ (t : List ℕ). slice_index t 0) (drop-cons bytes at 0 h)
 
 -- the command that was read
 abbrev pub read_here : List ℕ → Progress → DviCommand → ℕ → Placed
 read_here bytes p c next = record { at = p.at; command = c; bytes = slice_range bytes p.at next }
 
--- not behind the preamble, and not before the end
+-- not after the preamble, and not before the end
 abbrev pub is_whole_judged : DviCommand → Bool
 is_whole_judged (Pre q) = false
 is_whole_judged (PostPost q id) = false
@@ -90,15 +90,15 @@ module _ (bytes : List ℕ) (s : Scaled) (p : Progress) (pages : List PageSpan) 
   -- ---- a first fault
 
   pub first_fault : (g : DocFault) → FaultWithin s.units.res w.reading rest g → IsFirstFault s.units.res bytes g
-  first_fault g h = inr (w.fits, w.reading, rest, w.sound, sym w.text, behind w.reading going begun h)
+  first_fault g h = inr (w.fits, w.reading, rest, w.sound, sym w.text, after w.reading going begun h)
     where
-      after : (reading : Reading) (c : DviCommand) → is_postpost c ≡ false → FaultWithin s.units.res reading rest g → FaultAfter s.units.res reading c rest g
-      after reading (PostPost q id) e h = cc
-      after reading _ e h = h
+      after_command : (reading : Reading) (c : DviCommand) → is_postpost c ≡ false → FaultWithin s.units.res reading rest g → FaultAfterCommand s.units.res reading c rest g
+      after_command reading (PostPost q id) e h = cc
+      after_command reading _ e h = h
 
-      behind : (reading : Reading) → is_ended reading ≡ false → (reading ≡ [] → ⊥) → FaultWithin s.units.res reading rest g → FaultBehind s.units.res reading rest g
-      behind [] e some h = absurd (some refl)
-      behind (q ∷ before) e some h = after (q ∷ before) q.command e h
+      after : (reading : Reading) → is_ended reading ≡ false → (reading ≡ [] → ⊥) → FaultWithin s.units.res reading rest g → FaultAfter s.units.res reading rest g
+      after [] e some h = absurd (some refl)
+      after (q ∷ before) e some h = after_command (q ∷ before) q.command e h
 
   pub early_fault : (g : DocFault) → EarlyFault p.context p.post p.at rest g → IsFirstFault s.units.res bytes g
   early_fault g h = first_fault g (at_true (is_postpost_at (context_after w.reading) rest) _ _ here.0 here.1)
@@ -157,8 +157,8 @@ module _ (bytes : List ℕ) (s : Scaled) (p : Progress) (pages : List PageSpan) 
       op : slice_index q.bytes 0 ≡ slice_index bytes p.at
       op = first_byte bytes p.at next some within
 
-      front : slice_index rest 0 ≡ slice_index q.bytes 0
-      front = front_byte bytes p.at (omega (arith, some, within)) ∙ sym op
+      prefix : slice_index rest 0 ≡ slice_index q.bytes 0
+      prefix = prefix_byte bytes p.at (omega (arith, some, within)) ∙ sym op
 
       stands : IsTrue (may_stand (context_after w.reading) (slice_index q.bytes 0))
       stands = subst (λ (x : Context). IsTrue (may_stand x (slice_index q.bytes 0))) f.stands (subst (λ (k : ℕ). IsTrue (may_stand p.context k)) (sym op) allowed)
@@ -186,7 +186,7 @@ module _ (bytes : List ℕ) (s : Scaled) (p : Progress) (pages : List PageSpan) 
               → MatchBool postpost (postpost_fault (post_at w.reading) (end_of w.reading) rest ≡ Some g) (FaultAtCommand s.units.res w.reading rest g)
           by true e =
               let both = and_parts (may_stand (context_after w.reading) 249) (slice_index rest 0 == 249) e in
-              let is_249 : slice_index q.bytes 0 ≡ 249 = sym front ∙ eqb-true (slice_index rest 0) 249 both.1 in
+              let is_249 : slice_index q.bytes 0 ≡ 249 = sym prefix ∙ eqb-true (slice_index rest 0) 249 both.1 in
               absurd (not_both c (post_is q.bytes c spelled is_249) (judged c h))
           by false e = inr (c, q.bytes, drop next bytes, whole, spelled, stands, judged_whole c refl (Some g) h (judged c h))
 
@@ -204,7 +204,7 @@ module _ (bytes : List ℕ) (s : Scaled) (p : Progress) (pages : List PageSpan) 
             let text : Spells (PostPost x id) q.bytes = subst (λ (y : DviCommand). Spells y q.bytes) e spelled in
             let is_249 : slice_index q.bytes 0 ≡ 249 = ap (λ (t : List ℕ). slice_index t 0) text.2 in
             let may : may_stand p.context 249 ≡ true = subst (λ (k : ℕ). may_stand p.context k ≡ true) (sym op ∙ is_249) allowed in
-            let here : is_postpost_at p.context rest ≡ true = rw (may, front ∙ is_249) refl in
+            let here : is_postpost_at p.context rest ≡ true = rw (may, prefix ∙ is_249) refl in
             let told : postpost_fault p.post p.at (spelling (PostPost x id) 0 ++ drop next bytes) ≡ None =
             subst (λ (t : List ℕ). postpost_fault p.post p.at t ≡ None) (whole ∙ ap (λ (t : List ℕ). t ++ drop next bytes) text.2) (early here) in
             ap (λ (o : Option ℕ). postpost_fault o p.at q.bytes) (sym f.post) ∙ ap (postpost_fault p.post p.at) text.2 ∙ sym (postpost_same p.post p.at x id (drop next bytes)) ∙ told

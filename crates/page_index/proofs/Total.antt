@@ -14,7 +14,7 @@ use Rattle.dvi_commands.proofs.Unrefused.{unrefused_is_spelled}
 use Rattle.page_index.specs.Judged.{preamble_fault, postpost_fault, tail_fault}
 use Rattle.page_index.specs.Limits.{LONGEST}
 use Rattle.page_index.specs.Document.{IsDocument, IsSound, Reading, Sound, context_after, end_of, is_ended, is_postpost, post_at, text_of, whole_fault}
-use Rattle.page_index.specs.Faults.{FaultAfter, FaultAtCommand, FaultBehind, FaultWithin, IsFirstFault, as_doc_fault, is_postpost_at}
+use Rattle.page_index.specs.Faults.{FaultAfterCommand, FaultAtCommand, FaultAfter, FaultWithin, IsFirstFault, as_doc_fault, is_postpost_at}
 use Rattle.page_index.specs.Laws.{BytesAreADocumentOrHaveAFault}
 use Rattle.page_index.specs.declared.faults.DocFault.{DocFault}
 use Rattle.page_index.specs.declared.faults.DocFault.TheVariants as fault
@@ -33,22 +33,22 @@ if_true P Q e p = subst (λ b. MatchBool b P Q) (sym e) p
 if_false : {b : Bool} (P Q : Type 0) → b ≡ false → Q → MatchBool b P Q
 if_false P Q e q = subst (λ b. MatchBool b P Q) (sym e) q
 
--- ---- the command at the front of the bytes behind a sound reading
+-- ---- the command at the beginning of the bytes after a sound reading
 
 abbrev IsMore : ℕ → Reading → List ℕ → Type 0
 IsMore res r rest = (q : Placed) × (more : List ℕ) × (rest ≡ q.bytes ++ more) × IsSound res r q
 
 abbrev IsWrong : ℕ → Reading → List ℕ → Type 0
-IsWrong res r rest = (f : DocFault) × FaultBehind res r rest f
+IsWrong res r rest = (f : DocFault) × FaultAfter res r rest f
 
 -- nothing is wrong with the command
-more_by : (res : ℕ) (r : Reading) (rest : List ℕ) (c : DviCommand) (front more : List ℕ) → is_ended r ≡ false → Begins (context_after r) c front more rest → whole_fault res r (end_of r) front c ≡ None → IsMore res r rest
-more_by res r rest c front more going begins right =
-    (record { at = end_of r; command = c; bytes = front }, more, begins.whole, record { unfinished = going; place = refl; spelled = begins.spelled; allowed = begins.allowed; right = right })
+more_by : (res : ℕ) (r : Reading) (rest : List ℕ) (c : DviCommand) (prefix more : List ℕ) → is_ended r ≡ false → Begins (context_after r) c prefix more rest → whole_fault res r (end_of r) prefix c ≡ None → IsMore res r rest
+more_by res r rest c prefix more going begins right =
+    (record { at = end_of r; command = c; bytes = prefix }, more, begins.whole, record { unfinished = going; place = refl; spelled = begins.spelled; allowed = begins.allowed; right = right })
 
 -- its first byte is that of all bytes
-front_op : (place : Context) (rest : List ℕ) (c : DviCommand) (front more : List ℕ) → Begins place c front more rest → slice_index front 0 ≡ slice_index rest 0
-front_op place rest c front more begins = sym (first_of front more (spelled_some c front begins.spelled)) ∙ ap (λ (t : List ℕ). slice_index t 0) (sym begins.whole)
+prefix_op : (place : Context) (rest : List ℕ) (c : DviCommand) (prefix more : List ℕ) → Begins place c prefix more rest → slice_index prefix 0 ≡ slice_index rest 0
+prefix_op place rest c prefix more begins = sym (first_of prefix more (spelled_some c prefix begins.spelled)) ∙ ap (λ (t : List ℕ). slice_index t 0) (sym begins.whole)
 
 -- the preamble
 start_then : (res : ℕ) (rest : List ℕ) → AreBytes rest → IsMore res [] rest ⊎ IsWrong res [] rest
@@ -80,7 +80,7 @@ module _ (res : ℕ) (r : Reading) (rest : List ℕ) (few : AreBytes rest) (goin
   postpost_more : may_stand (context_after r) 249 ≡ true → slice_index rest 0 ≡ 249 → postpost_fault (post_at r) (end_of r) rest ≡ None → IsMore res r rest
   postpost_more may head right =
       let u = unrefused_is_spelled (context_after r) rest few (postpost_unrefused (context_after r) (post_at r) (end_of r) rest may head right) in
-      let p = is_post_post u.0 u.1 u.3.spelled (front_op (context_after r) rest u.0 u.1 u.2 u.3 ∙ head) in
+      let p = is_post_post u.0 u.1 u.3.spelled (prefix_op (context_after r) rest u.0 u.1 u.2 u.3 ∙ head) in
       let spelled : Spells (PostPost p.0 p.1) u.1 = subst (λ (c : DviCommand). Spells c u.1) p.2 u.3.spelled in
       let all : spelling (PostPost p.0 p.1) 0 ++ u.2 ≡ rest = ap (λ (t : List ℕ). t ++ u.2) (sym spelled.2) ∙ sym u.3.whole in
       let own : postpost_fault (post_at r) (end_of r) u.1 ≡ None =
@@ -112,16 +112,16 @@ module _ (res : ℕ) (r : Reading) (rest : List ℕ) (few : AreBytes rest) (goin
     ]
   ]
 
--- ---- behind a sound reading the document ends, or a command follows, or something is wrong
+-- ---- after a sound reading the document ends, or a command follows, or something is wrong
 
 abbrev IsEnd : Reading → List ℕ → Type 0
 IsEnd r rest = (is_ended r ≡ true) × (tail_fault (end_of r) rest ≡ None)
 
-after_end : (res : ℕ) (r : Reading) (c : DviCommand) (rest : List ℕ) (f : DocFault) → is_postpost c ≡ true → tail_fault (end_of r) rest ≡ Some f → FaultAfter res r c rest f
+after_end : (res : ℕ) (r : Reading) (c : DviCommand) (rest : List ℕ) (f : DocFault) → is_postpost c ≡ true → tail_fault (end_of r) rest ≡ Some f → FaultAfterCommand res r c rest f
 after_end res r (PostPost q id) rest f e h = h
 after_end res r _ rest f e h = cc
 
-after_within : (res : ℕ) (r : Reading) (c : DviCommand) (rest : List ℕ) (f : DocFault) → is_postpost c ≡ false → FaultWithin res r rest f → FaultAfter res r c rest f
+after_within : (res : ℕ) (r : Reading) (c : DviCommand) (rest : List ℕ) (f : DocFault) → is_postpost c ≡ false → FaultWithin res r rest f → FaultAfterCommand res r c rest f
 after_within res r (PostPost q id) rest f e h = absurd cc
 after_within res r _ rest f e h = h
 
@@ -140,9 +140,9 @@ next_then res (p ∷ before) rest few = elim (cases_Bool (is_postpost p.command)
 
 -- ---- all bytes
 
-rest_are : (front rest : List ℕ) → AreBytes (front ++ rest) → AreBytes rest
+rest_are : (prefix rest : List ℕ) → AreBytes (prefix ++ rest) → AreBytes rest
 rest_are [] rest h = h
-rest_are (b ∷ front) rest h = rest_are front rest h.1
+rest_are (b ∷ prefix) rest h = rest_are prefix rest h.1
 
 abbrev Stands : ℕ → List ℕ → Type 0
 Stands res bytes = ((reading : Reading) × IsDocument res bytes reading) ⊎ ((f : DocFault) × IsFirstFault res bytes f)

@@ -1,6 +1,7 @@
--- A DVI file as a list of commands: Knuth, DVItype, "Device-independent file format" (preamble, postamble, postpostamble), "Defining
--- fonts" and "Reading the postamble". A reading is a list of commands with their positions, the last one first, so that what stands
--- before a command is the rest of the list.
+-- A DVI file as a list of commands: Knuth, DVItype, "Device-independent file format" (preamble,
+-- postamble, postpostamble), "Defining fonts" and "Reading the postamble". A reading is a list of
+-- commands with their positions, the last one first, so that what stands before a command is the
+-- rest of the list.
 use Rattle.std.specs.Prelude.{◌≡◌, ℕ, suc, ◌+◌, ◌≤◌, ℤ, pos, negsuc, Bool, true, false, not, ◌&&◌, ◌||◌, List, [], ◌∷◌, ◌++◌, length, replicate, if◌then◌else◌, slice_index, Option, Some, None, IsTrue, IsFalse, unsigned_abs}
 use Rattle.std.specs.List.{list_any}
 use Rattle.big_endian.specs.Numbers.{int_eq}
@@ -19,7 +20,7 @@ use Rattle.page_index.specs.declared.faults.DocFault.{DocFault}
 abbrev pub Reading : Type 0
 Reading = List Placed
 
--- the bytes that the commands spell together, and the position behind them
+-- the bytes that the commands spell together, and the position after them
 abbrev pub text_of : Reading → List ℕ
 text_of [] = []
 text_of (p ∷ before) = text_of before ++ p.bytes
@@ -90,13 +91,24 @@ preamble_of (p ∷ before) = preamble_or (preamble_of before) p.command
 
 -- the fractions of the preamble, at a resolution
 abbrev pub units_of : ℕ → Preamble → Units
-units_of res p = record { num = unsigned_abs p.num; den = unsigned_abs p.den; mag = unsigned_abs p.mag; res = res }
+units_of res p =
+    record {
+      num = unsigned_abs p.num;
+      den = unsigned_abs p.den;
+      mag = unsigned_abs p.mag;
+      res = res;
+    }
 
 -- ---- the font table
 
 -- the key of a definition whose sizes are right
 abbrev pub key_of : Definition → FontKey
-key_of d = record { area = d.area; name = d.name; size = unsigned_abs d.size; design = unsigned_abs d.design }
+key_of d = record {
+  area = d.area;
+  name = d.name;
+  size = unsigned_abs d.size;
+  design = unsigned_abs d.design;
+}
 
 abbrev pub key_or : Option FontKey → ℤ → DviCommand → Option FontKey
 key_or other k (Define d) = if int_eq d.number k then Some (key_of d) else other
@@ -112,8 +124,10 @@ font_table (p ∷ before) k = key_or (font_table before k) k p.command
 -- of a Pre and a PostPost the fields are judged one by one, by the bytes
 abbrev pub whole_fault : ℕ → Reading → ℕ → List ℕ → DviCommand → Option DocFault
 whole_fault res before at bytes (Define d) = define_fault (font_table before d.number) at d
-whole_fault res before at bytes (Bop counts back) = bop_fault (pages_begun before) (last_bop before) at back
-whole_fault res before at bytes (Post q) = post_fault (pages_begun before) (last_bop before) (preamble_of before) at q
+whole_fault res before at bytes (Bop counts back) =
+    bop_fault (pages_begun before) (last_bop before) at back
+whole_fault res before at bytes (Post q) =
+    post_fault (pages_begun before) (last_bop before) (preamble_of before) at q
 whole_fault res before at bytes (Pre q) = preamble_fault res bytes
 whole_fault res before at bytes (PostPost q id) = postpost_fault (post_at before) at bytes
 whole_fault res before at bytes _ = None

@@ -1,4 +1,5 @@
--- The first fault of a DVI file: what speaks against the bytes at the end of their longest sound reading.
+-- The first fault of a DVI file: what speaks against the bytes at the end of their longest sound
+-- reading.
 use Rattle.std.specs.Prelude.{◌≡◌, ◌⊎◌, ℕ, ◌+◌, ◌<◌, ◌≤◌, Bool, ◌&&◌, ◌==◌, List, [], ◌∷◌, ◌++◌, length, slice_index, Some, IsTrue}
 use Rattle.std.specs.Bool.{MatchBool}
 use Rattle.dvi_commands.specs.Spelling.{DviCommand, PostPost, Spells}
@@ -28,9 +29,12 @@ is_postpost_at place rest = may_stand place 249 && slice_index rest 0 == 249
 -- no command can be read, or one can, and something is wrong with it
 abbrev pub FaultAtCommand : ℕ → Reading → List ℕ → DocFault → Type 0
 FaultAtCommand res before rest f =
-    ((c : CommandFault) × (refusal (context_after before) rest ≡ Some c) × (f ≡ as_doc_fault (end_of before) rest c))
-    ⊎ ((c : DviCommand) × (bytes : List ℕ) × (more : List ℕ) × (rest ≡ bytes ++ more) × Spells c bytes
-    × IsTrue (may_stand (context_after before) (slice_index bytes 0)) × (whole_fault res before (end_of before) bytes c ≡ Some f))
+    ((c : CommandFault) × (refusal (context_after before) rest ≡ Some c)
+    × (f ≡ as_doc_fault (end_of before) rest c))
+    ⊎ ((c : DviCommand) × (bytes : List ℕ) × (more : List ℕ) × (rest ≡ bytes ++ more)
+    × Spells c bytes
+    × IsTrue (may_stand (context_after before) (slice_index bytes 0))
+    × (whole_fault res before (end_of before) bytes c ≡ Some f))
 
 -- a sound reading of a file whose last command is not PostPost can't go on, for this reason
 abbrev pub FaultWithin : ℕ → Reading → List ℕ → DocFault → Type 0
@@ -40,20 +44,21 @@ FaultWithin res before rest f =
     (FaultAtCommand res before rest f)
 
 -- by the last command
-abbrev pub FaultAfter : ℕ → Reading → DviCommand → List ℕ → DocFault → Type 0
-FaultAfter res reading (PostPost q id) rest f = tail_fault (end_of reading) rest ≡ Some f
-FaultAfter res reading _ rest f = FaultWithin res reading rest f
+abbrev pub FaultAfterCommand : ℕ → Reading → DviCommand → List ℕ → DocFault → Type 0
+FaultAfterCommand res reading (PostPost q id) rest f = tail_fault (end_of reading) rest ≡ Some f
+FaultAfterCommand res reading _ rest f = FaultWithin res reading rest f
 
--- what is wrong with the bytes behind a sound reading
-abbrev pub FaultBehind : ℕ → Reading → List ℕ → DocFault → Type 0
-FaultBehind res [] rest f = preamble_fault res rest ≡ Some f
-FaultBehind res (p ∷ before) rest f = FaultAfter res (p ∷ before) p.command rest f
+-- what is wrong with the bytes after a sound reading
+abbrev pub FaultAfter : ℕ → Reading → List ℕ → DocFault → Type 0
+FaultAfter res [] rest f = preamble_fault res rest ≡ Some f
+FaultAfter res (p ∷ before) rest f = FaultAfterCommand res (p ∷ before) p.command rest f
 
 -- the first fault of a file at a resolution
 abbrev pub IsFirstFault : ℕ → List ℕ → DocFault → Type 0
 IsFirstFault res bytes f =
     ((LONGEST < length bytes) × (f ≡ fault.TooLong LONGEST))
-    ⊎ ((length bytes ≤ LONGEST) × (reading : Reading) × (rest : List ℕ) × Sound res reading × (bytes ≡ text_of reading ++ rest) × FaultBehind res reading rest f)
+    ⊎ ((length bytes ≤ LONGEST) × (reading : Reading) × (rest : List ℕ) × Sound res reading
+    × (bytes ≡ text_of reading ++ rest) × FaultAfter res reading rest f)
 
 -- why a file was not read: a fault is its first one; want of memory may come at any file
 abbrev pub IsStopFor : IndexStop → ℕ → List ℕ → Type 0

@@ -1,6 +1,7 @@
--- What is wrong with a command or a field, by what stands before it: Knuth, DVItype, "Device-independent file format" (preamble,
--- postamble, postpostamble), "Defining fonts" and "Reading the postamble". Which of two faults comes first, and at which byte, is this
--- project's own choice: a field is judged as soon as it is whole.
+-- What is wrong with a command or a field, by what stands before it: Knuth, DVItype,
+-- "Device-independent file format" (preamble, postamble, postpostamble), "Defining fonts" and
+-- "Reading the postamble". Which of two faults comes first, and at which byte, is this project's
+-- own choice: a field is judged as soon as it is whole.
 use Rattle.std.specs.Prelude.{ℕ, ◌+◌, ◌*◌, ◌%◌, ℤ, pos, Bool, true, false, not, ◌&&◌, List, [], ◌∷◌, length, nat_eq, nat_lt, nat_le, ◌==◌, if◌then◌else◌, slice_index, int_lt, Option, Some, None}
 use Rattle.std.specs.List.{list_all, take_while}
 use Rattle.std.specs.Cmp.Lexicographic.{pointwise}
@@ -17,28 +18,49 @@ use Rattle.page_index.specs.declared.faults.PostField.TheVariants as field
 
 -- num*res*mag / (254000000*den), the conversion to pixels, is at most 512
 abbrev pub is_scale_right : ℕ → ℤ → ℤ → ℤ → Bool
-is_scale_right res (pos num) (pos den) (pos mag) = nat_le (num * res * mag) (512 * (254000000 * den))
+is_scale_right res (pos num) (pos den) (pos mag) =
+    nat_le (num * res * mag) (512 * (254000000 * den))
 is_scale_right res _ _ _ = false
 
--- what is wrong with a preamble at the front of the file: the fields in their order, each with the byte behind it
+-- what is wrong with a preamble at the beginning of the file: the fields in their order, each with
+-- the byte after it
 abbrev pub preamble_fields : ℕ → List ℕ → List (Field DocFault)
 preamble_fields res bytes =
     record { until = 1; right = slice_index bytes 0 == 247; fault = Some (fault.Preamble 0) }
     ∷ record { until = 2; right = slice_index bytes 1 == 2; fault = Some (fault.Preamble 1) }
-    ∷ record { until = 6; right = int_lt (pos 0) (signed_at bytes 2 4); fault = Some (fault.Preamble 2) }
-    ∷ record { until = 10; right = int_lt (pos 0) (signed_at bytes 6 4); fault = Some (fault.Preamble 6) }
-    ∷ record { until = 14; right = int_lt (pos 0) (signed_at bytes 10 4); fault = Some (fault.Preamble 10) }
-    ∷ record { until = 14; right = is_scale_right res (signed_at bytes 2 4) (signed_at bytes 6 4) (signed_at bytes 10 4); fault = Some (fault.Scale 2) }
+    ∷ record {
+      until = 6;
+      right = int_lt (pos 0) (signed_at bytes 2 4);
+      fault = Some (fault.Preamble 2);
+    }
+    ∷ record {
+      until = 10;
+      right = int_lt (pos 0) (signed_at bytes 6 4);
+      fault = Some (fault.Preamble 6);
+    }
+    ∷ record {
+      until = 14;
+      right = int_lt (pos 0) (signed_at bytes 10 4);
+      fault = Some (fault.Preamble 10);
+    }
+    ∷ record {
+      until = 14;
+      right = is_scale_right res (signed_at bytes 2 4) (signed_at bytes 6 4)
+          (signed_at bytes 10 4);
+      fault = Some (fault.Scale 2);
+    }
     ∷ whole_until 15
     ∷ whole_until (15 + slice_index bytes 14)
     ∷ []
 
 abbrev pub preamble_fault : ℕ → List ℕ → Option DocFault
-preamble_fault res bytes = judge (length bytes) (fault.Truncated (length bytes)) (preamble_fields res bytes)
+preamble_fault res bytes =
+    judge (length bytes) (fault.Truncated (length bytes)) (preamble_fields res bytes)
 
 -- ---- pages
 
--- the pages begun before, the position of the last Bop or -1, and where this Bop stands with its pointer
+-- the pages begun before, the position of the last Bop or -1, and where this Bop stands with its
+-- pointer
 abbrev pub bop_fault : ℕ → ℤ → ℕ → ℤ → Option DocFault
 bop_fault pages last at back =
     if nat_le MOST_PAGES pages then Some (fault.TooManyPages at)
@@ -51,9 +73,12 @@ bop_fault pages last at back =
 abbrev pub is_size : ℤ → Bool
 is_size z = int_lt (pos 0) z && int_lt z (pos SIZES)
 
--- a definition says what the font number was defined to be before, if it was; the checksum is not compared
+-- a definition says what the font number was defined to be before, if it was; the checksum is not
+-- compared
 abbrev pub is_same_font : FontKey → Definition → Bool
-is_same_font k d = int_eq (pos k.size) d.size && int_eq (pos k.design) d.design && k.area == d.area && pointwise nat_eq k.name d.name
+is_same_font k d =
+    int_eq (pos k.size) d.size && int_eq (pos k.design)
+    d.design && k.area == d.area && pointwise nat_eq k.name d.name
 
 abbrev pub agrees_with : Option FontKey → Definition → Bool
 agrees_with None d = true
@@ -90,20 +115,28 @@ leads_to (Some p) q = int_eq q (pos p)
 abbrev pub postpost_fields : Option ℕ → ℕ → List ℕ → List (Field DocFault)
 postpost_fields post at bytes =
     whole_until 1
-    ∷ record { until = 5; right = leads_to post (signed_at bytes 1 4); fault = Some (fault.Trailer (at + 1)) }
+    ∷ record {
+      until = 5;
+      right = leads_to post (signed_at bytes 1 4);
+      fault = Some (fault.Trailer (at + 1));
+    }
     ∷ record { until = 6; right = slice_index bytes 5 == 2; fault = Some (fault.Trailer (at + 5)) }
     ∷ []
 
--- where Post stands, and what is wrong with a PostPost at a position, at the front of the bytes that stand there
+-- where Post stands, and what is wrong with a PostPost at a position, at the beginning of the bytes
+-- that stand there
 abbrev pub postpost_fault : Option ℕ → ℕ → List ℕ → Option DocFault
-postpost_fault post at bytes = judge (length bytes) (fault.Truncated (at + length bytes)) (postpost_fields post at bytes)
+postpost_fault post at bytes =
+    judge (length bytes) (fault.Truncated (at + length bytes)) (postpost_fields post at bytes)
 
--- what is wrong behind PostPost, where there are at least four bytes 223 to the end: the first other byte, or else the end
+-- what is wrong after PostPost, where there are at least four bytes 223 to the end: the first other
+-- byte, or else the end
 abbrev pub is_filler : ℕ → Bool
 is_filler b = b == 223
 
 abbrev pub tail_fault : ℕ → List ℕ → Option DocFault
 tail_fault at bytes =
-    if not (list_all is_filler bytes) then Some (fault.Trailer (at + length (take_while is_filler bytes)))
+    if not (list_all is_filler bytes) then Some (fault.Trailer
+    (at + length (take_while is_filler bytes)))
     else if nat_lt (length bytes) 4 then Some (fault.Truncated (at + length bytes))
     else None

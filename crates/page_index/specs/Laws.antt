@@ -8,29 +8,45 @@ use Rattle.page_index.specs.declared.faults.DocFault.{DocFault}
 
 -- a document has no fault, and no two readings
 abbrev pub DocumentsHaveNoFault : Type 0
-DocumentsHaveNoFault = (res : ℕ) (bytes : List ℕ) (reading : Reading) (f : DocFault) → IsDocument res bytes reading → IsFirstFault res bytes f → ⊥
+DocumentsHaveNoFault =
+    (res : ℕ) (bytes : List ℕ) (reading : Reading) (f : DocFault) → IsDocument res bytes reading
+    → IsFirstFault res bytes f → ⊥
 
 -- a file has at most one first fault
 abbrev pub FirstFaultsAreOne : Type 0
-FirstFaultsAreOne = (res : ℕ) (bytes : List ℕ) (f g : DocFault) → IsFirstFault res bytes f → IsFirstFault res bytes g → f ≡ g
+FirstFaultsAreOne =
+    (res : ℕ) (bytes : List ℕ) (f g : DocFault) → IsFirstFault res bytes f
+    → IsFirstFault res bytes g → f ≡ g
 
 -- all bytes are a document or have a first fault
 abbrev pub BytesAreADocumentOrHaveAFault : Type 0
-BytesAreADocumentOrHaveAFault = (res : ℕ) (bytes : List ℕ) → AreBytes bytes → ((reading : Reading) × IsDocument res bytes reading) ⊎ ((f : DocFault) × IsFirstFault res bytes f)
+BytesAreADocumentOrHaveAFault =
+    (res : ℕ) (bytes : List ℕ) → AreBytes bytes → ((reading : Reading)
+    × IsDocument res bytes reading) ⊎ ((f : DocFault) × IsFirstFault res bytes f)
 
 -- and a document has one reading
 abbrev pub DocumentsHaveOneReading : Type 0
-DocumentsHaveOneReading = (res : ℕ) (bytes : List ℕ) (r s : Reading) → IsDocument res bytes r → IsDocument res bytes s → r ≡ s
+DocumentsHaveOneReading =
+    (res : ℕ) (bytes : List ℕ) (r s : Reading) → IsDocument res bytes r → IsDocument res bytes s
+    → r ≡ s
 
 -- each page that a document begins has its end
 abbrev pub EachPageEnds : Type 0
-EachPageEnds = (res : ℕ) (bytes : List ℕ) (reading : Reading) (i : ℕ) → IsDocument res bytes reading → i < pages_begun reading → IsSome (eop_at i reading)
+EachPageEnds =
+    (res : ℕ) (bytes : List ℕ) (reading : Reading) (i : ℕ) → IsDocument res bytes reading
+    → i < pages_begun reading → IsSome (eop_at i reading)
 
--- pages follow one another: the commands of a page end before its Eop, and those of a later page stand behind it
+-- pages follow one another: the commands of a page end before its Eop, and those of a later page
+-- stand after it
 abbrev pub PagesFollowOneAnother : Type 0
-PagesFollowOneAnother = (res : ℕ) (bytes : List ℕ) (reading : Reading) (i j end : ℕ) → IsDocument res bytes reading → i < j → eop_at i reading ≡ Some end
-    → All (λ p. p.at + length p.bytes ≤ end) (page_commands i reading) × All (λ p. end < p.at) (page_commands j reading)
+PagesFollowOneAnother =
+    (res : ℕ) (bytes : List ℕ) (reading : Reading) (i j end : ℕ) → IsDocument res bytes reading
+    → i < j → eop_at i reading ≡ Some end
+    → All (λ p. p.at + length p.bytes ≤ end) (page_commands i reading)
+    × All (λ p. end < p.at) (page_commands j reading)
 
 -- no command lies on two pages: the positions of the commands of two pages are disjoint
 abbrev pub PagesAreApart : Type 0
-PagesAreApart = (res : ℕ) (bytes : List ℕ) (reading : Reading) (i j : ℕ) → IsDocument res bytes reading → i ≢ j → All (λ p. All (λ q. p.at ≢ q.at) (page_commands j reading)) (page_commands i reading)
+PagesAreApart =
+    (res : ℕ) (bytes : List ℕ) (reading : Reading) (i j : ℕ) → IsDocument res bytes reading → i ≢ j
+    → All (λ p. All (λ q. p.at ≢ q.at) (page_commands j reading)) (page_commands i reading)

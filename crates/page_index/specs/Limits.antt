@@ -1,4 +1,5 @@
--- The limits of a document: of no standard, but this project's own choice, and that of the sizes TeX's.
+-- The limits of a document: of no standard, but this project's own choice, and that of the sizes
+-- TeX's.
 use Rattle.std.specs.Prelude.{ℕ}
 
 -- the most bytes that a document may have

@@ -15,18 +15,21 @@ is_page _ = false
 
 -- a command stands on the page with a number, from 0, between its Bop and its Eop
 abbrev pub is_on_page : ℕ → Reading → DviCommand → Bool
-is_on_page i before c = is_page (context_after before) && not (is_eop c) && pages_begun before == suc i
+is_on_page i before c =
+    is_page (context_after before) && not (is_eop c) && pages_begun before == suc i
 
 -- the commands of the page, in file order
 abbrev pub page_commands : ℕ → Reading → List Placed
 page_commands i [] = []
 page_commands i (p ∷ before) =
-    if is_on_page i before p.command then page_commands i before ++ p ∷ [] else page_commands i before
+    if is_on_page i before p.command then page_commands i before ++ p ∷ []
+    else page_commands i before
 
 -- where the page's Eop stands
 abbrev pub eop_at : ℕ → Reading → Option ℕ
 eop_at i [] = None
-eop_at i (p ∷ before) = if is_eop p.command && pages_begun before == suc i then Some p.at else eop_at i before
+eop_at i (p ∷ before) =
+    if is_eop p.command && pages_begun before == suc i then Some p.at else eop_at i before
 
 -- the units of a document at a resolution
 abbrev pub document_units : ℕ → Reading → Option Units
@@ -40,7 +43,8 @@ IsConversionOf units c = (u : Units) × (units ≡ Some u) × AreEqual c (conver
 abbrev pub reading_to : List ℕ → ℕ → Reading
 reading_to bytes end = reverse (placed_from 0 (take end bytes))
 
--- what an index is seen as: the resolution that it was made for, and the one reading of the document
+-- what an index is seen as: the resolution that it was made for, and the one reading of the
+-- document
 pub record Indexed : Type 0 where
   pub res : ℕ
   pub reading : Reading

@@ -1,4 +1,4 @@
--- What is kept of a reading while the commands behind it are read.
+-- What is kept of a reading while the commands after it are read.
 use Rattle.std.specs.Prelude.{◌≡◌, ℕ, suc, ◌+◌, ◌≤◌, ℤ, pos, negsuc, Bool, true, false, List, [], ◌∷◌, ◌++◌, length, drop, nat_lt, if◌then◌else◌, int_lt, slice_get, slice_index, slice_range, Option, Some, None, IfSome, is_some, IsTrue, IsFalse}
 use Rattle.std.specs.FinMap.{get, insert}
 use Rattle.outside.specs.FontKeys.{IsFontKey}
@@ -56,15 +56,33 @@ position_or_none (Some at) = pos at
 abbrev pub fault_by : Progress → Scaled → Fonts → DviCommand → Option DocFault
 fault_by p s fonts (Define d) = define_fault (get fonts d.number) p.at d
 fault_by p s fonts (Bop counts back) = bop_fault p.begun (position_or_none p.bop) p.at back
-fault_by p s fonts (Post q) = post_fault_against p.begun (position_or_none p.bop) (pos s.units.num) (pos s.units.den) (pos s.units.mag) p.at q
+fault_by p s fonts (Post q) =
+    post_fault_against p.begun (position_or_none p.bop) (pos s.units.num) (pos s.units.den)
+    (pos s.units.mag) p.at q
 fault_by p s fonts _ = None
 
--- behind a preamble that ends there
-abbrev pub behind_preamble : ℕ → Progress
-behind_preamble next = record { at = next; context = context.Between; begun = 0; bop = None; start = next; post = None; is_ended = false }
+-- after a preamble that ends there
+abbrev pub after_preamble : ℕ → Progress
+after_preamble next =
+    record {
+      at = next;
+      context = context.Between;
+      begun = 0;
+      bop = None;
+      start = next;
+      post = None;
+      is_ended = false;
+    }
 
 abbrev pub progress_after : Progress → DviCommand → ℕ → Progress
-progress_after p (Bop counts back) next = record p { at = next; context = context.Page; begun = suc p.begun; bop = Some p.at; start = next }
+progress_after p (Bop counts back) next =
+    record p {
+      at = next;
+      context = context.Page;
+      begun = suc p.begun;
+      bop = Some p.at;
+      start = next;
+    }
 progress_after p Eop next = record p { at = next; context = context.Between }
 progress_after p (Post q) next = record p { at = next; context = context.Post; post = Some p.at }
 progress_after p (PostPost q id) next = record p { at = next; is_ended = true }
@@ -75,7 +93,8 @@ pages_after p pages Eop = pages ++ record { start = p.start; end = p.at } ∷ []
 pages_after p pages _ = pages
 
 abbrev pub fonts_after : Fonts → DviCommand → Fonts
-fonts_after fonts (Define d) = if is_some (get fonts d.number) then fonts else insert fonts d.number (key_of d)
+fonts_after fonts (Define d) =
+    if is_some (get fonts d.number) then fonts else insert fonts d.number (key_of d)
 fonts_after fonts _ = fonts
 
 -- ---- the reading so far
@@ -83,13 +102,15 @@ fonts_after fonts _ = fonts
 -- the commands are spelled one after another from a position on, and their bytes are these
 abbrev pub Runs : ℕ → List Placed → List ℕ → Type 0
 Runs at [] bytes = bytes ≡ []
-Runs at (c ∷ commands) bytes = (rest : List ℕ) × (bytes ≡ c.bytes ++ rest) × (c.at ≡ at) × Spells c.command c.bytes
+Runs at (c ∷ commands) bytes =
+    (rest : List ℕ) × (bytes ≡ c.bytes ++ rest) × (c.at ≡ at) × Spells c.command c.bytes
     × Runs (at + length c.bytes) commands rest
 
 -- each may stand on a page
 abbrev pub AreOnPage : List Placed → Type 0
 AreOnPage [] = Unit {0}
-AreOnPage (c ∷ commands) = IsTrue (may_stand context.Page (slice_index c.bytes 0)) × AreOnPage commands
+AreOnPage (c ∷ commands) =
+    IsTrue (may_stand context.Page (slice_index c.bytes 0)) × AreOnPage commands
 
 -- the commands of a page fill a span of the bytes
 pub record FillSpan (bytes : List ℕ) (commands : List Placed) (start end : ℕ) : Type 0 where
@@ -104,14 +125,16 @@ pub record IsSpan (bytes : List ℕ) (reading : Reading) (i : ℕ) (s : PageSpan
   pub ends : eop_at i reading ≡ Some s.end
 
 abbrev pub AreSpans : List ℕ → Reading → List PageSpan → Type 0
-AreSpans bytes reading pages = (i : ℕ) (s : PageSpan) → slice_get pages i ≡ Some s → IsSpan bytes reading i s
+AreSpans bytes reading pages =
+    (i : ℕ) (s : PageSpan) → slice_get pages i ≡ Some s → IsSpan bytes reading i s
 
 abbrev pub one_if : Bool → ℕ
 one_if true = 1
 one_if false = 0
 
 -- what is kept is that of the reading
-pub record Follows (bytes : List ℕ) (p : Progress) (pages : List PageSpan) (fonts : Fonts) (reading : Reading) : Type 0 where
+pub record Follows (bytes : List ℕ) (p : Progress) (pages : List PageSpan) (fonts : Fonts)
+    (reading : Reading) : Type 0 where
   pub at : p.at ≡ end_of reading
   pub stands : p.context ≡ context_after reading
   pub begun : p.begun ≡ pages_begun reading
@@ -121,11 +144,13 @@ pub record Follows (bytes : List ℕ) (p : Progress) (pages : List PageSpan) (fo
   pub ended : p.is_ended ≡ is_ended reading
   pub count : length pages + one_if (is_page p.context) ≡ p.begun
   pub spans : AreSpans bytes reading pages
-  pub current : is_page p.context ≡ true → FillSpan bytes (page_commands (length pages) reading) p.start p.at
+  pub current : is_page p.context ≡ true → FillSpan bytes (page_commands (length pages) reading)
+      p.start p.at
   pub keys : (k : ℤ) → get fonts k ≡ font_table reading k
 
 -- the bytes up to a position are a sound reading, and what is kept is that of it
-pub record IsReadTo (bytes : List ℕ) (s : Scaled) (p : Progress) (pages : List PageSpan) (fonts : Fonts) : Type 0 where
+pub record IsReadTo (bytes : List ℕ) (s : Scaled) (p : Progress) (pages : List PageSpan)
+    (fonts : Fonts) : Type 0 where
   pub reading : Reading
   pub fits : length bytes ≤ LONGEST
   pub sound : Sound s.units.res reading
@@ -138,12 +163,15 @@ pub record IsReadTo (bytes : List ℕ) (s : Scaled) (p : Progress) (pages : List
 pub record ArePassed (bytes : List ℕ) (at next : ℕ) : Type 0 where
   pub back : at ≤ next
   pub within : next ≤ length bytes
-  pub read : (s : Scaled) (p : Progress) (pages : List PageSpan) (fonts : Fonts) → p.at ≡ at → p.context ≡ context.Page → p.is_ended ≡ false
+  pub read : (s : Scaled) (p : Progress) (pages : List PageSpan) (fonts : Fonts) → p.at ≡ at
+      → p.context ≡ context.Page → p.is_ended ≡ false
       → IsReadTo bytes s p pages fonts → IsReadTo bytes s (record p { at = next }) pages fonts
 
 -- on a page the bytes begin with no command of which only the place is kept
 abbrev pub BeginsNoPlain : List ℕ → Type 0
-BeginsNoPlain bytes = (c : DviCommand) (front rest : List ℕ) → Begins context.Page c front rest bytes → IsFalse (is_plain c)
+BeginsNoPlain bytes =
+    (c : DviCommand) (prefix rest : List ℕ) → Begins context.Page c prefix rest bytes
+    → IsFalse (is_plain c)
 
 -- the preamble was judged, and its numbers are kept
 pub record IsBegun (bytes : List ℕ) (s : Scaled) : Type 0 where
@@ -151,13 +179,15 @@ pub record IsBegun (bytes : List ℕ) (s : Scaled) : Type 0 where
   pub right : preamble_fault s.units.res bytes ≡ None
   pub scaled : IsScaled s (signed_at bytes 2 4) (signed_at bytes 6 4) (signed_at bytes 10 4)
 
--- what is wrong before a command is whole, at the front of the bytes that stand there
+-- what is wrong before a command is whole, at the beginning of the bytes that stand there
 abbrev pub EarlyFault : Context → Option ℕ → ℕ → List ℕ → DocFault → Type 0
-EarlyFault place post at rest f = (is_postpost_at place rest ≡ true) × (postpost_fault post at rest ≡ Some f)
+EarlyFault place post at rest f =
+    (is_postpost_at place rest ≡ true) × (postpost_fault post at rest ≡ Some f)
 
 -- ---- what an index keeps
 
-pub record IsIndex (bytes : List ℕ) (units : Units) (conv : Fraction) (reading : Reading) (pages : List PageSpan) (fonts : Fonts) : Type 0 where
+pub record IsIndex (bytes : List ℕ) (units : Units) (conv : Fraction) (reading : Reading)
+    (pages : List PageSpan) (fonts : Fonts) : Type 0 where
   pub fits : length bytes ≤ LONGEST
   pub count : length pages ≡ pages_begun reading
   pub few : length pages ≤ MOST_PAGES

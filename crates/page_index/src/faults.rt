@@ -15,13 +15,14 @@ pub enum PostField {
 }
 
 /// What is wrong with a document, and at which byte, counted from 0: the first fault from the left.
-/// Knuth, DVItype, "Device-independent file format"; that a fault ends the reading, and the order of
-/// faults that meet, is this project's own choice.
+/// Knuth, DVItype, "Device-independent file format"; that a fault ends the reading, and the order
+/// of faults that meet, is this project's own choice.
 #[derive(Clone, Copy, Debug, PartialEq, Eq)]
 pub enum DocFault {
     /// The file ends where a further byte is needed; `at` is its length.
     Truncated { at: usize },
-    /// The first two bytes aren't 247 and 2, or num, den or mag isn't above 0; `at` is the field's place.
+    /// The first two bytes aren't 247 and 2, or num, den or mag isn't above 0; `at` is the field's
+    /// place.
     Preamble { at: usize },
     /// No command can be read; `at` is the place of its opcode.
     Command { fault: CommandFault, at: usize },
@@ -31,13 +32,13 @@ pub enum DocFault {
     FontClash { number: i32, at: usize },
     /// A field of the postamble at this place is wrong.
     Postamble { field: PostField, at: usize },
-    /// A field or a byte behind the postamble is wrong; `at` is its place.
+    /// A field or a byte after the postamble is wrong; `at` is its place.
     Trailer { at: usize },
     /// A size of the definition at this place isn't above 0 and below [`SIZES`](crate::SIZES).
     FontDef { number: i32, at: usize },
     /// A DVI unit would be more than 512 dots; `at` is the place of num.
     Scale { at: usize },
-    /// The Bop at this place begins a page behind the last of [`MOST_PAGES`](crate::MOST_PAGES).
+    /// The Bop at this place begins a page after the last of [`MOST_PAGES`](crate::MOST_PAGES).
     TooManyPages { at: usize },
     /// The file has more than [`LONGEST`](crate::LONGEST) bytes; `at` is that number.
     TooLong { at: usize },
@@ -48,7 +49,7 @@ pub enum DocFault {
 pub enum IndexStop {
     /// Something is wrong with it.
     Fault(DocFault),
-    /// Memory was wanting.
+    /// Out of memory.
     NoMemory,
 }
 

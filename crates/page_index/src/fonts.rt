@@ -80,7 +80,8 @@ fn is_same(key: &FontKey, def: &FontDef) -> bool
 
 /// What is wrong with the definition at a place, where the number was defined to be `known` before.
 pub fn fault_of(known: Option<&Arc<FontKey>>, at: usize, def: &FontDef) -> Option<DocFault>
-    ensures { result ≡ define_fault (option_map (λ key. arc_value key.now) known.entry) at (seen_definition def.now) }
+    ensures { result ≡ define_fault (option_map (λ key. arc_value key.now) known.entry) at
+        (seen_definition def.now) }
 {
     if !(is_size(def.size) && is_size(def.design)) {
         return Some(DocFault::FontDef {

@@ -25,8 +25,8 @@ pub struct PageBytes<'a> {
     pub bytes: &'a [u8],
 }
 
-/// The pages, the fonts and the units of a document. A contract sees it as the resolution that it was
-/// made for, and the document's one reading.
+/// The pages, the fonts and the units of a document. A contract sees it as the resolution that it
+/// was made for, and the document's one reading.
 ///
 /// Knuth, DVItype, "Device-independent file format".
 #[derive(Drop)]
@@ -34,7 +34,7 @@ pub struct Index<'a> {
     pub(crate) bytes: &'a [u8],
     pub(crate) units: Units,
     pub(crate) conv: Conv,
-    // The position behind PostPost.
+    // The position after PostPost.
     pub(crate) end: usize,
     pub(crate) pages: Vec<PageSpan>,
     pub(crate) fonts: FontTable,
@@ -79,7 +79,8 @@ impl<'a> Index<'a> {
     /// The commands of the page with a number, from 0, in the order of the file.
     pub fn page(&self, i: usize) -> PageBytes<'a>
         requires { i < pages_begun self.now.reading }
-        ensures commands { placed_from result.at result.bytes.now ≡ page_commands i self.now.reading }
+        ensures commands { placed_from result.at result.bytes.now
+            ≡ page_commands i self.now.reading }
         ensures readable { Reads context.Page result.bytes.now }
         ensures ends { eop_at i self.now.reading ≡ Some (result.at + length result.bytes.now) }
         ensures within { result.at + length result.bytes.now ≤ LONGEST }
@@ -88,7 +89,8 @@ impl<'a> Index<'a> {
     }
 
     /// The key of the font with a number: what a definition anywhere in the document says, the
-    /// postamble included. Both of its sizes are above 0 and below 2^27, and its area lies in its name.
+    /// postamble included. Both of its sizes are above 0 and below 2^27, and its area lies in its
+    /// name.
     pub fn font(&self, k: i32) -> Option<&Arc<FontKey>>
         ensures key { option_map (λ key. arc_value key.now) result ≡ font_table self.now.reading k }
         ensures fits { IfSome result (λ key. IsFontKey (arc_value key.now)) }

@@ -1,8 +1,8 @@
 //! Laws over documents, each the contract of a function without a body.
 ghost use Rattle.page_index.specs.Laws.{BytesAreADocumentOrHaveAFault, DocumentsHaveNoFault, DocumentsHaveOneReading, EachPageEnds, FirstFaultsAreOne, PagesAreApart, PagesFollowOneAnother};
 
-/// All bytes are a document or have a first fault, at any resolution: a document has no fault and one
-/// reading, and a file has at most one first fault.
+/// All bytes are a document or have a first fault, at any resolution: a document has no fault and
+/// one reading, and a file has at most one first fault.
 pub fn documents()
     ensures either { BytesAreADocumentOrHaveAFault }
     ensures no_fault { DocumentsHaveNoFault }
@@ -10,8 +10,8 @@ pub fn documents()
     ensures one_fault { FirstFaultsAreOne }
 {}
 
-/// Each page that a document begins has its end, the pages follow one another, and no command stands on
-/// two pages.
+/// Each page that a document begins has its end, the pages follow one another, and no command
+/// stands on two pages.
 pub fn pages()
     ensures ended { EachPageEnds }
     ensures in_order { PagesFollowOneAnother }

@@ -1,7 +1,7 @@
 //! The index of a DVI document: its pages, its fonts and its units, or the first fault of the file.
 //!
-//! Knuth, DVItype, "Device-independent file format". A file is read once, from the left, and nothing but
-//! the names of its fonts is copied.
+//! Knuth, DVItype, "Device-independent file format". A file is read once, from the left, and
+//! nothing but the names of its fonts is copied.
 #![tactic(auto)]
 
 mod faults;

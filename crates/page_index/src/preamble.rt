@@ -36,8 +36,8 @@ fn positive(bytes: &[u8], at: usize) -> Result<u32, DocFault>
     Ok(number as u32)
 }
 
-/// Judges the preamble at the front of the bytes, field by field, and gives its numbers and their
-/// conversion at a resolution.
+/// Judges the preamble at the beginning of the bytes, field by field, and gives its numbers and
+/// their conversion at a resolution.
 pub fn judge(bytes: &[u8], res: u32) -> Result<Scaled, DocFault>
     requires some { 1 ≤ res }
     requires fine { res ≤ 4800 }

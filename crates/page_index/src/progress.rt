@@ -3,7 +3,7 @@ ghost use Rattle.std.specs.Prelude.{◌≡◌, ◌<◌, ◌≤◌, ◌^◌};
 ghost use Rattle.big_endian.specs.Numbers.{int_eq};
 ghost use Rattle.dvi_commands.specs.Spelling.{seen};
 ghost use Rattle.page_index.specs.Judged.{bop_fault};
-ghost use Rattle.page_index.specs.Walked.{behind_preamble as behind, fault_by, position_or_none, progress_after};
+ghost use Rattle.page_index.specs.Walked.{after_preamble as begun, fault_by, position_or_none, progress_after};
 
 use crate::faults::{DocFault, PostField};
 use crate::fonts::{FontTable, fault_of};
@@ -18,7 +18,7 @@ pub struct PageSpan {
     pub end: usize,
 }
 
-/// What was read of a document so far, as far as the commands behind it are judged by it.
+/// What was read of a document so far, as far as the commands after it are judged by it.
 #[derive(Clone, Copy)]
 pub struct Progress {
     /// Where the next command stands.
@@ -48,9 +48,9 @@ fn leads_back(bop: Option<usize>, back: i32) -> bool
 }
 
 impl Progress {
-    /// Behind the preamble, which ends there.
-    pub fn behind_preamble(next: usize) -> Progress
-        ensures { result ≡ behind next }
+    /// After the preamble, which ends there.
+    pub fn after_preamble(next: usize) -> Progress
+        ensures { result ≡ begun next }
     {
         Progress {
             at: next,
@@ -65,7 +65,8 @@ impl Progress {
 
     #[inline(never)]
     fn bop_fault_of(&self, back: i32) -> Option<DocFault>
-        ensures { result ≡ bop_fault self.now.begun (position_or_none self.now.bop) self.now.at back }
+        ensures { result ≡ bop_fault self.now.begun (position_or_none self.now.bop)
+            self.now.at back }
     {
         if self.begun >= MOST_PAGES {
             return Some(DocFault::TooManyPages { at: self.at });

@@ -15,7 +15,8 @@ use std::alloc::Global;
 // Reads the commands to PostPost.
 fn walked(alloc: Global, bytes: &[u8], first: &Scaled) -> Result<Walk, IndexStop>
     requires { IsBegun bytes.now first.now }
-    ensures read { IfOk result (λ walk. IsReadTo bytes.now first.now walk.progress walk.pages.items walk.fonts) }
+    ensures read { IfOk result
+        (λ walk. IsReadTo bytes.now first.now walk.progress walk.pages.items walk.fonts) }
     ensures ended { IfOk result (λ walk. walk.progress.is_ended ≡ true) }
     ensures stop { IfErr result (λ stop. IsStopFor stop first.now.units.res bytes.now) }
 {
@@ -28,7 +29,8 @@ fn walked(alloc: Global, bytes: &[u8], first: &Scaled) -> Result<Walk, IndexStop
 }
 
 impl<'a> Index<'a> {
-    /// Reads a document of at most [`LONGEST`] bytes, for a resolution of 1 to 4800 dots to the inch.
+    /// Reads a document of at most [`LONGEST`] bytes, for a resolution of 1 to 4800 dots to the
+    /// inch.
     pub fn read(alloc: Global, bytes: &'a [u8], res: u32) -> Result<Index<'a>, IndexStop>
         requires some { 1 ≤ res }
         requires fine { res ≤ 4800 }

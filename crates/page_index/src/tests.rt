@@ -6,8 +6,8 @@ mod refusals;
 use crate::{DocFault, Index, IndexStop};
 use std::alloc::Global;
 
-/// A document of one page with a put rule of height 4 and width 6. Bop stands at 15, the rule at 60,
-/// Eop at 69, Post at 70, PostPost at 99, and the first byte 223 at 105.
+/// A document of one page with a put rule of height 4 and width 6. Bop stands at 15, the rule at
+/// 60, Eop at 69, Post at 70, PostPost at 99, and the first byte 223 at 105.
 pub(crate) const ONE_PAGE: [u8; 112] = [
     0xf7, 2, 0, 0, 0x04, 0xf6, 0, 0, 0, 3, 0, 0, 0x03, 0xe8, 0, // the preamble
     0x8b, 0, 0, 0, 1, 0, 0, 0, 0, 0, 0, 0, 0, 0, 0, 0, 0, 0, 0, 0, 0, 0, 0, 0, 0, 0, 0, 0, 0, 0, 0,

@@ -8,10 +8,10 @@ use big_endian::signed;
 
 const IDENTIFIER: u8 = 2;
 
-/// What stands behind a document, up to its end.
+/// What stands after a document, up to its end.
 const FILLER: u8 = 223;
 
-/// There are at least so many of these bytes.
+/// There are at least n of these bytes.
 const FEWEST: usize = 4;
 
 // Whether a pointer leads to the postamble.
@@ -24,7 +24,8 @@ fn leads_to(post: Option<usize>, pointer: i32) -> bool
     }
 }
 
-/// Judges the PostPost at a place, field by field. Its pointer is to be the position of the postamble.
+/// Judges the PostPost at a place, field by field. Its pointer is to be the position of the
+/// postamble.
 pub fn judge(bytes: &[u8], at: usize, post: Option<usize>) -> Result<(), DocFault>
     requires { at ≤ length bytes.now }
     ensures right { OnOk result (postpost_fault post at (drop at bytes.now) ≡ None) }
@@ -47,7 +48,7 @@ pub fn judge(bytes: &[u8], at: usize, post: Option<usize>) -> Result<(), DocFaul
     Ok(())
 }
 
-// How many bytes 223 stand at the front.
+// How many bytes 223 stand at the beginning.
 fn filler_length(bytes: &[u8]) -> usize
     ensures length { result ≡ length (take_while is_filler bytes.now) }
     ensures within { result ≤ length bytes.now }
@@ -55,7 +56,7 @@ fn filler_length(bytes: &[u8]) -> usize
     bytes.iter().take_while(|byte| **byte == FILLER).count()
 }
 
-/// Judges what stands behind PostPost: at least four bytes 223, and nothing else.
+/// Judges what stands after PostPost: at least four bytes 223, and nothing else.
 pub fn judge_filler(bytes: &[u8], at: usize) -> Result<(), DocFault>
     requires { at ≤ length bytes.now }
     ensures right { OnOk result (tail_fault at (drop at bytes.now) ≡ None) }

@@ -60,8 +60,8 @@ fn judge_early(
     }
 }
 
-// The place behind the plain commands that stand there one after another: most of a page's.
-fn behind_plain(bytes: &[u8], at: usize) -> usize
+// The place after the plain commands that stand there one after another: most of a page's.
+fn after_plain(bytes: &[u8], at: usize) -> usize
     requires { at ≤ length bytes.now }
     ensures passed { ArePassed bytes.now at result }
     ensures all { BeginsNoPlain (drop result bytes.now) }
@@ -74,7 +74,7 @@ fn behind_plain(bytes: &[u8], at: usize) -> usize
 }
 
 impl Walk {
-    /// Behind a preamble that was judged.
+    /// After a preamble that was judged.
     pub fn begin(alloc: Global, bytes: &[u8], first: &Scaled) -> Walk
         requires { IsBegun bytes.now first.now }
         ensures { IsReadTo bytes.now first.now result.progress result.pages.items result.fonts }
@@ -84,7 +84,7 @@ impl Walk {
             Err(_) => unreachable!(),
         };
         Walk {
-            progress: Progress::behind_preamble(next),
+            progress: Progress::after_preamble(next),
             pages: Vec::new(alloc),
             fonts: FontTable::new(alloc),
         }
@@ -93,7 +93,8 @@ impl Walk {
     // Keeps a definition, unless the number has one.
     #[inline(never)]
     fn define(&mut self, alloc: Global, def: &FontDef) -> Result<(), NoMemory>
-        ensures fonts { OnOk result (self.new.fonts ≡ fonts_after self.old.fonts (Define (seen_definition def.now))) }
+        ensures fonts { OnOk result (self.new.fonts ≡ fonts_after self.old.fonts
+            (Define (seen_definition def.now))) }
         ensures progress { self.new.progress ≡ self.old.progress }
         ensures pages { self.new.pages ≡ self.old.pages }
     {
@@ -107,7 +108,9 @@ impl Walk {
     #[inline(always)]
     fn keep(&mut self, alloc: Global, command: &Command) -> Result<(), NoMemory>
         ensures progress { self.new.progress ≡ self.old.progress }
-        ensures pages { OnOk result (self.new.pages.items ≡ pages_after self.old.progress self.old.pages.items (seen command.now)) }
+        ensures pages { OnOk result
+            (self.new.pages.items ≡ pages_after self.old.progress self.old.pages.items
+            (seen command.now)) }
         ensures fonts { OnOk result (self.new.fonts ≡ fonts_after self.old.fonts (seen command.now)) }
     {
         match command {
@@ -123,18 +126,20 @@ impl Walk {
         }
     }
 
-    /// Goes on behind the plain commands of a page, which change nothing but the place.
+    /// Goes on after the plain commands of a page, which change nothing but the place.
     pub fn pass_plain(&mut self, bytes: &[u8])
         requires inside { self.old.progress.at ≤ length bytes.now }
         requires going { self.old.progress.is_ended ≡ false }
-        ensures read { (first : Scaled) → IsReadTo bytes.now first self.old.progress self.old.pages.items self.old.fonts
+        ensures read { (first : Scaled)
+            → IsReadTo bytes.now first self.old.progress self.old.pages.items self.old.fonts
             → IsReadTo bytes.now first self.new.progress self.new.pages.items self.new.fonts }
         ensures going { self.new.progress.is_ended ≡ false }
         ensures back { self.old.progress.at ≤ self.new.progress.at }
-        ensures all { self.new.progress.context ≡ context.Page → BeginsNoPlain (drop self.new.progress.at bytes.now) }
+        ensures all { self.new.progress.context ≡ context.Page
+            → BeginsNoPlain (drop self.new.progress.at bytes.now) }
     {
         if let Context::Page = self.progress.context {
-            self.progress.at = behind_plain(bytes, self.progress.at);
+            self.progress.at = after_plain(bytes, self.progress.at);
         }
     }
 
@@ -143,7 +148,8 @@ impl Walk {
     pub fn step(&mut self, alloc: Global, bytes: &[u8], first: &Scaled) -> Result<(), IndexStop>
         requires read { IsReadTo bytes.now first.now self.old.progress self.old.pages.items self.old.fonts }
         requires going { self.old.progress.is_ended ≡ false }
-        ensures read { OnOk result (IsReadTo bytes.now first.now self.new.progress self.new.pages.items self.new.fonts) }
+        ensures read { OnOk result
+            (IsReadTo bytes.now first.now self.new.progress self.new.pages.items self.new.fonts) }
         ensures grows { OnOk result (self.old.progress.at < self.new.progress.at) }
         ensures stop { IfErr result (λ stop. IsStopFor stop first.now.units.res bytes.now) }
     {

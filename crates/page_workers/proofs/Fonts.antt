@@ -50,7 +50,8 @@ by_some : (told : Option library.Files) (u : Units) (k : FontKey) (d : Decoded) 
 by_some None u k d font = font
 by_some (Some l) u k d font = record { files = font.files; order = in_order l u k font.files font.found; decoding = font.decoding }
 
--- a font by what the source tells is one by what the common part tells, where the source tells as much
+-- a font by what the source tells is one by what the common part tells, where the source tells as
+-- much
 pub as_told : (common told : Option library.Files) (u v : Units) (k : FontKey) (d : Decoded) → IfSome common (λ l. told ≡ Some l) → u ≡ v → IsFontOf told (Some u) k d
     → IsFontOf common (Some v) k d
 as_told None told u v k d tells same font = subst (λ (w : Units). IsFontBySome w k d) same (by_some told u k d font)

@@ -130,7 +130,8 @@ module _ {F : Type 0} (library : F → Option Files) (faults loads : F → ℕ) 
     pub rises_share : IsStrictlyIncreasing (pages_of share.drawn)
     rises_share = subst IsStrictlyIncreasing (sym share.pages) (rising_from first share.claimed share.rises)
 
-    -- each worker claims once at least, and none beyond the round where some page of it was not claimed
+    -- each worker claims once at least, and none beyond the round where some page of it was not
+    -- claimed
     beyond_below : (c : ℕ) → share.beyond ≡ c ∷ [] → c < m
     beyond_below c is = claim_below k c inside (subst (λ (l : List ℕ). Contains l c) (sym share.claims)
         (Contains-append_right share.claimed share.beyond c (subst (λ (l : List ℕ). Contains l c) (sym is) (0, omega arith, refl))))

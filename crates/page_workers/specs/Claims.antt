@@ -24,7 +24,7 @@ pub record Kept {F : Type 0} (before after : Worker F) : Type 0 where
   pub rested : Rested before after
   pub counter : after.counter ≡ before.counter
 
--- room for so many results and pages more was taken
+-- room for n results and pages more was taken
 pub record HasRoom {F : Type 0} (n : ℕ) (w : Worker F) : Type 0 where
   pub results : vec_len w.results + n ≤ vec_capacity w.results
   pub pages : vec_len w.pages + n ≤ vec_capacity w.pages
@@ -76,7 +76,7 @@ pub record Claimed {F : Type 0} (first count : ℕ) (page : Option ℕ) (before 
 
 -- ---- a worker's part of a round
 
--- the worker may draw so many pages, as it claims them from this counter
+-- the worker may draw n pages, as it claims them from this counter
 pub record MayTakePart {F : Type 0} (library : F → Option Files) (bench : Bench) (id : TableId)
     (count : ℕ) (w : Worker F) : Type 0 where
   pub fits : Fits (library w.source) bench w.seat

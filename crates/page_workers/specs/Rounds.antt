@@ -52,7 +52,7 @@ pub record Rested {F : Type 0} (before after : Worker F) : Type 0 where
   pub loads : after.loads ≡ before.loads
   pub pages : after.pages.items ≡ before.pages.items
 
--- the worker may draw so many pages at this bench
+-- the worker may draw n pages at this bench
 pub record MayDraw {F : Type 0} (library : F → Option Files) (bench : Bench) (count : ℕ)
     (w : Worker F) : Type 0 where
   pub fits : Fits (library w.source) bench w.seat
@@ -89,7 +89,7 @@ module _ {F : Type 0} (library : F → Option Files) (faults loads : F → ℕ) 
 
   -- ---- all workers
 
-  -- they drew so many pages from `first` on, at most `count`, each by one of them and once. A
+  -- they drew n pages from `first` on, at most `count`, each by one of them and once. A
   -- worker draws its pages in rising order, and no more after one without a bitmap
   pub record DrewRound (bench : Bench) (indexed : Indexed) (sheet : Sheet) (first count : ℕ)
       (before after : List (Worker F)) : Type 0 where

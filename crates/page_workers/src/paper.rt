@@ -1,5 +1,5 @@
-//! Paper: pages that were written, whose memory is drawn on again. New memory for a page costs as much
-//! as to draw it, since each piece of it is handed out by the system when it is first written.
+//! Paper: pages that were written, whose memory is drawn on again. New memory for a page costs as
+//! much as to draw it, since each piece of it is handed out by the system when it is first written.
 ghost use Rattle.std.specs.Prelude.{◌≡◌, ℕ, ◌<◌, ◌≤◌, [], IfOk, length, slice_index_or};
 ghost use Rattle.page_draw.specs.Sheets.{IsDrawable};
 ghost use Rattle.raster_page.specs.Ink.{page_of};
@@ -11,8 +11,8 @@ use page_draw::Sheet;
 use raster_page::Page;
 use std::alloc::{AllocError as NoMemory, Global};
 
-/// A blank page: paper that has the sheet's sides, cleared, or else a new page. Paper of other sides is
-/// dropped.
+/// A blank page: paper that has the sheet's sides, cleared, or else a new page. Paper of other
+/// sides is dropped.
 pub fn blank_page(alloc: Global, paper: &mut Vec<Page>, sheet: &Sheet) -> Result<Page, NoMemory>
     requires { IsDrawable sheet.now }
     ensures { IfOk result (λ page. page ≡ page_of sheet.now.width sheet.now.height []) }
@@ -42,7 +42,7 @@ impl<F: FontSource> Worker<F> {
         self.paper.clear();
     }
 
-    // Takes spare pages as paper, until it has so many.
+    // Takes spare pages as paper, until it has `share` of them.
     fn take_paper(&mut self, spare: &mut Vec<Page>, share: usize)
         ensures { SameButPaper self.old self.new }
     {
@@ -54,8 +54,8 @@ impl<F: FontSource> Worker<F> {
     }
 }
 
-/// Hands spare pages to the workers as paper, until they have `count` pages together, of which each has
-/// its even share. Those that are left are dropped.
+/// Hands spare pages to the workers as paper, until they have `count` pages together, of which each
+/// has its even share. Those that are left are dropped.
 pub fn share_paper<F: FontSource>(workers: &mut [Worker<F>], spare: &mut Vec<Page>, count: usize)
     ensures same { (k : ℕ) (d : _) → k < length workers.old
         → SameButPaper (slice_index_or workers.old k d) (slice_index_or workers.new k d) }

@@ -22,10 +22,10 @@ use std::sync::Wait;
 use std::thread;
 use std::thread::Threads;
 
-/// The most workers of a run. Each of so many gets a thread of its own.
+/// The most workers of a run. Each of them gets a thread of its own.
 pub const MOST_WORKERS: usize = 32;
 
-// Takes room for so many results and pages more.
+// Takes room for n results and pages more.
 fn reserve<F: FontSource>(worker: &mut Worker<F>, count: usize) -> Result<(), NoMemory>
     ensures kept { Kept worker.old worker.new }
     ensures room { OnOk result (HasRoom count worker.new) }
@@ -35,7 +35,7 @@ fn reserve<F: FontSource>(worker: &mut Worker<F>, count: usize) -> Result<(), No
     Ok(())
 }
 
-// Takes room for so many results and pages more of each worker.
+// Takes room for n results and pages more of each worker.
 fn reserve_all<F: FontSource>(workers: &mut [Worker<F>], count: usize) -> Result<(), NoMemory>
     ensures kept { (k : ℕ) (d : _) → k < length workers.old
         → Kept (slice_index_or workers.old k d) (slice_index_or workers.new k d) }
@@ -109,8 +109,8 @@ pub fn draw_round<R: Threads + Wait + Sync, F: FontSource + Send>(
     Ok(())
 }
 
-/// Draws a round as `draw_round` does, on the memory of `paper`: spare pages, of which each worker takes
-/// its share. The others are dropped.
+/// Draws a round as `draw_round` does, on the memory of `paper`: spare pages, of which each worker
+/// takes its share. The others are dropped.
 pub fn draw_round_on<R: Threads + Wait + Sync, F: FontSource + Send>(
     rt: &R,
     alloc: Global,

@@ -32,8 +32,8 @@ fn seat_one<F: FontSource>(
     worker.seat = Some(cache.split(first));
 }
 
-/// Gives each worker a seat that has made no call: worker k, counted from 0, gets seat k + 1. Seat 0
-/// makes none meanwhile. It takes no memory.
+/// Gives each worker a seat that has made no call: worker k, counted from 0, gets seat k + 1. Seat
+/// 0 makes none meanwhile. It takes no memory.
 pub fn seat_all<F: FontSource>(
     cache: &FontCache<Decoded>,
     first: &mut CacheSeat<Decoded>,

@@ -21,8 +21,8 @@ use std::sync::{Arc, Wait};
 use std::test::Fail;
 use std::thread::Threads;
 
-// One round of all pages, of which there are 1 to 32, over a new cache of `capacity` fonts. Gives the
-// cache's history.
+// One round of all pages, of which there are 1 to 32, over a new cache of `capacity` fonts. Gives
+// the cache's history.
 fn one_round<R: Threads + Wait + Sync, F: FontSource + Send>(
     rt: &R,
     alloc: Global,
@@ -61,7 +61,7 @@ fn one_round<R: Threads + Wait + Sync, F: FontSource + Send>(
     Ok(cache.close(first))
 }
 
-// So many workers over this library.
+// n workers over this library.
 fn sure_workers(
     alloc: Global,
     library: &Arc<Library>,
@@ -85,19 +85,19 @@ fn failing(alloc: Global, library: &Arc<Library>, load: u64) -> Result<Worker<Me
     Ok(Worker::new(alloc, MemFonts::new(Arc::try_clone(library)?, fails)))
 }
 
-// Three workers over this library, which fail the loads of files whose name begins with `front`.
+// Three workers over this library, which fail the loads of files whose name begins with `prefix`.
 fn picky_workers(
     alloc: Global,
     library: &Arc<Library>,
-    front: &[u8],
+    prefix: &[u8],
 ) -> Result<Vec<Worker<PickyFonts>>, Fail>
     ensures count { IfOk result (λ workers. length workers.items ≡ 3) }
     ensures unused { IfOk result (λ workers. All IsUnused workers.items) }
 {
     let mut workers = Vec::new(alloc);
     for _i in 0..3usize {
-        let front = FontName::new(alloc, front)?;
-        workers.push(Worker::new(alloc, PickyFonts::new(Arc::try_clone(library)?, front)))?;
+        let prefix = FontName::new(alloc, prefix)?;
+        workers.push(Worker::new(alloc, PickyFonts::new(Arc::try_clone(library)?, prefix)))?;
     }
     Ok(workers)
 }
@@ -260,9 +260,9 @@ fn a_failed_load_is_the_last_of_its_worker(rt: HostRuntime) -> Result<(), Fail> 
 fn a_failed_load_stops_its_own_page_alone(rt: HostRuntime) -> Result<(), Fail> {
     let alloc = rt.alloc();
     let library = library(alloc)?;
-    let fronts: [(&[u8], u64); 3] = [(b"bar.t", 1), (b"bar.v", 2), (b"bar.3", 3)];
-    for (front, loads) in fronts {
-        let mut workers = picky_workers(alloc, &library, front)?;
+    let prefixes: [(&[u8], u64); 3] = [(b"bar.t", 1), (b"bar.v", 2), (b"bar.3", 3)];
+    for (prefix, loads) in prefixes {
+        let mut workers = picky_workers(alloc, &library, prefix)?;
         let pages: [&[u8]; 3] = [&[0xab, 0x41], &[0xac, 0x41], &[0xab, 0x41]];
         let history = one_round(&rt, alloc, &mut workers, 4, &pages)?;
         assert_eq!(rt; outcome_at(&workers, 0), (1, 0xc0, 'w'));

@@ -28,7 +28,7 @@ digits_of_decimal n lt = decimal_by_steps (λ _ ds. AreDigits ds)
     (λ k ds _ before. digits_append ds (48 + k % 10) before (omega arith))
     n lt
 
--- what stands before and behind the first byte that is no digit
+-- what stands before and after the first byte that is no digit
 parted : (c : ℕ) (a b x y : List ℕ) → c < 48 → AreDigits a → AreDigits b → a ++ c ∷ x ≡ b ++ c ∷ y → (a ≡ b) × (x ≡ y)
 parted c [] [] x y lt p q e = (refl, cc)
 parted c [] (d ∷ b) x y lt p q e = let same : c ≡ d = cc in absurd (omega (arith, lt, q.0, same))
@@ -37,7 +37,7 @@ parted c (d ∷ a) (f ∷ b) x y lt p q e =
     let first : d ≡ f = cc in
     let rest : a ++ c ∷ x ≡ b ++ c ∷ y = cc in
     let parts = parted c a b x y lt p.1 q.1 rest in
-    let front : a ≡ b = parts.0 in
+    let prefix : a ≡ b = parts.0 in
     (cc, parts.1)
 
 -- ---- the rows
@@ -90,7 +90,7 @@ row_told w a b p q e = ext_get_or false a b (p ∙ sym q) each
         ∙ bits_told 8 _ _ same (k % 8) (omega arith)
         ∙ get_or-drop (8 * (k / 8)) b (k % 8) false ∙ ap (λ j. get_or b j false) place
 
--- two texts with fronts of one length
+-- two texts with prefixes of one length
 cut : (a b x y : List ℕ) → length a ≡ length b → a ++ x ≡ b ++ y → (a ≡ b) × (x ≡ y)
 cut [] [] x y len e = (refl, e)
 cut [] (f ∷ b) x y len e = absurd (omega (arith, len))
@@ -99,7 +99,7 @@ cut (d ∷ a) (f ∷ b) x y len e =
     let first : d ≡ f = cc in
     let rest : a ++ x ≡ b ++ y = cc in
     let parts = cut a b x y (omega (arith, len)) rest in
-    let front : a ≡ b = parts.0 in
+    let prefix : a ≡ b = parts.0 in
     (cc, parts.1)
 
 abbrev AreWide : ℕ → List (List Bool) → Type 0

@@ -1,2 +1,2 @@
 pub mod Pbm
-pub mod Rows
+pub mod Examples

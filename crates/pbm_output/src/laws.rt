@@ -2,7 +2,7 @@
 
 ghost use Rattle.std.specs.Prelude.{◌≡◌, ◌++◌, ◌∷◌, [], codes};
 ghost use Rattle.pbm_output.specs.Pbm.{TextsHaveTheirLength, TextsTellThePage, page_text};
-ghost use Rattle.pbm_output.specs.Rows.{small_page};
+ghost use Rattle.pbm_output.specs.Examples.{small_page};
 
 /// How long the text of a page is.
 pub fn lengths()
@@ -14,7 +14,8 @@ pub fn told_pages()
     ensures { TextsTellThePage }
 {}
 
-/// The text of a page of 10 by 2 dots: a row takes two bytes, and the first dot stands in the high bit.
+/// The text of a page of 10 by 2 dots: a row takes two bytes, and the first dot stands in the high
+/// bit.
 pub fn worked_page()
     ensures { page_text small_page ≡ codes "P4\n10 2\n" ++ 0 ∷ 192 ∷ 0 ∷ 0 ∷ [] }
 {}

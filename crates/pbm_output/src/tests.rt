@@ -24,7 +24,7 @@ fn a_page_is_written_whole(rt: HostRuntime) -> Result<(), Fail> {
 }
 
 #[test]
-fn a_failed_write_leaves_a_front(rt: HostRuntime) -> Result<(), Fail> {
+fn a_failed_write_leaves_a_prefix(rt: HostRuntime) -> Result<(), Fail> {
     let page = small_page(&rt)?;
     let mut none = MemOutput::new(rt.alloc(), 1, vec![in rt.alloc(); 1]?);
     assert_eq!(rt; write_page(&mut none, &page), Err(WriteFault));

@@ -10,7 +10,7 @@ ghost use Rattle.pbm_output.specs.Pbm.{page_text};
 use outside::{Failed, Gather, Output};
 use raster_page::Page;
 
-/// The output failed. What it took before is a front of the page's text, and not all of it.
+/// The output failed. What it took before is a prefix of the page's text, and not all of it.
 #[derive(Clone, Copy, Debug, PartialEq, Eq, thiserror::Error)]
 #[error("the output failed")]
 pub struct WriteFault;
@@ -23,7 +23,8 @@ impl From<Failed> for WriteFault {
 
 /// Writes the page as a PBM file in its raw form (P4). Takes no memory.
 pub fn write_page<O: Output>(out: &mut O, page: &Page) -> Result<(), WriteFault>
-    ensures { Writes (O.written out.old) (O.written out.new) (O.faults out.old) (O.faults out.new) (page_text page.now) result }
+    ensures { Writes (O.written out.old) (O.written out.new) (O.faults out.old) (O.faults out.new)
+        (page_text page.now) result }
 {
     let mut number = itoa::Buffer::new();
     let mut gather = Gather::new();

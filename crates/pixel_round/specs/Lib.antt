@@ -1,3 +1,3 @@
 pub mod Pixels
-pub mod Rows
+pub mod Examples
 pub mod Preamble

@@ -1,5 +1,5 @@
--- From DVI units to pixels: Knuth, DVItype, "Translation to symbolic form" (the rules of pixel_round and rule_pixels), with an exact
--- fraction where DVItype has a real.
+-- From DVI units to pixels: Knuth, DVItype, "Translation to symbolic form" (the rules of
+-- pixel_round and rule_pixels), with an exact fraction where DVItype has a real.
 use Rattle.std.specs.Prelude.{◌≡◌, ℕ, suc, ◌+◌, ◌*◌, ◌/◌, ◌<◌, ◌≤◌, ℤ, pos, negsuc, ◌-ℤ◌, ◌*ℤ◌, ◌<ℤ◌, ◌≤ℤ◌, neg_ℤ, unsigned_abs}
 use Rattle.std.specs.Int.{div_ceil}
 use Rattle.pixel_round.specs.declared.units.Units.{Units}
@@ -63,7 +63,8 @@ OnlyOneIsRound = (c : Fraction) (x m n : ℤ) → 0 < c.bottom → IsRound c x m
 -- where the conversion is at most 512: how large a converted number is
 abbrev pub ConvertedAreBounded : Type 0
 ConvertedAreBounded = (c : Fraction) (x : ℤ) → 0 < c.bottom → c.top ≤ 512 * c.bottom
-    → (unsigned_abs (round c x) ≤ 512 * unsigned_abs x + 1) × (unsigned_abs (ceil c x) ≤ 512 * unsigned_abs x + 1)
+    → (unsigned_abs (round c x) ≤ 512 * unsigned_abs x + 1)
+    × (unsigned_abs (ceil c x) ≤ 512 * unsigned_abs x + 1)
 
 abbrev pub CeilIsLeast : Type 0
 CeilIsLeast = (c : Fraction) (x : ℤ) → 0 < c.bottom → IsCeil c x (ceil c x)
@@ -73,4 +74,5 @@ SidesHaveDots = (c : Fraction) (x : ℤ) → IsUsable c → pos 0 <ℤ x → pos
 
 -- fractions of one value convert alike
 abbrev pub EqualFractionsConvertAlike : Type 0
-EqualFractionsConvertAlike = (a b : Fraction) (x : ℤ) → AreEqual a b → (round a x ≡ round b x) × (ceil a x ≡ ceil b x)
+EqualFractionsConvertAlike =
+    (a b : Fraction) (x : ℤ) → AreEqual a b → (round a x ≡ round b x) × (ceil a x ≡ ceil b x)

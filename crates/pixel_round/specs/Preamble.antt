@@ -1,4 +1,5 @@
--- What holds of the units of every document that is drawn: those of a sound preamble, and the resolution of a page.
+-- What holds of the units of every document that is drawn: those of a sound preamble, and the
+-- resolution of a page.
 use Rattle.std.specs.Prelude.{◌^◌, ◌<◌, ◌≤◌}
 use Rattle.pixel_round.specs.declared.units.Units.{Units}
 

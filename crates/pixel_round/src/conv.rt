@@ -37,14 +37,15 @@ impl Model for Conv {
 
     ghost view = { λ c. record { top = c.top; bottom = c.bottom } };
 
-    ghost invariant = { λ c. (0 < c.top) × (0 < c.bottom) × (c.top ≤ 512 * c.bottom) × (c.bottom < 2 ^ 59) };
+    ghost invariant = { λ c. (0 < c.top) × (0 < c.bottom) × (c.top ≤ 512 * c.bottom)
+        × (c.bottom < 2 ^ 59) };
 
     ghost inverse = { λ c. record { top = c.top; bottom = c.bottom } };
 }
 
 impl Conv {
-    /// The conversion of a document at a resolution. The fractions of a preamble are positive numbers of four bytes with a
-    /// sign, and the resolution is 1 to 4800 dots to the inch.
+    /// The conversion of a document at a resolution. The fractions of a preamble are positive
+    /// numbers of four bytes with a sign, and the resolution is 1 to 4800 dots to the inch.
     ///
     /// `Scale` is answered exactly where a unit would be more than 512 dots.
     pub fn new(units: &Units) -> Result<Conv, Scale>
@@ -54,7 +55,8 @@ impl Conv {
         requires res { (0 < units.now.res) × (units.now.res ≤ 4800) }
         ensures made { IfOk result (λ c. AreEqual c (conversion units.now)) }
         ensures usable { IfOk result IsUsable }
-        ensures refused { IsErr result ↔ (512 * (conversion units.now).bottom < (conversion units.now).top) }
+        ensures refused { IsErr result ↔ (512 * (conversion units.now).bottom <
+            (conversion units.now).top) }
     {
         let top = u128::from(units.num) * u128::from(units.res) * u128::from(units.mag);
         let bottom = 254000000 * u64::from(units.den);
@@ -80,7 +82,8 @@ impl Conv {
         }
     }
 
-    /// A length or a motion in whole dots: the nearest number, and of two such numbers the one farther from zero.
+    /// A length or a motion in whole dots: the nearest number, and of two such numbers the one
+    /// farther from zero.
     ///
     /// Knuth, DVItype, "Translation to symbolic form" (pixel_round).
     #[inline(always)]
@@ -147,8 +150,8 @@ impl Conv {
 mod tests {
     use super::*;
 
-    // One half of a dot for a unit: 1270 * 300 * 1000 = 381000000 over 254000000 * 3 = 762000000. The halves go away from zero,
-    // and a rule's side goes up.
+    // One half of a dot for a unit: 1270 * 300 * 1000 = 381000000 over 254000000 * 3 = 762000000.
+    // The halves go away from zero, and a rule's side goes up.
     #[test]
     fn converts_by_one_half(rt: HostRuntime) -> Result<(), Scale> {
         let conv = Conv::new(&Units {
@@ -172,8 +175,9 @@ mod tests {
         Ok(())
     }
 
-    // TeX's units at 300 dots to the inch: 25400000 * 300 * 1000 over 254000000 * 473628672 is 625 / 9867264, so that 7893 units
-    // are 0.49995 dots, 7894 are 0.50001, 4933632 are 312.5 and 2^31 are 136023.246.
+    // TeX's units at 300 dots to the inch: 25400000 * 300 * 1000 over 254000000 * 473628672 is 625
+    // / 9867264, so that 7893 units are 0.49995 dots, 7894 are 0.50001, 4933632 are 312.5 and 2^31
+    // are 136023.246.
     #[test]
     fn converts_tex_units(rt: HostRuntime) -> Result<(), Scale> {
         let conv = Conv::new(&Units {
@@ -197,8 +201,8 @@ mod tests {
         Ok(())
     }
 
-    // 2147483647 * 4799 * 1000003 over 254000000 * 2147483646 is in lowest terms, and about 18.9: with x at 2^31 the numbers
-    // take 95 bits, with x at 0 they fit 64.
+    // 2147483647 * 4799 * 1000003 over 254000000 * 2147483646 is in lowest terms, and about 18.9:
+    // with x at 2^31 the numbers take 95 bits, with x at 0 they fit 64.
     #[test]
     fn converts_by_wide_numbers(rt: HostRuntime) -> Result<(), Scale> {
         let conv = Conv::new(&Units {

@@ -2,7 +2,8 @@
 
 /// The fractions of a DVI preamble, and the resolution.
 ///
-/// Knuth, DVItype, "Optional modes of output" (the resolution) and "The preamble" (num, den and mag).
+/// Knuth, DVItype, "Optional modes of output" (the resolution) and "The preamble" (num, den and
+/// mag).
 #[derive(Clone, Copy, Debug, PartialEq, Eq)]
 pub struct Units {
     /// The numerator: with `den` it gives one DVI unit in units of 10^-7 meters.

@@ -4,7 +4,7 @@ use Rattle.pk_runs.specs.Numbers.{Run, Repeat}
 use Rattle.pk_packets.specs.Items.{IsItem}
 use Rattle.pk_packets.specs.Fonts.{AreSound, HasRaster, IsAnswer, IsPkFile}
 use Rattle.pk_packets.specs.Faults.{IsFirstFault}
-use Rattle.pk_packets.specs.Rows.{bar_file, bar_glyph, bar_packet, wrong_identifier, wrong_length, wrong_opcode}
+use Rattle.pk_packets.specs.Examples.{bar_file, bar_glyph, bar_packet, wrong_identifier, wrong_length, wrong_opcode}
 use Rattle.pk_packets.specs.declared.faults.PkFault.TheVariants as fault
 
 -- the nybbles 14 2 are a repeat count of 2, and 1, 1 and 4 runs of black, white and black
@@ -46,7 +46,7 @@ pub not_found : IsAnswer (bar_packet ∷ []) 66 None
 not_found = refl
 
 pub short : IsFirstFault (take 33 bar_file) fault.Short
-short = record { items = bar_packet ∷ []; rest = []; sound = sound; text = refl; behind = inl (inl ((lit≤ tt, lit< tt), refl)) }
+short = record { items = bar_packet ∷ []; rest = []; sound = sound; text = refl; after = inl (inl ((lit≤ tt, lit< tt), refl)) }
 
 pub identifier : IsFirstFault wrong_identifier fault.Preamble
 identifier = refl
@@ -57,8 +57,8 @@ length_of_packet = record {
   rest = drop 19 wrong_length;
   sound = tt;
   text = refl;
-  behind = inr (record { packet = take 10 (drop 19 wrong_length); more = drop 29 wrong_length; here = refl; item = record { known = lit≤ tt; not_closing = refl; whole = refl }; kind = refl; wrong = refl });
+  after = inr (record { packet = take 10 (drop 19 wrong_length); more = drop 29 wrong_length; here = refl; item = record { known = lit≤ tt; not_closing = refl; whole = refl }; kind = refl; wrong = refl });
 }
 
-pub opcode_behind : IsFirstFault wrong_opcode (fault.Undefined 247)
-opcode_behind = record { items = bar_packet ∷ []; rest = 247 ∷ 246 ∷ 246 ∷ []; sound = sound; text = refl; behind = inl (inr (lit≤ tt, refl)) }
+pub opcode_after : IsFirstFault wrong_opcode (fault.Undefined 247)
+opcode_after = record { items = bar_packet ∷ []; rest = 247 ∷ 246 ∷ 246 ∷ []; sound = sound; text = refl; after = inl (inr (lit≤ tt, refl)) }

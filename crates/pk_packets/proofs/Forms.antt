@@ -11,10 +11,10 @@ use Rattle.pk_packets.specs.Items.{by_form, code_size, count_size, head_size, to
 use Rattle.pk_packets.specs.Packets.{escapement_size, fixed_size, side_size, sides_at}
 use Rattle.pk_packets.specs.Written.{ExtendedPacketsAreReadAgain, Fields, IsReadAs, LongPacketsAreReadAgain, ShortPacketsAreReadAgain, flag_with, packet_bytes}
 
--- ---- parts of a list, one behind another
+-- ---- parts of a list, one after another
 
-behind : (xs part rest : List ℕ) (i n : ℕ) → drop i xs ≡ part ++ rest → length part ≡ n → drop (i + n) xs ≡ rest
-behind xs part rest i n e len = sym (drop-drop n i xs) ∙ ap (drop n) e ∙ drop_at part rest n len
+after : (xs part rest : List ℕ) (i n : ℕ) → drop i xs ≡ part ++ rest → length part ≡ n → drop (i + n) xs ≡ rest
+after xs part rest i n e len = sym (drop-drop n i xs) ∙ ap (drop n) e ∙ drop_at part rest n len
 
 number : (xs rest : List ℕ) (i s n m : ℕ) → s ≡ n → 1 ≤ n → n ≤ 4 → m < 256 ^ n → drop i xs ≡ number_bytes n (pos m) ++ rest → unsigned_at xs i s ≡ m
 number xs rest i s n m size some few fits e =
@@ -109,29 +109,29 @@ read_again : (f : Fields) (flag c k e n t m : ℕ) → IsForm flag c k e n t →
 read_again f flag c k e n t m form is some_c few_c some_k few_k some few fits_m fits_code escapements fits_w fits_h fits_x fits_y total =
     let bytes = packet_bytes f flag (number_bytes c (pos m)) (number_bytes k (pos f.code)) n in
     let s = side_size flag in
-    let behind_hoff : List ℕ = number_bytes n f.voff ++ f.raster in
-    let behind_height : List ℕ = number_bytes n f.hoff ++ behind_hoff in
-    let behind_width : List ℕ = number_bytes n (pos f.height) ++ behind_height in
-    let sides : List ℕ = number_bytes n (pos f.width) ++ behind_width in
-    let behind_code : List ℕ = f.escapements ++ sides in
-    let behind_count : List ℕ = number_bytes k (pos f.code) ++ behind_code in
+    let after_hoff : List ℕ = number_bytes n f.voff ++ f.raster in
+    let after_height : List ℕ = number_bytes n f.hoff ++ after_hoff in
+    let after_width : List ℕ = number_bytes n (pos f.height) ++ after_height in
+    let sides : List ℕ = number_bytes n (pos f.width) ++ after_width in
+    let after_code : List ℕ = f.escapements ++ sides in
+    let after_count : List ℕ = number_bytes k (pos f.code) ++ after_code in
     let len_m : length (number_bytes c (pos m)) ≡ c = length-number_bytes c (pos m) some_c few_c in
     let len_code : length (number_bytes k (pos f.code)) ≡ k = length-number_bytes k (pos f.code) some_k few_k in
     let len_w : length (number_bytes n (pos f.width)) ≡ n = length-number_bytes n (pos f.width) some few in
     let len_h : length (number_bytes n (pos f.height)) ≡ n = length-number_bytes n (pos f.height) some few in
     let len_x : length (number_bytes n f.hoff) ≡ n = length-number_bytes n f.hoff some few in
     let len_y : length (number_bytes n f.voff) ≡ n = length-number_bytes n f.voff some few in
-    let p1 : drop (1 + count_size flag) bytes ≡ behind_count = behind bytes (number_bytes c (pos m)) behind_count 1 (count_size flag) refl (len_m ∙ sym form.count) in
-    let p2 : drop (head_size flag) bytes ≡ behind_code = behind bytes (number_bytes k (pos f.code)) behind_code (1 + count_size flag) (code_size flag) p1 (len_code ∙ sym form.code) in
-    let p3 : drop (sides_at flag) bytes ≡ sides = behind bytes f.escapements sides (head_size flag) (escapement_size flag) p2 (escapements ∙ sym form.escapements) in
-    let p4 : drop (sides_at flag + s) bytes ≡ behind_width = behind bytes (number_bytes n (pos f.width)) behind_width (sides_at flag) s p3 (len_w ∙ sym form.side) in
-    let p5 : drop (sides_at flag + s + s) bytes ≡ behind_height = behind bytes (number_bytes n (pos f.height)) behind_height (sides_at flag + s) s p4 (len_h ∙ sym form.side) in
-    let p6 : drop (sides_at flag + s + s + s) bytes ≡ behind_hoff = behind bytes (number_bytes n f.hoff) behind_hoff (sides_at flag + s + s) s p5 (len_x ∙ sym form.side) in
-    let p7 : drop (sides_at flag + s + s + s + s) bytes ≡ f.raster = behind bytes (number_bytes n f.voff) f.raster (sides_at flag + s + s + s) s p6 (len_y ∙ sym form.side) in
+    let p1 : drop (1 + count_size flag) bytes ≡ after_count = after bytes (number_bytes c (pos m)) after_count 1 (count_size flag) refl (len_m ∙ sym form.count) in
+    let p2 : drop (head_size flag) bytes ≡ after_code = after bytes (number_bytes k (pos f.code)) after_code (1 + count_size flag) (code_size flag) p1 (len_code ∙ sym form.code) in
+    let p3 : drop (sides_at flag) bytes ≡ sides = after bytes f.escapements sides (head_size flag) (escapement_size flag) p2 (escapements ∙ sym form.escapements) in
+    let p4 : drop (sides_at flag + s) bytes ≡ after_width = after bytes (number_bytes n (pos f.width)) after_width (sides_at flag) s p3 (len_w ∙ sym form.side) in
+    let p5 : drop (sides_at flag + s + s) bytes ≡ after_height = after bytes (number_bytes n (pos f.height)) after_height (sides_at flag + s) s p4 (len_h ∙ sym form.side) in
+    let p6 : drop (sides_at flag + s + s + s) bytes ≡ after_hoff = after bytes (number_bytes n f.hoff) after_hoff (sides_at flag + s + s) s p5 (len_x ∙ sym form.side) in
+    let p7 : drop (sides_at flag + s + s + s + s) bytes ≡ f.raster = after bytes (number_bytes n f.voff) f.raster (sides_at flag + s + s + s) s p6 (len_y ∙ sym form.side) in
     let at_hoff : sides_at flag + 2 * s ≡ sides_at flag + s + s = omega arith in
     let at_voff : sides_at flag + 3 * s ≡ sides_at flag + s + s + s = omega arith in
     let at_raster : head_size flag + fixed_size flag ≡ sides_at flag + s + s + s + s = omega arith in
-    let told : unsigned_at bytes 1 (count_size flag) ≡ m = number bytes behind_count 1 (count_size flag) c m form.count some_c few_c fits_m refl in
+    let told : unsigned_at bytes 1 (count_size flag) ≡ m = number bytes after_count 1 (count_size flag) c m form.count some_c few_c fits_m refl in
     record {
       item = record {
         known = omega (arith, is.packet);
@@ -140,12 +140,12 @@ read_again f flag c k e n t m form is some_c few_c some_k few_k some few fits_m 
             c k e n t m (count_size flag) (code_size flag) (told_by_opcode flag) (unsigned_at bytes 1 (count_size flag)) len_m len_code escapements len_w len_h len_x len_y form.count form.code form.told told total;
       };
       kind = lt-ltb flag 240 is.packet;
-      code = number bytes behind_code (1 + count_size flag) (code_size flag) k f.code form.code some_k few_k fits_code p1;
+      code = number bytes after_code (1 + count_size flag) (code_size flag) k f.code form.code some_k few_k fits_code p1;
       dyn_f = is.dyn_f;
       first_black = is.first_black;
-      width = number bytes behind_width (sides_at flag) s n f.width form.side some few fits_w p3;
-      height = number bytes behind_height (sides_at flag + s) s n f.height form.side some few fits_h p4;
-      hoff = offset bytes behind_hoff (sides_at flag + 2 * s) s n f.hoff form.side some few fits_x (ap (λ i. drop i bytes) at_hoff ∙ p5);
+      width = number bytes after_width (sides_at flag) s n f.width form.side some few fits_w p3;
+      height = number bytes after_height (sides_at flag + s) s n f.height form.side some few fits_h p4;
+      hoff = offset bytes after_hoff (sides_at flag + 2 * s) s n f.hoff form.side some few fits_x (ap (λ i. drop i bytes) at_hoff ∙ p5);
       voff = offset bytes f.raster (sides_at flag + 3 * s) s n f.voff form.side some few fits_y (ap (λ i. drop i bytes) at_voff ∙ p6);
       raster = ap (λ i. drop i bytes) at_raster ∙ p7;
     }

@@ -14,29 +14,29 @@ pub cancelled : (a x y : List ℕ) → a ++ x ≡ a ++ y → x ≡ y
 cancelled a x y same = sym (drop_at a x (length a) refl) ∙ ap (drop (length a)) same ∙ drop_at a y (length a) refl
 
 -- what the newer items have
-text_behind : (newer older : List (List ℕ)) → (later : List ℕ) × (text_of (newer ++ older) ≡ text_of older ++ later)
-text_behind [] older = ([], sym (append-nil (text_of older)))
-text_behind (item ∷ newer) older =
-    let s = text_behind newer older in
+text_after : (newer older : List (List ℕ)) → (later : List ℕ) × (text_of (newer ++ older) ≡ text_of older ++ later)
+text_after [] older = ([], sym (append-nil (text_of older)))
+text_after (item ∷ newer) older =
+    let s = text_after newer older in
     (s.0 ++ item, ap (λ t. t ++ item) s.1 ∙ append_assoc (text_of older) s.0 item)
 
 sound_older : (newer older : List (List ℕ)) → AreSound (newer ++ older) → AreSound older
 sound_older [] older h = h
 sound_older (item ∷ newer) older h = sound_older newer older h.0
 
--- a longer list has a next item behind the shorter one
+-- a longer list has a next item after the shorter one
 pub next_item : (short long newer : List (List ℕ)) (n x y : List ℕ) → AreSound long → long ≡ (n ∷ newer) ++ short → text_of short ++ x ≡ text_of long ++ y
-    → (item : List ℕ) × (more : List ℕ) × (front : List (List ℕ)) × AreSound (item ∷ short) × (x ≡ item ++ more) × (long ≡ front ++ (item ∷ short))
+    → (item : List ℕ) × (more : List ℕ) × (prefix : List (List ℕ)) × AreSound (item ∷ short) × (x ≡ item ++ more) × (long ≡ prefix ++ (item ∷ short))
 next_item short long newer n x y sound e same =
     let parts = split_last n newer in
     let item = parts.1 in
     let regrouped : long ≡ parts.0 ++ (item ∷ short) = e ∙ ap (λ t. t ++ short) parts.2 ∙ append_assoc parts.0 (item ∷ []) short in
     let older : AreSound (item ∷ short) = sound_older parts.0 (item ∷ short) (subst AreSound regrouped sound) in
-    let behind = text_behind parts.0 (item ∷ short) in
-    let text : text_of long ≡ (text_of short ++ item) ++ behind.0 = ap text_of regrouped ∙ behind.1 in
-    let right : text_of long ++ y ≡ text_of short ++ (item ++ (behind.0 ++ y)) =
-    ap (λ t. t ++ y) text ∙ append_assoc (text_of short ++ item) behind.0 y ∙ append_assoc (text_of short) item (behind.0 ++ y) in
-    (item, behind.0 ++ y, parts.0, older, cancelled (text_of short) x (item ++ (behind.0 ++ y)) (same ∙ right), regrouped)
+    let after = text_after parts.0 (item ∷ short) in
+    let text : text_of long ≡ (text_of short ++ item) ++ after.0 = ap text_of regrouped ∙ after.1 in
+    let right : text_of long ++ y ≡ text_of short ++ (item ++ (after.0 ++ y)) =
+    ap (λ t. t ++ y) text ∙ append_assoc (text_of short ++ item) after.0 y ∙ append_assoc (text_of short) item (after.0 ++ y) in
+    (item, after.0 ++ y, parts.0, older, cancelled (text_of short) x (item ++ (after.0 ++ y)) (same ∙ right), regrouped)
 
 abbrev pub Begins : List (List ℕ) → List (List ℕ) → Type 0
 Begins short long = (newer : List (List ℕ)) × (long ≡ newer ++ short)

@@ -17,7 +17,7 @@ same_number item more i n inside =
     let room : n ≤ length (drop i item) = omega (arith, length-drop i item) in
     ap (λ xs. unsigned_of (take n xs)) (drop-append-le i item more start) ∙ ap unsigned_of (take-append-le n (drop i item) more room)
 
--- where the head is there the bytes behind it tell nothing more of the size
+-- where the head is there the bytes after it tell nothing more of the size
 pub same_size : (item more : List ℕ) → head_size (opcode item) ≤ length item → item_size (item ++ more) ≡ item_size item
 same_size item more head =
     let op = opcode item in

@@ -12,7 +12,8 @@ use Rattle.pk_packets.specs.declared.faults.PkStop.{PkStop}
 use Rattle.pk_packets.specs.declared.faults.PkStop.TheVariants.{Fault, NoMemory}
 use Rattle.pk_packets.proofs.Added.{passed_over, sum_kept}
 
--- items were read up to the bytes that are left; their rasters take a sum, and the font has their glyphs
+-- items were read up to the bytes that are left; their rasters take a sum, and the font has their
+-- glyphs
 pub record IsReadTo (bytes rest : List ℕ) (sum : ℕ) (font : Glyphs) : Type 0 where
   pub items : List (List ℕ)
   pub begins : preamble_fault bytes ≡ None
@@ -57,7 +58,7 @@ packet_first bytes before item rest sum font f h here whole kind wrong = rw h.be
   rest = before;
   sound = h.sound;
   text = h.text;
-  behind = inr (record { packet = item; more = rest; here = here; item = whole; kind = kind; wrong = wrong });
+  after = inr (record { packet = item; more = rest; here = here; item = whole; kind = kind; wrong = wrong });
 })
 
 pub packet_stop : (bytes before item rest : List ℕ) (sum : ℕ) (font : Glyphs) (stop : PkStop) (h : IsReadTo bytes before sum font) → before ≡ item ++ rest → IsItem item

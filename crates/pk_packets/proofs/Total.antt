@@ -15,7 +15,7 @@ use Rattle.pk_packets.specs.Preamble.{preamble_fault, preamble_size}
 use Rattle.pk_packets.specs.Items.{IsItem, head_size, is_packet, item_size, opcode, text_of}
 use Rattle.pk_packets.specs.Packets.{code_of, dyn_f_of, fixed_size, height_of, hoff_of, is_first_black, packet_fault, raster_of, voff_of, width_of}
 use Rattle.pk_packets.specs.Fonts.{AreSound, Glyphs, glyph_of, HasGlyphsOf, IsAnswer, IsPacketSound, IsPkFile}
-use Rattle.pk_packets.specs.Faults.{HasRunFault, IsFaultBehind, IsFaultOfItems, IsFirstFault, IsPacketFault}
+use Rattle.pk_packets.specs.Faults.{HasRunFault, IsFaultAfter, IsFaultOfItems, IsFirstFault, IsPacketFault}
 use Rattle.pk_packets.specs.Laws.{FilesAreReadOrHaveAFault, SoundItemsHaveGlyphs}
 use Rattle.pk_packets.specs.declared.faults.PkFault.{PkFault}
 use Rattle.pk_packets.specs.declared.faults.PkFault.TheVariants.{Short, Undefined, Runs}
@@ -23,10 +23,10 @@ use Rattle.pk_packets.proofs.Added.{answered, passed_over}
 use Rattle.pk_packets.proofs.OneItem.{same_size}
 use Rattle.pk_packets.proofs.OneMeaning.{small_form}
 
-bytes_behind : (n : ℕ) (x : List ℕ) → AreBytes x → AreBytes (drop n x)
-bytes_behind zero x h = h
-bytes_behind (suc n) [] h = tt
-bytes_behind (suc n) (b ∷ x) h = bytes_behind n x h.1
+bytes_after : (n : ℕ) (x : List ℕ) → AreBytes x → AreBytes (drop n x)
+bytes_after zero x h = h
+bytes_after (suc n) [] h = tt
+bytes_after (suc n) (b ∷ x) h = bytes_after n x h.1
 
 bytes_before : (n : ℕ) (x : List ℕ) → AreBytes x → AreBytes (take n x)
 bytes_before zero x h = tt
@@ -40,7 +40,7 @@ packet_then before packet few kind = by (packet_fault before packet) refl
   where
     by : (o : Option PkFault) → packet_fault before packet ≡ o → IsPacketSound before packet ⊎ ((f : PkFault) × IsPacketFault before packet f)
     by None e = elim (bytes_have_a_raster_or_a_fault (raster_of packet) (dyn_f_of packet) (width_of packet) (height_of packet) (is_first_black packet) (small_form packet kind)
-        (bytes_behind (head_size (opcode packet) + fixed_size (opcode packet)) packet few)) [
+        (bytes_after (head_size (opcode packet) + fixed_size (opcode packet)) packet few)) [
           | inl r ↦ inl (e, r.0, r.1)
           | inr r ↦
               let f = Runs (code_of packet) r.0 in
@@ -57,7 +57,7 @@ abbrev IsMore : List (List ℕ) → List ℕ → Type 0
 IsMore items rest = (item : List ℕ) × (more : List ℕ) × (rest ≡ item ++ more) × AreSound (item ∷ items) × (1 ≤ length item)
 
 abbrev IsWrong : List (List ℕ) → List ℕ → Type 0
-IsWrong items rest = (f : PkFault) × IsFaultBehind items rest f
+IsWrong items rest = (f : PkFault) × IsFaultAfter items rest f
 
 closing : (rest : List ℕ) → 1 ≤ length rest → opcode rest ≡ 245 → IsEnd rest
 closing [] some e = absurd (omega (arith, some))
@@ -101,9 +101,9 @@ next_then items rest few sound = elim (cases_lt 246 (opcode rest)) [
 
 -- ---- all items
 
-rest_are : (front rest : List ℕ) → AreBytes (front ++ rest) → AreBytes rest
+rest_are : (prefix rest : List ℕ) → AreBytes (prefix ++ rest) → AreBytes rest
 rest_are [] rest h = h
-rest_are (b ∷ front) rest h = rest_are front rest h.1
+rest_are (b ∷ prefix) rest h = rest_are prefix rest h.1
 
 items_end : (fuel : ℕ) (bytes : List ℕ) (items : List (List ℕ)) (rest : List ℕ) → preamble_fault bytes ≡ None → AreBytes rest → AreSound items → drop (preamble_size bytes) bytes ≡ text_of items ++ rest
     → length rest < fuel → ((all : List (List ℕ)) × IsPkFile bytes all) ⊎ ((f : PkFault) × IsFaultOfItems bytes f)
@@ -115,7 +115,7 @@ items_end (suc fuel) bytes items rest begins few sound text short = elim (next_t
         items_end fuel bytes (m.0 ∷ items) m.1 begins (rest_are m.0 m.1 (subst AreBytes m.2 few)) m.3
         (text ∙ ap (λ t. text_of items ++ t) m.2 ∙ sym (append_assoc (text_of items) m.0 m.1))
         (omega (arith, short, ap length m.2, length-append m.0 m.1, m.4))
-    | inr wrong ↦ inr (wrong.0, record { items = items; rest = rest; sound = sound; text = text; behind = wrong.1 })
+    | inr wrong ↦ inr (wrong.0, record { items = items; rest = rest; sound = sound; text = text; after = wrong.1 })
   ]
 ]
 
@@ -123,7 +123,7 @@ pub files_are_read_or_have_a_fault : FilesAreReadOrHaveAFault
 files_are_read_or_have_a_fault bytes few = by (preamble_fault bytes) refl
   where
     by : (o : Option PkFault) → preamble_fault bytes ≡ o → ((items : List (List ℕ)) × IsPkFile bytes items) ⊎ ((f : PkFault) × IsFirstFault bytes f)
-    by None e = elim (items_end (suc (length (drop (preamble_size bytes) bytes))) bytes [] (drop (preamble_size bytes) bytes) e (bytes_behind (preamble_size bytes) bytes few) tt refl (omega arith)) [
+    by None e = elim (items_end (suc (length (drop (preamble_size bytes) bytes))) bytes [] (drop (preamble_size bytes) bytes) e (bytes_after (preamble_size bytes) bytes few) tt refl (omega arith)) [
       | inl file ↦ inl file
       | inr f ↦ inr (f.0, subst (λ (o : Option PkFault). MatchOption o (IsFaultOfItems bytes f.0) (λ found. f.0 ≡ found)) (sym e) f.1)
     ]

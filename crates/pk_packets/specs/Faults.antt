@@ -12,13 +12,16 @@ use Rattle.pk_packets.specs.declared.faults.PkFault.TheVariants.{Short, Undefine
 
 -- no whole item stands here, nor the closing command
 abbrev pub IsItemFault : List ℕ → PkFault → Type 0
-IsItemFault rest f = (IsCut rest × (f ≡ Short)) ⊎ ((247 ≤ opcode rest) × (f ≡ Undefined (opcode rest)))
+IsItemFault rest f =
+    (IsCut rest × (f ≡ Short)) ⊎ ((247 ≤ opcode rest) × (f ≡ Undefined (opcode rest)))
 
 -- what is wrong with the runs of a packet
 abbrev pub HasRunFault : List ℕ → RunFault → Type 0
-HasRunFault bytes r = IsRunFault (raster_of bytes) (dyn_f_of bytes) (width_of bytes) (height_of bytes) r
+HasRunFault bytes r =
+    IsRunFault (raster_of bytes) (dyn_f_of bytes) (width_of bytes) (height_of bytes) r
 
--- what is wrong with a whole packet behind these items: a length, a side or the sum of rasters before the runs
+-- what is wrong with a whole packet after these items: a length, a side or the sum of rasters
+-- before the runs
 abbrev pub IsPacketFault : List (List ℕ) → List ℕ → PkFault → Type 0
 IsPacketFault before bytes f = MatchOption (packet_fault before bytes)
     ((r : RunFault) × HasRunFault bytes r × (f ≡ Runs (code_of bytes) r))
@@ -33,18 +36,19 @@ pub record IsFaultOfPacket (before : List (List ℕ)) (rest : List ℕ) (f : PkF
   pub kind : IsTrue (is_packet packet)
   pub wrong : IsPacketFault before packet f
 
--- what is wrong behind sound items, where these bytes stand
-abbrev pub IsFaultBehind : List (List ℕ) → List ℕ → PkFault → Type 0
-IsFaultBehind items rest f = IsItemFault rest f ⊎ IsFaultOfPacket items rest f
+-- what is wrong after sound items, where these bytes stand
+abbrev pub IsFaultAfter : List (List ℕ) → List ℕ → PkFault → Type 0
+IsFaultAfter items rest f = IsItemFault rest f ⊎ IsFaultOfPacket items rest f
 
--- sound items behind the preamble, and the fault behind them
+-- sound items after the preamble, and the fault after them
 pub record IsFaultOfItems (bytes : List ℕ) (f : PkFault) : Type 0 where
   pub items : List (List ℕ)
   pub rest : List ℕ
   pub sound : AreSound items
   pub text : drop (preamble_size bytes) bytes ≡ text_of items ++ rest
-  pub behind : IsFaultBehind items rest f
+  pub after : IsFaultAfter items rest f
 
 -- the first fault of the bytes
 abbrev pub IsFirstFault : List ℕ → PkFault → Type 0
-IsFirstFault bytes f = MatchOption (preamble_fault bytes) (IsFaultOfItems bytes f) (λ found. f ≡ found)
+IsFirstFault bytes f =
+    MatchOption (preamble_fault bytes) (IsFaultOfItems bytes f) (λ found. f ≡ found)

@@ -12,18 +12,22 @@ use Rattle.pk_packets.specs.Packets.{code_of, dyn_f_of, height_of, hoff_of, is_f
 
 -- the raster that a packet's bytes stand for
 abbrev pub HasRaster : List ℕ → Bitmap → Type 0
-HasRaster bytes raster = IsRaster (raster_of bytes) (dyn_f_of bytes) (is_first_black bytes) (width_of bytes) (height_of bytes) raster
+HasRaster bytes raster =
+    IsRaster (raster_of bytes) (dyn_f_of bytes) (is_first_black bytes) (width_of bytes)
+    (height_of bytes) raster
 
--- nothing is wrong with a packet behind these items
+-- nothing is wrong with a packet after these items
 abbrev pub IsPacketSound : List (List ℕ) → List ℕ → Type 0
-IsPacketSound before bytes = (packet_fault before bytes ≡ None) × (raster : Bitmap) × HasRaster bytes raster
+IsPacketSound before bytes =
+    (packet_fault before bytes ≡ None) × (raster : Bitmap) × HasRaster bytes raster
 
 -- each item is whole, and each packet among them sound
 abbrev pub AreSound : List (List ℕ) → Type 0
 AreSound [] = Unit {0}
-AreSound (item ∷ before) = AreSound before × IsItem item × (IsTrue (is_packet item) → IsPacketSound before item)
+AreSound (item ∷ before) =
+    AreSound before × IsItem item × (IsTrue (is_packet item) → IsPacketSound before item)
 
--- the bytes are a PK file with these items; what stands behind the closing command isn't looked at
+-- the bytes are a PK file with these items; what stands after the closing command isn't looked at
 pub record IsPkFile (bytes : List ℕ) (items : List (List ℕ)) : Type 0 where
   pub begins : preamble_fault bytes ≡ None
   pub sound : AreSound items
@@ -35,7 +39,8 @@ pub record IsPkFile (bytes : List ℕ) (items : List (List ℕ)) : Type 0 where
 -- the last packet of a code
 abbrev pub packet_with : List (List ℕ) → ℕ → Option (List ℕ)
 packet_with [] c = None
-packet_with (item ∷ before) c = if is_packet item && code_of item == c then Some item else packet_with before c
+packet_with (item ∷ before) c =
+    if is_packet item && code_of item == c then Some item else packet_with before c
 
 pub record IsGlyphOf (bytes : List ℕ) (g : Glyph) : Type 0 where
   pub raster : HasRaster bytes g.raster
@@ -60,7 +65,8 @@ pub record Glyphs : Type 0 where
 
 -- the glyph of a code
 abbrev pub glyph_of : Glyphs → ℕ → Option Glyph
-glyph_of font c = if nat_lt c 256 then get_or font.plain c None else lookup (λ k. c == k) font.others
+glyph_of font c =
+    if nat_lt c 256 then get_or font.plain c None else lookup (λ k. c == k) font.others
 
 -- each code's glyph is that of its last packet
 abbrev pub HasGlyphsOf : List (List ℕ) → Glyphs → Type 0

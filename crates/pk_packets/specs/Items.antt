@@ -13,9 +13,10 @@ is_packet bytes = nat_lt (opcode bytes) 240
 
 -- the low three bits of a flag choose the short, the extended or the long form
 abbrev pub by_form : {A : Type 0} → ℕ → A → A → A → A
-by_form flag short extended long = if nat_le (flag % 8) 3 then short else if nat_le (flag % 8) 6 then extended else long
+by_form flag short extended long =
+    if nat_le (flag % 8) 3 then short else if nat_le (flag % 8) 6 then extended else long
 
--- behind its opcode an item has a count of so many bytes: the length of a packet, or that of a special
+-- after its opcode an item has a count of n bytes: the length of a packet, or that of a special
 abbrev pub count_size : ℕ → ℕ
 count_size op = if nat_lt op 240 then by_form op 1 2 4 else if nat_le op 243 then op - 239 else 0
 
@@ -26,10 +27,12 @@ code_size op = if nat_lt op 240 then by_form op 1 1 4 else 0
 abbrev pub head_size : ℕ → ℕ
 head_size op = 1 + count_size op + code_size op
 
--- then as many bytes follow as the opcode and the count tell. The low two bits of a flag are the high bits of the
--- length, in the short and the extended form; a y is a number of four bytes
+-- then as many bytes follow as the opcode and the count tell. The low two bits of a flag are the
+-- high bits of the length, in the short and the extended form; a y is a number of four bytes
 abbrev pub told_by_opcode : ℕ → ℕ
-told_by_opcode op = if nat_lt op 240 then by_form op (op % 4 * 256) (op % 4 * 65536) 0 else if op == 244 then 4 else 0
+told_by_opcode op =
+    if nat_lt op 240 then by_form op (op % 4 * 256) (op % 4 * 65536) 0 else if op == 244 then 4
+    else 0
 
 abbrev pub told_size : List ℕ → ℕ
 told_size bytes = told_by_opcode (opcode bytes) + unsigned_at bytes 1 (count_size (opcode bytes))

@@ -7,4 +7,4 @@ pub mod Faults
 pub mod Stops
 pub mod Laws
 pub mod Written
-pub mod Rows
+pub mod Examples

@@ -1,4 +1,5 @@
--- Character packets: Rokicki, PKtype, "Packed file format". Each function takes the bytes of a whole packet.
+-- Character packets: Rokicki, PKtype, "Packed file format". Each function takes the bytes of a
+-- whole packet.
 use Rattle.std.specs.Prelude.{ℕ, ◌+◌, ◌*◌, ◌/◌, ◌%◌, ℤ, Bool, ◌||◌, List, [], ◌∷◌, drop, nat_lt, ◌==◌, if◌then◌else◌, Option, Some, None}
 use Rattle.std.specs.Int.{div_ceil}
 use Rattle.big_endian.specs.Fields.{unsigned_at, signed_at}
@@ -37,13 +38,19 @@ abbrev pub width_of : List ℕ → ℕ
 width_of bytes = unsigned_at bytes (sides_at (opcode bytes)) (side_size (opcode bytes))
 
 abbrev pub height_of : List ℕ → ℕ
-height_of bytes = unsigned_at bytes (sides_at (opcode bytes) + side_size (opcode bytes)) (side_size (opcode bytes))
+height_of bytes =
+    unsigned_at bytes (sides_at (opcode bytes) + side_size (opcode bytes))
+    (side_size (opcode bytes))
 
 abbrev pub hoff_of : List ℕ → ℤ
-hoff_of bytes = signed_at bytes (sides_at (opcode bytes) + 2 * side_size (opcode bytes)) (side_size (opcode bytes))
+hoff_of bytes =
+    signed_at bytes (sides_at (opcode bytes) + 2 * side_size (opcode bytes))
+    (side_size (opcode bytes))
 
 abbrev pub voff_of : List ℕ → ℤ
-voff_of bytes = signed_at bytes (sides_at (opcode bytes) + 3 * side_size (opcode bytes)) (side_size (opcode bytes))
+voff_of bytes =
+    signed_at bytes (sides_at (opcode bytes) + 3 * side_size (opcode bytes))
+    (side_size (opcode bytes))
 
 abbrev pub raster_of : List ℕ → List ℕ
 raster_of bytes = drop (head_size (opcode bytes) + fixed_size (opcode bytes)) bytes
@@ -59,10 +66,11 @@ abbrev pub raster_sum : List (List ℕ) → ℕ
 raster_sum [] = 0
 raster_sum (item ∷ before) = raster_sum before + (if is_packet item then raster_size item else 0)
 
--- what is wrong with a whole packet behind these items, its runs apart
+-- what is wrong with a whole packet after these items, its runs apart
 abbrev pub packet_fault : List (List ℕ) → List ℕ → Option PkFault
 packet_fault before bytes =
     if nat_lt (told_size bytes) (fixed_size (opcode bytes)) then Some (Length (code_of bytes))
-    else if nat_lt 16384 (width_of bytes) || nat_lt 16384 (height_of bytes) then Some (TooBig (code_of bytes))
+    else if nat_lt 16384 (width_of bytes) || nat_lt 16384 (height_of bytes)
+    then Some (TooBig (code_of bytes))
     else if nat_lt 8388608 (raster_sum before + raster_size bytes) then Some FontTooBig
     else None

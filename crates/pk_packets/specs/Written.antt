@@ -1,4 +1,5 @@
--- Character packets as a writer has their fields, in the order of Rokicki, PKtype, "Packed file format".
+-- Character packets as a writer has their fields, in the order of Rokicki, PKtype, "Packed file
+-- format".
 use Rattle.std.specs.Prelude.{◌≡◌, ℕ, ◌+◌, ◌*◌, ◌/◌, ◌%◌, ◌^◌, ◌<◌, ◌≤◌, ℤ, pos, Bool, List, ◌∷◌, ◌++◌, length, if◌then◌else◌, IsTrue}
 use Rattle.big_endian.specs.Numbers.{IsSigned, number_bytes}
 use Rattle.pk_packets.specs.Items.{IsItem, is_packet}
@@ -23,23 +24,31 @@ flag_with f low = 16 * f.dyn_f + (if f.first_black then 8 else 0) + low
 -- flag, length, code, width and escapements, then sides and offsets of n bytes, and the raster
 abbrev pub packet_bytes : Fields → ℕ → List ℕ → List ℕ → ℕ → List ℕ
 packet_bytes f flag count code n =
-    flag ∷ (count ++ (code ++ (f.escapements ++ (number_bytes n (pos f.width) ++ (number_bytes n (pos f.height) ++ (number_bytes n f.hoff ++ (number_bytes n f.voff ++ f.raster)))))))
+    flag ∷ (count
+    ++ (code ++ (f.escapements ++ (number_bytes n (pos f.width) ++
+    (number_bytes n (pos f.height) ++ (number_bytes n f.hoff ++
+    (number_bytes n f.voff ++ f.raster)))))))
 
--- the length counts the bytes behind the code: 8, 13 or 28, and the raster
+-- the length counts the bytes after the code: 8, 13 or 28, and the raster
 abbrev pub short_packet : Fields → List ℕ
 short_packet f =
     let pl = 8 + length f.raster in
-    packet_bytes f (flag_with f (pl / 256)) (number_bytes 1 (pos (pl % 256))) (number_bytes 1 (pos f.code)) 1
+    packet_bytes f (flag_with f (pl / 256)) (number_bytes 1 (pos (pl % 256)))
+    (number_bytes 1 (pos f.code)) 1
 
 abbrev pub extended_packet : Fields → List ℕ
 extended_packet f =
     let pl = 13 + length f.raster in
-    packet_bytes f (flag_with f (4 + pl / 65536)) (number_bytes 2 (pos (pl % 65536))) (number_bytes 1 (pos f.code)) 2
+    packet_bytes f (flag_with f (4 + pl / 65536)) (number_bytes 2 (pos (pl % 65536)))
+    (number_bytes 1 (pos f.code)) 2
 
 abbrev pub long_packet : Fields → List ℕ
-long_packet f = packet_bytes f (flag_with f 7) (number_bytes 4 (pos (28 + length f.raster))) (number_bytes 4 (pos f.code)) 4
+long_packet f =
+    packet_bytes f (flag_with f 7) (number_bytes 4 (pos (28 + length f.raster)))
+    (number_bytes 4 (pos f.code)) 4
 
--- the fields fit a form with k bytes for the code, e for width and escapements and n for each side and offset, and lengths below most
+-- the fields fit a form with k bytes for the code, e for width and escapements and n for each side
+-- and offset, and lengths below most
 pub record Fit (f : Fields) (k e n most : ℕ) : Type 0 where
   pub dyn_f : f.dyn_f ≤ 14
   pub code : f.code < 256 ^ k

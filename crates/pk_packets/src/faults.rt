@@ -14,7 +14,7 @@ pub enum PkFault {
     /// The first two bytes aren't 247 and 89.
     #[error("the preamble is wrong")]
     Preamble,
-    /// This opcode, 247 or above, isn't defined behind the preamble.
+    /// This opcode, 247 or above, isn't defined after the preamble.
     #[error("command {0} is undefined")]
     Undefined(u8),
     /// A side of this character's raster has more than 16,384 dots.
@@ -37,7 +37,7 @@ pub enum PkStop {
     /// Something is wrong with it.
     #[error("{0}")]
     Fault(PkFault),
-    /// Memory was wanting.
+    /// Out of memory.
     #[error("out of memory")]
     NoMemory,
 }

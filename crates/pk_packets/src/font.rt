@@ -10,8 +10,8 @@ use std::marker::Model;
 // The codes that have a place in the table.
 const PLAIN_CODES: u32 = 256;
 
-/// The glyphs of a packed font. A contract sees it as the glyphs of the codes from 0 to 255 by their
-/// places and those of the others by their codes; `glyph_of` says which one a code has.
+/// The glyphs of a packed font. A contract sees it as the glyphs of the codes from 0 to 255 by
+/// their places and those of the others by their codes; `glyph_of` says which one a code has.
 #[derive(Drop)]
 pub struct PkFont {
     plain: Vec<Option<Glyph>>,
@@ -53,7 +53,8 @@ impl PkFont {
 
     /// Gives a code a glyph, in place of the one that it may have.
     pub(crate) fn put(&mut self, c: u32, glyph: Glyph) -> Result<(), NoMemory>
-        ensures { OnOk result ((k : ℕ) → glyph_of self.new k ≡ (if c == k then Some glyph else glyph_of self.old k)) }
+        ensures { OnOk result ((k : ℕ) → glyph_of self.new k ≡
+            (if c == k then Some glyph else glyph_of self.old k)) }
     {
         if c < PLAIN_CODES {
             self.plain[c as usize] = Some(glyph);
@@ -65,7 +66,8 @@ impl PkFont {
 
     /// The glyph of a code: that of the last packet with it. `None` where no packet has the code.
     pub fn glyph(&self, c: u32) -> Option<&Glyph>
-        ensures { MatchOption result (glyph_of self.now c ≡ None) (λ g. glyph_of self.now c ≡ Some g.now) }
+        ensures { MatchOption result (glyph_of self.now c ≡ None)
+            (λ g. glyph_of self.now c ≡ Some g.now) }
     {
         if c < PLAIN_CODES {
             self.plain[c as usize].as_ref()

@@ -16,18 +16,21 @@ const LONGEST_SIDE: u32 = 16384;
 // The most bytes that the rasters of a font may take.
 const MOST_BYTES: u32 = 8_388_608;
 
-/// The bytes that the rasters take with this packet's, where those before it take so many. `TooBig`
+/// The bytes that the rasters take with this packet's, where those before it take n. `TooBig`
 /// where a side is too long, else `FontTooBig` where they take too many.
 pub fn sum_with(packet: &Packet, before: u32) -> Result<u32, PkFault>
     requires { before ≤ 8388608 }
-    ensures sum { IfOk result (λ sum. sum ≡ before + packet.now.height * div_ceil packet.now.width 8) }
+    ensures sum { IfOk result (λ sum. sum ≡ before + packet.now.height
+        * div_ceil packet.now.width 8) }
     ensures few { IfOk result (λ sum. sum ≤ 8388608) }
     ensures narrow { OnOk result (packet.now.width ≤ 16384) }
     ensures low { OnOk result (packet.now.height ≤ 16384) }
     ensures fault { IfErr result (λ f.
-        (((16384 < packet.now.width) ⊎ (16384 < packet.now.height)) × (f ≡ fault.TooBig packet.now.code))
+        (((16384 < packet.now.width) ⊎ (16384 < packet.now.height))
+        × (f ≡ fault.TooBig packet.now.code))
         ⊎ ((packet.now.width ≤ 16384) × (packet.now.height ≤ 16384)
-        × (8388608 < before + packet.now.height * div_ceil packet.now.width 8) × (f ≡ fault.FontTooBig))) }
+        × (8388608 < before + packet.now.height * div_ceil packet.now.width 8)
+        × (f ≡ fault.FontTooBig))) }
 {
     if packet.width > LONGEST_SIDE || packet.height > LONGEST_SIDE {
         return Err(PkFault::TooBig(packet.code));
@@ -44,7 +47,8 @@ pub fn glyph(alloc: Global, packet: &Packet) -> Result<Glyph, PkStop>
     requires form { packet.now.dyn_f ≤ 14 }
     requires narrow { packet.now.width ≤ 16384 }
     requires low { packet.now.height ≤ 16384 }
-    ensures raster { IfOk result (λ g. IsRaster packet.now.raster.now packet.now.dyn_f packet.now.black
+    ensures raster { IfOk result
+        (λ g. IsRaster packet.now.raster.now packet.now.dyn_f packet.now.black
         packet.now.width packet.now.height g.raster) }
     ensures hoff { IfOk result (λ g. g.hoff ≡ packet.now.hoff) }
     ensures voff { IfOk result (λ g. g.voff ≡ packet.now.voff) }

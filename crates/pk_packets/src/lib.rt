@@ -1,8 +1,9 @@
 //! Packed fonts: the glyphs of a PK file (Rokicki, PKtype, "Packed file format"). Every packet is
-//! judged at reading, also one that no page uses or that a later one replaces; the first fault of the
-//! file is answered. A glyph is found by its code's place in a table.
+//! judged at reading, also one that no page uses or that a later one replaces; the first fault of
+//! the file is answered. A glyph is found by its code's place in a table.
 #![tactic(auto)]
 
+pub mod examples;
 mod faults;
 mod font;
 mod form;
@@ -13,7 +14,6 @@ mod opcodes;
 mod packet;
 mod preamble;
 mod read;
-pub mod rows;
 
 pub use faults::{PkFault, PkStop};
 pub use font::PkFont;

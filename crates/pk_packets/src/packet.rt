@@ -23,7 +23,7 @@ pub struct Packet<'a> {
     pub raster: &'a [u8],
 }
 
-// The number that so many bytes from a place on spell, unsigned.
+// The number that n bytes from a place on spell, unsigned.
 fn unsigned_at(bytes: &[u8], at: usize, n: usize) -> u32
     requires some { 1 ≤ n }
     requires few { n ≤ 4 }

@@ -14,7 +14,7 @@ const PREAMBLE: [u8; 19] = [
     0x04, 0x26, 0xae,
 ];
 
-// What stands behind it in four fonts, up to the closing command and beyond.
+// What stands after it in four fonts, up to the closing command and beyond.
 const DOT: [u8; 12] = [
     0xe0, 0x09, 0x41, 0x01, 0x00, 0x00, 0x04, 0x02, 0x02, 0x00, 0x01, 0xf0,
 ];
@@ -31,7 +31,7 @@ const CORNER: [u8; 13] = [
     0xe0, 0x0a, 0x41, 0x01, 0x00, 0x00, 0x04, 0x04, 0x04, 0x02, 0x02, 0xff, 0xff,
 ];
 
-// A file of these items, the closing command and two no-ops behind it.
+// A file of these items, the closing command and two no-ops after it.
 fn file(alloc: Global, items: &[u8]) -> Result<Vec<u8>, NoMemory> {
     let mut bytes = Vec::from_slice(alloc, &PREAMBLE)?;
     bytes.extend_from_slice(items)?;
@@ -193,7 +193,8 @@ fn three_forms(rt: HostRuntime) -> Result<(), Fail> {
     Ok(())
 }
 
-// A packet is as long as its count says with the flag's low bits above it: 256 and 65536 bytes more.
+// A packet is as long as its count says with the flag's low bits above it: 256 and 65536 bytes
+// more.
 #[test]
 fn low_bits_of_the_flag(rt: HostRuntime) -> Result<(), Fail> {
     let mut items = Vec::from_slice(rt.alloc(), &[0xe1, 9, 65, 0, 0, 0, 0, 1, 1, 0, 7, 0x80])?;

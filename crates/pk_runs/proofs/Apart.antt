@@ -111,12 +111,12 @@ one_text d [] u v x y h s t same = s ∙ sym t
 one_text d (i ∷ before) u v x y h s t same =
     let whole : s.0 ++ (s.1 ++ x) ≡ t.0 ++ (t.1 ++ y) =
     sym (append_assoc s.0 s.1 x) ∙ joined u v _ _ x y s.2 t.2 same ∙ append_assoc t.0 t.1 y in
-    let fronts : s.0 ≡ t.0 = one_text d before s.0 t.0 (s.1 ++ x) (t.1 ++ y) h s.3 t.3 whole in
-    let lasts : s.1 ++ x ≡ t.1 ++ y = cancelled t.0 (s.1 ++ x) (t.1 ++ y) (ap (λ l. l ++ (s.1 ++ x)) (sym fronts) ∙ whole) in
+    let prefixes : s.0 ≡ t.0 = one_text d before s.0 t.0 (s.1 ++ x) (t.1 ++ y) h s.3 t.3 whole in
+    let lasts : s.1 ++ x ≡ t.1 ++ y = cancelled t.0 (s.1 ++ x) (t.1 ++ y) (ap (λ l. l ++ (s.1 ++ x)) (sym prefixes) ∙ whole) in
     let r = no_item_begins_another d i i s.1 t.1 x y h s.4 t.4 lasts in
-    s.2 ∙ ap (λ l. l ++ s.1) fronts ∙ ap (λ l. t.0 ++ l) r.0 ∙ sym t.2
+    s.2 ∙ ap (λ l. l ++ s.1) prefixes ∙ ap (λ l. t.0 ++ l) r.0 ∙ sym t.2
 
-pub spells_older : (d : ℕ) (newer older : List Item) (v : List ℕ) → SpellsItems d v (newer ++ older) → (front : List ℕ) × (later : List ℕ) × SpellsItems d front older × (v ≡ front ++ later)
+pub spells_older : (d : ℕ) (newer older : List Item) (v : List ℕ) → SpellsItems d v (newer ++ older) → (prefix : List ℕ) × (later : List ℕ) × SpellsItems d prefix older × (v ≡ prefix ++ later)
 spells_older d [] older v h = (v, [], h, sym (append-nil v))
 spells_older d (i ∷ newer) older v h =
     let r = spells_older d newer older h.0 h.3 in
@@ -140,8 +140,8 @@ begins_by d i b items (n ∷ newer) u v x y h s t e same =
     let right : v ++ y ≡ older.2.0 ++ (older.2.1 ++ (older.1 ++ y)) =
     ap (λ l. l ++ y) older.3 ∙ append_assoc older.0 older.1 y ∙ ap (λ l. l ++ (older.1 ++ y)) older.2.2 ∙ append_assoc older.2.0 older.2.1 (older.1 ++ y) in
     let whole : s.0 ++ (s.1 ++ x) ≡ older.2.0 ++ (older.2.1 ++ (older.1 ++ y)) = sym left ∙ same ∙ right in
-    let fronts : s.0 ≡ older.2.0 = one_text d b s.0 older.2.0 _ _ h s.3 older.2.3 whole in
-    let next : s.1 ++ x ≡ older.2.1 ++ (older.1 ++ y) = cancelled older.2.0 _ _ (ap (λ l. l ++ (s.1 ++ x)) (sym fronts) ∙ whole) in
+    let prefixes : s.0 ≡ older.2.0 = one_text d b s.0 older.2.0 _ _ h s.3 older.2.3 whole in
+    let next : s.1 ++ x ≡ older.2.1 ++ (older.1 ++ y) = cancelled older.2.0 _ _ (ap (λ l. l ++ (s.1 ++ x)) (sym prefixes) ∙ whole) in
     let one = no_item_begins_another d i j s.1 older.2.1 x (older.1 ++ y) h s.4 older.2.4 next in
     inl (parts.0, regrouped ∙ ap (λ k. parts.0 ++ (k ∷ b)) (sym one.1))
 

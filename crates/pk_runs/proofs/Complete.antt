@@ -52,12 +52,12 @@ painted_none bytes dyn_f first w h some = record {
     row = refl;
     copies = refl;
     repeated = refl;
-    none_behind = λ r _. (refl, refl);
+    none_after = λ r _. (refl, refl);
     dots = λ x y in_row inside. dot_of w h x y (λ k r. false) in_row inside ∙ sym (nothing_shown w x y);
   };
 }
 
--- ---- behind the last
+-- ---- after the last
 
 row_wide_more : (w : ℕ) (ps : List Bool) (rep : ℕ → ℕ) (n y : ℕ) → suc n * w ≤ length ps → y < count_with_copies rep (suc n) → (y < count_with_copies rep n) ⊎ (count_with_copies rep n ≤ y)
     → (n * w ≤ length ps → y < count_with_copies rep n → length (get_or (rows_with_copies w ps rep n) y []) ≡ w) → length (get_or (rows_with_copies w ps rep (suc n)) y []) ≡ w

@@ -9,7 +9,7 @@ marked : (i : ℕ) → IsRepeatMark i → 14 ≤ i
 marked i (inl e) = omega (arith, e)
 marked i (inr e) = omega (arith, e)
 
--- zeros, and behind them no 0
+-- zeros, and after them no 0
 zeros_end : (k l g : ℕ) (s t : List ℕ) → 1 ≤ g → eqb (get_or s 0 1) 0 ≡ false → replicate k 0 ++ s ≡ replicate l 0 ++ g ∷ t → (k ≡ l) × (s ≡ g ∷ t)
 zeros_end zero zero g s t some other e = (refl, e)
 zeros_end zero (suc l) g s t some other e =
@@ -55,7 +55,7 @@ cut_head d i x s small (inr (inr cut)) e =
     let z = long_head cut.0 i cut.1 s [] cut.2 (sym cut.5 ∙ e) in
     omega (arith, z)
 
--- ---- the nybbles behind the items that were read, where the next row has a repeat count or not
+-- ---- the nybbles after the items that were read, where the next row has a repeat count or not
 
 abbrev pub IsShort : ℕ → Bool → List ℕ → Type 0
 IsShort d repeated x = CutsNumber d x ⊎ ((repeated ≡ false) × (number : List ℕ) × (x ≡ 14 ∷ number) × CutsNumber d number)

@@ -66,7 +66,7 @@ drawn_in_row ps rep mark w h m p fit d =
       row = d.row;
       copies = d.copies;
       repeated = d.repeated;
-      none_behind = d.none_behind;
+      none_after = d.none_after;
       dots = painted_dots ps rep mark w h m p d;
     }
 
@@ -80,9 +80,9 @@ drawn_row_ends ps rep mark w h m p full low d = record {
   shaped = copies_shaped (painted p m).bits p.row p.copies (omega (arith, low, d.high, size.1)) (black_shaped p.black p.bits p.column (p.column + m) p.row (p.row + 1) d.shaped);
   inside = omega (arith, d.inside);
   row = omega (arith, d.row, d.copies);
-  copies = sym (d.none_behind (suc d.whole) (omega arith)).0;
-  repeated = sym (d.none_behind (suc d.whole) (omega arith)).1;
-  none_behind = λ r behind. d.none_behind r (omega (arith, behind));
+  copies = sym (d.none_after (suc d.whole) (omega arith)).0;
+  repeated = sym (d.none_after (suc d.whole) (omega arith)).1;
+  none_after = λ r after. d.none_after r (omega (arith, after));
   dots = λ x y in_row inside.
       copied_dot (painted p m).bits p.row p.copies x y (omega (arith, inside, d.high, size.1))
       ∙ painted_dots ps rep mark w h m p d x (cond (is_within (p.row + 1) (p.row + 1 + p.copies) y) p.row y) in_row (source_inside p.row p.copies y h low inside)
@@ -104,7 +104,7 @@ drawn_turned ps rep mark w h p b d = record {
   row = d.row;
   copies = d.copies;
   repeated = d.repeated;
-  none_behind = d.none_behind;
+  none_after = d.none_after;
   dots = d.dots;
 }
 
@@ -112,7 +112,7 @@ drawn_turned ps rep mark w h p b d = record {
 pub drawn_repeat : (ps : List Bool) (rep other : ℕ → ℕ) (mark others : ℕ → Bool) (w h n : ℕ) (p : Painter) → (d : IsDrawn ps rep mark w h p)
     → other d.whole ≡ n → others d.whole ≡ true → ((r : ℕ) → r < d.whole → rep r ≡ other r) → ((r : ℕ) → d.whole < r → (other r ≡ 0) × (others r ≡ false))
     → IsDrawn ps other others w h (record p { copies = n; repeated = true })
-drawn_repeat ps rep other mark others w h n p d counted marked same behind = record {
+drawn_repeat ps rep other mark others w h n p d counted marked same after = record {
   whole = d.whole;
   wide = d.wide;
   high = d.high;
@@ -122,7 +122,7 @@ drawn_repeat ps rep other mark others w h n p d counted marked same behind = rec
   row = d.row ∙ counts_alike rep other d.whole same;
   copies = sym counted;
   repeated = sym marked;
-  none_behind = behind;
+  none_after = after;
   dots = λ x y in_row inside. d.dots x y in_row inside ∙ ap (λ l. get_or (get_or (l ++ drop (d.whole * w) ps ∷ []) y []) x false) (rows_alike w ps rep other d.whole same);
 }
 

@@ -93,23 +93,23 @@ reads_all old first count left value rest none before = (before.others, omega (a
 pub cut_in_zeros : (dyn_f k : ℕ) (old : List ℕ) → old ≡ replicate k 0 → CutsNumber dyn_f (0 ∷ old)
 cut_in_zeros dyn_f k old e = inr (inr (suc k, [], omega arith, omega arith, refl, ap (λ l. 0 ∷ l) (e ∙ sym (append-nil (replicate k 0)))))
 
-pub cut_in_digits : (dyn_f k behind : ℕ) (old rest : List ℕ) → 1 ≤ behind → old ≡ replicate k 0 ++ behind ∷ rest → length rest < k + 1 → CutsNumber dyn_f (0 ∷ old)
-cut_in_digits dyn_f k behind old rest some e short =
-    inr (inr (suc k, behind ∷ rest, omega arith, omega (arith, short), ne_eqb behind 0 (λ z. absurd (omega (arith, z, some))), ap (λ l. 0 ∷ l) e))
+pub cut_in_digits : (dyn_f k after : ℕ) (old rest : List ℕ) → 1 ≤ after → old ≡ replicate k 0 ++ after ∷ rest → length rest < k + 1 → CutsNumber dyn_f (0 ∷ old)
+cut_in_digits dyn_f k after old rest some e short =
+    inr (inr (suc k, after ∷ rest, omega arith, omega (arith, short), ne_eqb after 0 (λ z. absurd (omega (arith, z, some))), ap (λ l. 0 ∷ l) e))
 
-pub long_is_whole : (dyn_f k behind value : ℕ) (old middle rest others : List ℕ) → dyn_f ≤ 13 → 1 ≤ behind → old ≡ replicate k 0 ++ behind ∷ middle → length others ≡ k + 1
-    → middle ≡ others ++ rest → value ≡ min (hex_of (behind ∷ others)) (2 ^ 40)
+pub long_is_whole : (dyn_f k after value : ℕ) (old middle rest others : List ℕ) → dyn_f ≤ 13 → 1 ≤ after → old ≡ replicate k 0 ++ after ∷ middle → length others ≡ k + 1
+    → middle ≡ others ++ rest → value ≡ min (hex_of (after ∷ others)) (2 ^ 40)
     → (n : ℕ) × (number : List ℕ) × (0 ∷ old ≡ number ++ rest) × SpellsNumber dyn_f number n × (min (value - 15 + (13 - dyn_f) * 16 + dyn_f) (2 ^ 32 - 1) ≡ min n (2 ^ 32 - 1))
-long_is_whole dyn_f k behind value old middle rest others small some e long f worth = (
-  hex_of (behind ∷ others) - 15 + (13 - dyn_f) * 16 + dyn_f,
-  replicate (suc k) 0 ++ behind ∷ others,
-  ap (λ l. 0 ∷ l) (e ∙ ap (λ l. replicate k 0 ++ behind ∷ l) f ∙ sym (append_assoc (replicate k 0) (behind ∷ others) rest)),
-  inr (inr (suc k, behind, others, omega arith, some, omega (arith, long), refl, total (hex_of (behind ∷ others)) large)),
-  same (hex_of (behind ∷ others)) large worth,
+long_is_whole dyn_f k after value old middle rest others small some e long f worth = (
+  hex_of (after ∷ others) - 15 + (13 - dyn_f) * 16 + dyn_f,
+  replicate (suc k) 0 ++ after ∷ others,
+  ap (λ l. 0 ∷ l) (e ∙ ap (λ l. replicate k 0 ++ after ∷ l) f ∙ sym (append_assoc (replicate k 0) (after ∷ others) rest)),
+  inr (inr (suc k, after, others, omega arith, some, omega (arith, long), refl, total (hex_of (after ∷ others)) large)),
+  same (hex_of (after ∷ others)) large worth,
 )
   where
-    large : 16 ≤ hex_of (behind ∷ others)
-    large = hex_long behind others some (omega (arith, long))
+    large : 16 ≤ hex_of (after ∷ others)
+    large = hex_long after others some (omega (arith, long))
 
     total : (v : ℕ) → 16 ≤ v → v - 15 + (13 - dyn_f) * 16 + dyn_f + 15 ≡ v + (13 - dyn_f) * 16 + dyn_f
     total v h = omega (arith, h)
@@ -117,8 +117,8 @@ long_is_whole dyn_f k behind value old middle rest others small some e long f wo
     same : (v : ℕ) → 16 ≤ v → value ≡ min v (2 ^ 40) → min (value - 15 + (13 - dyn_f) * 16 + dyn_f) (2 ^ 32 - 1) ≡ min (v - 15 + (13 - dyn_f) * 16 + dyn_f) (2 ^ 32 - 1)
     same v h g = omega (arith, h, g)
 
-pub long_is_large : (k behind value : ℕ) (others : List ℕ) → 1 ≤ behind → length others ≡ k + 1 → value ≡ min (hex_of (behind ∷ others)) (2 ^ 40) → (16 ≤ value) × (value ≤ 2 ^ 40)
-long_is_large k behind value others some long worth = (omega (arith, worth, hex_long behind others some (omega (arith, long))), omega (arith, worth))
+pub long_is_large : (k after value : ℕ) (others : List ℕ) → 1 ≤ after → length others ≡ k + 1 → value ≡ min (hex_of (after ∷ others)) (2 ^ 40) → (16 ≤ value) × (value ≤ 2 ^ 40)
+long_is_large k after value others some long worth = (omega (arith, worth, hex_long after others some (omega (arith, long))), omega (arith, worth))
 
 -- ---- numbers of one and two nybbles
 

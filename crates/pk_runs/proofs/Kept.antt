@@ -40,7 +40,7 @@ kept_white b narrow white = record {
   narrow = narrow;
   inside = omega arith;
   white = λ x y _ in_row inside. ap (λ p. is_black p x y) white ∙ white_dot b.width b.height x y in_row inside;
-  behind = λ i _ _. no_pixel i;
+  after = λ i _ _. no_pixel i;
 }
 
 pub white_seen : (b : Bitmap) (first last : ℕ) → b ≡ white_bitmap b.width b.height → with_word b 0 first last ≡ b
@@ -55,15 +55,15 @@ white_seen b first last white =
 abbrev pub HasRun : ℕ → Bool → ℕ → ℕ → ℕ → Type 0
 HasRun word black from until new = (i : ℕ) → i < 64 → word_pixel new i ≡ (black && is_within from until i || word_pixel word i)
 
-after : (from until i : ℕ) → until ≤ i → is_within from until i ≡ false
-after from until i h = grind (arith, nat_tests)
+past_end : (from until i : ℕ) → until ≤ i → is_within from until i ≡ false
+past_end from until i h = grind (arith, nat_tests)
 
 pub kept_painted : (b : Bitmap) (word new row column n : ℕ) (black : Bool) → column + n ≤ b.width → HasRun word black column (column + n) new → IsKept b word row column → IsKept b new row (column + n)
 kept_painted b word new row column n black fit run kept = record {
   narrow = kept.narrow;
   inside = fit;
   white = kept.white;
-  behind = λ i h few. run i few ∙ neither black (is_within column (column + n) i) (word_pixel word i) (after column (column + n) i h) (kept.behind i (omega (arith, h)) few);
+  after = λ i h few. run i few ∙ neither black (is_within column (column + n) i) (word_pixel word i) (past_end column (column + n) i h) (kept.after i (omega (arith, h)) few);
 }
   where
     neither : (p q r : Bool) → q ≡ false → r ≡ false → (p && q || r) ≡ false
@@ -101,7 +101,7 @@ kept_ended b word row column next low kept = record {
   inside = omega arith;
   white = λ x y h in_row inside.
       word_dot b word row next x y in_row inside ∙ ap (λ p. p && word_pixel word x || is_black b x y) (below row next y h) ∙ kept.white x y (omega (arith, low, h)) in_row inside;
-  behind = λ i _ _. no_pixel i;
+  after = λ i _ _. no_pixel i;
 }
 
 copied_row : (row k y : ℕ) → row < y → y < row + 1 + k → cond (is_within (row + 1) (row + 1 + k) y) row y ≡ row

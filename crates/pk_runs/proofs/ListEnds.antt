@@ -1,4 +1,4 @@
--- The last element of a list, and lists with the same front.
+-- The last element of a list, and lists with the same beginning.
 use Rattle.std.proofs.Common.{◌≡◌, ℕ, List, [], ◌∷◌, ◌++◌, length, drop, refl, sym, ap, ◌∙◌}
 use Rattle.std.proofs.lemmas.List.{drop_at}
 

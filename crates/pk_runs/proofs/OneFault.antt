@@ -31,7 +31,7 @@ can_go_on d w h items (Repeat n) x a y fault.TooManyRows small can s e c =
     absurd (omega (arith, r.1, can.1, c.6))
 can_go_on d w h items (Repeat n) x a y fault.Overrun small can s e c = apart d c.0 n c.1 a c.2 y small c.4 s (sym c.3 ∙ e)
 
--- the faults behind the same items are one
+-- the faults after the same items are one
 one_there : (d w h : ℕ) (items : List Item) (x : List ℕ) (f g : RunFault) → d ≤ 13 → CantGoOn d w h items x f → CantGoOn d w h items x g → f ≡ g
 one_there d w h items x fault.Short fault.Short small c e = refl
 one_there d w h items x fault.Short (fault.SecondRepeat row) small c e = absurd (short_no_second d (repeated w items) x small c e.1)
@@ -50,7 +50,7 @@ one_there d w h items x fault.Overrun (fault.SecondRepeat row) small c e = absur
 one_there d w h items x fault.Overrun fault.TooManyRows small c e = apart d c.0 e.0 c.1 e.1 c.2 e.2 small c.4 e.4 (sym c.3 ∙ e.3)
 one_there d w h items x fault.Overrun fault.Overrun small c e = refl
 
--- a longer list of items has a next item behind the shorter one, and there is no fault there
+-- a longer list of items has a next item after the shorter one, and there is no fault there
 no_fault_there : (d w h : ℕ) (short long newer : List Item) (n : Item) (u v x y : List ℕ) (f : RunFault) → d ≤ 13
     → SpellsItems d u short → SpellsItems d v long → Fits w h long → long ≡ (n ∷ newer) ++ short → u ++ x ≡ v ++ y → CantGoOn d w h short x f → ⊥
 no_fault_there d w h short long newer n u v x y f small s t fits e same c =
@@ -61,8 +61,8 @@ no_fault_there d w h short long newer n u v x y f small s t fits e same c =
     let older = spells_older d parts.0 (j ∷ short) v (subst (λ (l : List Item). SpellsItems d v l) regrouped t) in
     let right : v ++ y ≡ older.2.0 ++ (older.2.1 ++ (older.1 ++ y)) =
     ap (λ l. l ++ y) older.3 ∙ append_assoc older.0 older.1 y ∙ ap (λ l. l ++ (older.1 ++ y)) older.2.2 ∙ append_assoc older.2.0 older.2.1 (older.1 ++ y) in
-    let fronts : u ≡ older.2.0 = one_text d short u older.2.0 x (older.2.1 ++ (older.1 ++ y)) small s older.2.3 (same ∙ right) in
-    let next : x ≡ older.2.1 ++ (older.1 ++ y) = cancelled older.2.0 x _ (ap (λ l. l ++ x) (sym fronts) ∙ same ∙ right) in
+    let prefixes : u ≡ older.2.0 = one_text d short u older.2.0 x (older.2.1 ++ (older.1 ++ y)) small s older.2.3 (same ∙ right) in
+    let next : x ≡ older.2.1 ++ (older.1 ++ y) = cancelled older.2.0 x _ (ap (λ l. l ++ x) (sym prefixes) ∙ same ∙ right) in
     can_go_on d w h short j x older.2.1 (older.1 ++ y) f small fit.2 older.2.4 next c
 
 pub run_rasters_are_never_stuck : RunRastersAreNeverStuck
@@ -95,8 +95,8 @@ stuck_once bytes d w h f g small a b = by (items_agree d a.items b.items a.used 
     here : a.items ≡ b.items → f ≡ g
     here eq =
         let spelled : SpellsItems d b.used a.items = subst (λ (l : List Item). SpellsItems d b.used l) (sym eq) b.spelled in
-        let fronts : a.used ≡ b.used = one_text d a.items a.used b.used a.rest b.rest small a.spelled spelled same in
-        let rests : a.rest ≡ b.rest = cancelled b.used a.rest b.rest (ap (λ l. l ++ a.rest) (sym fronts) ∙ same) in
+        let prefixes : a.used ≡ b.used = one_text d a.items a.used b.used a.rest b.rest small a.spelled spelled same in
+        let rests : a.rest ≡ b.rest = cancelled b.used a.rest b.rest (ap (λ l. l ++ a.rest) (sym prefixes) ∙ same) in
         let moved : CantGoOn d w h a.items b.rest g = subst (λ (l : List Item). CantGoOn d w h l b.rest g) (sym eq) b.because in
         one_there d w h a.items a.rest f g small a.because (subst (λ (l : List ℕ). CantGoOn d w h a.items l g) (sym rests) moved)
 

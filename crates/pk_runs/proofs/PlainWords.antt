@@ -16,7 +16,7 @@ use Rattle.packed_rows.proofs.Lists.{length-from_fn, get_or-from_fn}
 use Rattle.pk_runs.proofs.Complete.{IsPlainTo}
 use Rattle.pk_runs.proofs.Kept.{no_pixel, word_dot}
 
--- the word has so many pixels of a line from a place on
+-- the word has n pixels of a line from a place on
 abbrev pub IsPlainWord : (ℕ → Bool) → ℕ → ℕ → ℕ → Type 0
 IsPlainWord f place w word = (i : ℕ) → i < 64 → word_pixel word i ≡ (ltb i w && f (place + i))
 
@@ -96,17 +96,17 @@ plain_word_byte f place x n word part set old i few =
         ap₂ (λ a b. a && f (place + i) || (b && f (place + x + (i - x)))) (le-ltb i x right) (after x n i far)
         ∙ sym (ap (λ a. a && f (place + i)) (le-ltb i (x + n) far))
 
--- no pixel behind the row
+-- no pixel after the row
 pub plain_word_cut : (f : ℕ → Bool) (place w x word new : ℕ) → w ≤ x → ((i : ℕ) → i < 64 → word_pixel new i ≡ (ltb i w && word_pixel word i))
     → IsPlainWord f place x word → IsPlainWord f place w new
-plain_word_cut f place w x word new all front is i few = front i few ∙ by (cases_lt i w)
+plain_word_cut f place w x word new all prefix is i few = prefix i few ∙ by (cases_lt i w)
   where
     by : (i < w) ⊎ (w ≤ i) → (ltb i w && word_pixel word i) ≡ (ltb i w && f (place + i))
     by (inl low) = ap (λ b. ltb i w && b) (is i few ∙ ap (λ b. b && f (place + i)) (lt-ltb i x (omega (arith, low, all))))
     by (inr from) = ap (λ b. b && word_pixel word i) (le-ltb i w from) ∙ sym (ap (λ b. b && f (place + i)) (le-ltb i w from))
 
-pub plain_word_behind : (f : ℕ → Bool) (place w word : ℕ) → IsPlainWord f place w word → IsWhiteFrom w word
-plain_word_behind f place w word is i from few = is i few ∙ ap (λ b. b && f (place + i)) (le-ltb i w from)
+pub plain_word_after : (f : ℕ → Bool) (place w word : ℕ) → IsPlainWord f place w word → IsWhiteFrom w word
+plain_word_after f place w word is i from few = is i few ∙ ap (λ b. b && f (place + i)) (le-ltb i w from)
 
 -- a row is joined in below those before it
 pub plain_row : (f : ℕ → Bool) (w h y word : ℕ) (b new : Bitmap) → w < 64 → new ≡ with_word b word y (y + 1) → IsPlainWord f (y * w) w word → IsPlainTo f w h (y * w) b → IsPlainTo f w h ((y + 1) * w) new

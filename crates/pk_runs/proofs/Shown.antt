@@ -13,7 +13,7 @@ length-rows w ps rep (suc n) =
     length-append (rows_with_copies w ps rep n) (replicate (1 + rep n) (take w (drop (n * w) ps)))
     ∙ omega (arith, length-rows w ps rep n, length-replicate (1 + rep n) (take w (drop (n * w) ps)))
 
--- pixels behind the first rows change none of them
+-- pixels after the first rows change none of them
 pub rows_grow : (w : ℕ) (ps more : List Bool) (rep : ℕ → ℕ) (n : ℕ) → n * w ≤ length ps → rows_with_copies w (ps ++ more) rep n ≡ rows_with_copies w ps rep n
 rows_grow w ps more rep zero h = refl
 rows_grow w ps more rep (suc n) h =
@@ -23,7 +23,7 @@ rows_grow w ps more rep (suc n) h =
     row : take w (drop (n * w) (ps ++ more)) ≡ take w (drop (n * w) ps)
     row = ap (take w) (drop-append-le (n * w) ps more (omega (arith, h))) ∙ take-append-le w (drop (n * w) ps) more (omega (arith, h, length-drop (n * w) ps))
 
--- copies of rows behind the first change none of them
+-- copies of rows after the first change none of them
 pub rows_alike : (w : ℕ) (ps : List Bool) (rep other : ℕ → ℕ) (n : ℕ) → ((r : ℕ) → r < n → rep r ≡ other r) → rows_with_copies w ps rep n ≡ rows_with_copies w ps other n
 rows_alike w ps rep other zero h = refl
 rows_alike w ps rep other (suc n) h =
@@ -95,10 +95,10 @@ shown_painted w ps rep n c m b x y r long is_row = by (cases_lt y r) (cases_lt r
     column (inr right) (inl within) =
         get_or-append_right (drop (n * w) ps) (replicate m b) c x false tail_long right ∙ get_or-replicate m (x - c) b false (omega (arith, right, within))
         ∙ covered b (is_within c (c + m) x) (get_or (drop (n * w) ps) x false) (is_within r (r + 1) r) (inside_piece c m x right within) (here r r refl) (get_or_past (drop (n * w) ps) x false (omega (arith, right, tail_long)))
-    column (inr right) (inr behind) =
-        get_or_past (drop (n * w) ps ++ replicate m b) x false (omega (arith, behind, tail_long, length-append (drop (n * w) ps) (replicate m b), length-replicate m b))
+    column (inr right) (inr after) =
+        get_or_past (drop (n * w) ps ++ replicate m b) x false (omega (arith, after, tail_long, length-append (drop (n * w) ps) (replicate m b), length-replicate m b))
         ∙ sym (get_or_past (drop (n * w) ps) x false (omega (arith, right, tail_long)))
-        ∙ beside b (is_within c (c + m) x) (get_or (drop (n * w) ps) x false) (is_within r (r + 1) r) (beside_piece c m x (inr behind))
+        ∙ beside b (is_within c (c + m) x) (get_or (drop (n * w) ps) x false) (is_within r (r + 1) r) (beside_piece c m x (inr after))
 
     by : (y < r) ⊎ (r ≤ y) → (r < y) ⊎ (y ≤ r) → shown w (ps ++ replicate m b) rep n x y ≡ (b && (is_within c (c + m) x && is_within r (r + 1) y) || shown w ps rep n x y)
     by (inl above) other =

@@ -187,8 +187,8 @@ repeated_by bytes dyn_f first w h m old rest p low short small r d = record {
       (or_left (eqb (next_row w d.items) d.drawn.whole) (has_repeat w d.items d.drawn.whole) (eq-eqb (next_row w d.items) d.drawn.whole place))
       (λ k above. sym (cond-false (eqb (next_row w d.items) k) r.1 (copies w d.items k) (ne_eqb (next_row w d.items) k (λ e. absurd (omega (arith, e, above, place))))))
       (λ k below. (
-        cond-false (eqb (next_row w d.items) k) r.1 (copies w d.items k) (ne_eqb (next_row w d.items) k (λ e. absurd (omega (arith, e, below, place)))) ∙ (d.drawn.none_behind k below).0,
-        or_from (eqb (next_row w d.items) k) (has_repeat w d.items k) (ne_eqb (next_row w d.items) k (λ e. absurd (omega (arith, e, below, place)))) (d.drawn.none_behind k below).1,
+        cond-false (eqb (next_row w d.items) k) r.1 (copies w d.items k) (ne_eqb (next_row w d.items) k (λ e. absurd (omega (arith, e, below, place)))) ∙ (d.drawn.none_after k below).0,
+        or_from (eqb (next_row w d.items) k) (has_repeat w d.items k) (ne_eqb (next_row w d.items) k (λ e. absurd (omega (arith, e, below, place)))) (d.drawn.none_after k below).1,
       ));
   colour = d.colour;
 }

@@ -27,9 +27,9 @@ nybbles_are_small : (bytes : List ℕ) → AreBytes bytes → AreNybbles (nybble
 nybbles_are_small [] h = tt
 nybbles_are_small (b ∷ bytes) h = (omega (arith, h.0), (omega arith, nybbles_are_small bytes h.1))
 
-rest_are_nybbles : (front rest : List ℕ) → AreNybbles (front ++ rest) → AreNybbles rest
+rest_are_nybbles : (prefix rest : List ℕ) → AreNybbles (prefix ++ rest) → AreNybbles rest
 rest_are_nybbles [] rest h = h
-rest_are_nybbles (i ∷ front) rest h = rest_are_nybbles front rest h.1
+rest_are_nybbles (i ∷ prefix) rest h = rest_are_nybbles prefix rest h.1
 
 -- ---- numbers
 
@@ -87,7 +87,7 @@ marked i few high = elim (cases_eq i 14) [
 
 module _ (d w h : ℕ) (items : List Item) where
   abbrev CanStep : List ℕ → Type 0
-  CanStep x = (q : Item) × (front : List ℕ) × (rest : List ℕ) × (x ≡ front ++ rest) × SpellsItem d front q × CanAdd w h items q
+  CanStep x = (q : Item) × (prefix : List ℕ) × (rest : List ℕ) × (x ≡ prefix ++ rest) × SpellsItem d prefix q × CanAdd w h items q
 
   abbrev CantStep : List ℕ → Type 0
   CantStep x = (f : RunFault) × CantGoOn d w h items x f
@@ -99,10 +99,10 @@ module _ (d w h : ℕ) (items : List Item) where
     | inr fits ↦ inl (Run p.0, p.1, p.2, p.3, p.4, fits)
   ]
 
-  repeat_then : (n : ℕ) (x front rest : List ℕ) → x ≡ front ++ rest → SpellsItem d front (Repeat n) → has_repeat w items (next_row w items) ≡ false → CanStep x ⊎ CantStep x
-  repeat_then n x front rest e spelled first = elim (cases_lt h (rows_complete w items + 1 + n)) [
-    | inl many ↦ inr (fault.TooManyRows, (n, front, rest, e, spelled, first, many))
-    | inr fits ↦ inl (Repeat n, front, rest, e, spelled, (first, fits))
+  repeat_then : (n : ℕ) (x prefix rest : List ℕ) → x ≡ prefix ++ rest → SpellsItem d prefix (Repeat n) → has_repeat w items (next_row w items) ≡ false → CanStep x ⊎ CantStep x
+  repeat_then n x prefix rest e spelled first = elim (cases_lt h (rows_complete w items + 1 + n)) [
+    | inl many ↦ inr (fault.TooManyRows, (n, prefix, rest, e, spelled, first, many))
+    | inr fits ↦ inl (Repeat n, prefix, rest, e, spelled, (first, fits))
   ]
 
   fourteen_then : (x : List ℕ) → d ≤ 13 → AreNybbles x → has_repeat w items (next_row w items) ≡ false → CanStep (14 ∷ x) ⊎ CantStep (14 ∷ x)
@@ -146,11 +146,11 @@ count_same : (rep other : ℕ → ℕ) (n : ℕ) → ((r : ℕ) → r < n → re
 count_same rep other zero h = refl
 count_same rep other (suc n) h = omega (arith, count_same rep other n (λ r l. h r (omega (arith, l))), h n (omega arith))
 
--- rows behind q have no copies
-count_behind : (rep : ℕ → ℕ) (q z : ℕ) → q < z → ((r : ℕ) → q < r → rep r ≡ 0) → count_with_copies rep z ≡ count_with_copies rep q + rep q + (z - q)
-count_behind rep q zero h none = absurd (omega (arith, h))
-count_behind rep q (suc z) h none = elim (cases_lt q z) [
-  | inl low ↦ omega (arith, count_behind rep q z low none, none z low, low)
+-- rows after q have no copies
+count_after : (rep : ℕ → ℕ) (q z : ℕ) → q < z → ((r : ℕ) → q < r → rep r ≡ 0) → count_with_copies rep z ≡ count_with_copies rep q + rep q + (z - q)
+count_after rep q zero h none = absurd (omega (arith, h))
+count_after rep q (suc z) h none = elim (cases_lt q z) [
+  | inl low ↦ omega (arith, count_after rep q z low none, none z low, low)
   | inr high ↦
       let e : q ≡ z = omega (arith, h, high) in
       omega (arith, ap (count_with_copies rep) e, ap rep e, e)
@@ -197,7 +197,7 @@ inside_run w h n items some before fits i = record { low = low; fit = fit; none 
 
     at : (q < next) ⊎ (next ≤ q) → (count_with_copies rep next ≤ h) × (count_with_copies rep next < h → count_with_copies rep next + 1 + rep next ≤ h)
     at (inl moved) =
-        let e = count_behind rep q next moved i.none in
+        let e = count_after rep q next moved i.none in
         let z = i.none next moved in
         let room = i.fit before in
         (omega (arith, e, far, room), λ l. omega (arith, l, z))
@@ -247,9 +247,9 @@ inside w h (Repeat n ∷ items) some high fits = inside_repeat w h n items fits.
 
 -- ---- all items
 
-item_is_some : (d : ℕ) (front : List ℕ) (q : Item) → d ≤ 13 → SpellsItem d front q → 1 ≤ length front
-item_is_some d front (Run n) small s = let p = number_head d n front small s in omega (arith, ap length p.2)
-item_is_some d front (Repeat n) small s = let p = repeat_head d n front s in omega (arith, ap length p.2)
+item_is_some : (d : ℕ) (prefix : List ℕ) (q : Item) → d ≤ 13 → SpellsItem d prefix q → 1 ≤ length prefix
+item_is_some d prefix (Run n) small s = let p = number_head d n prefix small s in omega (arith, ap length p.2)
+item_is_some d prefix (Repeat n) small s = let p = repeat_head d n prefix s in omega (arith, ap length p.2)
 
 pub runs_end : (fuel : ℕ) (bytes : List ℕ) (d w h : ℕ) (first : Bool) (items : List Item) (used x : List ℕ) → 1 ≤ w → 1 ≤ h → d ≤ 13 → AreNybbles x → nybbles_of bytes ≡ used ++ x
     → SpellsItems d used items → Fits w h items → length x < fuel → ((rows : List (List Bool)) × IsRunRaster bytes d first w h rows) ⊎ ((f : RunFault) × IsStuck bytes d w h f)

@@ -54,7 +54,7 @@ within_more dyn_f old nybbles p next rest more n narrow short within less item i
           ran_within bytes dyn_f first old.bits.width old.bits.height n rest more p next (omega (arith, r.low, r.high)) narrow short (omega (arith, within, r.wide)) item is (r.painted bytes first d);
     }
 
--- ---- the item behind them, at the size w × h that the painter had before
+-- ---- the item after them, at the size w × h that the painter had before
 
 pub next_too_long : (bytes : List ℕ) (dyn_f : ℕ) (first : Bool) (w h n : ℕ) (rest : List ℕ) (p : Painter) (item : Reading) → item ≡ read.Run n → p.bits.width ≡ w → p.bits.height ≡ h → p.row < p.bits.height
     → (p.bits.width - p.column) + p.bits.width * (p.bits.height - (p.row + 1 + p.copies)) < n → IsNextItem bytes dyn_f first w h rest p item → IsStuck bytes dyn_f w h fault.Overrun

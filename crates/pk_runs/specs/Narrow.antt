@@ -12,16 +12,18 @@ pub record IsKept (bits : Bitmap) (word row column : ℕ) : Type 0 where
   pub narrow : bits.width < 64
   pub inside : column ≤ bits.width
   pub white : (x y : ℕ) → row ≤ y → x < bits.width → y < bits.height → is_black bits x y ≡ false
-  pub behind : IsWhiteFrom column word
+  pub after : IsWhiteFrom column word
 
 -- the pixels of a word before a column, the others white
-abbrev pub front : ℕ → ℕ → ℕ
-front word column = word / 2 ^ (64 - column) * 2 ^ (64 - column)
+abbrev pub prefix : ℕ → ℕ → ℕ
+prefix word column = word / 2 ^ (64 - column) * 2 ^ (64 - column)
 
 -- from a column on, the word has one colour
 abbrev pub IsAhead : ℕ → ℕ → Bool → Type 0
 IsAhead word column black = (i : ℕ) → column ≤ i → i < 64 → word_pixel word i ≡ black
 
--- the item was read behind items that are painted
+-- the item was read after items that are painted
 abbrev pub IsNextItem : List ℕ → ℕ → Bool → ℕ → ℕ → List ℕ → Painter → Reading → Type 0
-IsNextItem bytes dyn_f first w h rest p item = (middle : List ℕ) × IsPaintedTo bytes dyn_f first w h middle p × IsItemRead dyn_f middle rest p.repeated item
+IsNextItem bytes dyn_f first w h rest p item =
+    (middle : List ℕ) × IsPaintedTo bytes dyn_f first w h middle p
+    × IsItemRead dyn_f middle rest p.repeated item

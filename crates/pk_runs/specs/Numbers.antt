@@ -1,4 +1,5 @@
--- Run lengths and repeat counts, spelled in four-bit nybbles: Rokicki, PKtype, "Packed file format".
+-- Run lengths and repeat counts, spelled in four-bit nybbles: Rokicki, PKtype, "Packed file
+-- format".
 use Rattle.std.specs.Prelude.{◌≡◌, ℕ, ◌+◌, ◌-◌, ◌*◌, ◌/◌, ◌%◌, ◌^◌, ◌<◌, ◌≤◌, ◌⊎◌, List, [], ◌∷◌, ◌++◌, length, replicate, ◌==◌, slice_index_or, IsFalse}
 
 -- the four-bit halves of bytes, the high one first
@@ -13,14 +14,17 @@ hex_of (i ∷ nybbles) = i * 16 ^ length nybbles + hex_of nybbles
 
 -- k zeros, and then k + 1 nybbles of which the first is not 0
 abbrev pub SpellsLongNumber : ℕ → List ℕ → ℕ → Type 0
-SpellsLongNumber dyn_f nybbles n = (k : ℕ) × (first : ℕ) × (others : List ℕ) × (1 ≤ k) × (1 ≤ first) × (length others ≡ k)
-    × (nybbles ≡ replicate k 0 ++ first ∷ others) × (n + 15 ≡ hex_of (first ∷ others) + (13 - dyn_f) * 16 + dyn_f)
+SpellsLongNumber dyn_f nybbles n =
+    (k : ℕ) × (first : ℕ) × (others : List ℕ) × (1 ≤ k) × (1 ≤ first) × (length others ≡ k)
+    × (nybbles ≡ replicate k 0 ++ first ∷ others) × (n + 15 ≡ hex_of (first ∷ others) + (13 - dyn_f)
+    * 16 + dyn_f)
 
 -- the nybbles are the number n: one nybble, or two, or a long number
 abbrev pub SpellsNumber : ℕ → List ℕ → ℕ → Type 0
 SpellsNumber dyn_f nybbles n =
     ((i : ℕ) × (nybbles ≡ i ∷ []) × (1 ≤ i) × (i ≤ dyn_f) × (n ≡ i))
-    ⊎ (((i : ℕ) × (j : ℕ) × (nybbles ≡ i ∷ j ∷ []) × (dyn_f < i) × (i ≤ 13) × (n ≡ (i - dyn_f - 1) * 16 + j + dyn_f + 1))
+    ⊎ (((i : ℕ) × (j : ℕ) × (nybbles ≡ i ∷ j ∷ []) × (dyn_f < i) × (i ≤ 13)
+    × (n ≡ (i - dyn_f - 1) * 16 + j + dyn_f + 1))
     ⊎ SpellsLongNumber dyn_f nybbles n)
 
 -- a run length outside a repeat count, or a repeat count
@@ -37,14 +41,17 @@ SpellsItem dyn_f nybbles (Repeat n) =
 -- the items, the last one first, are spelled one after another
 abbrev pub SpellsItems : ℕ → List ℕ → List Item → Type 0
 SpellsItems dyn_f nybbles [] = nybbles ≡ []
-SpellsItems dyn_f nybbles (item ∷ before) = (front : List ℕ) × (last : List ℕ) × (nybbles ≡ front ++ last) × SpellsItems dyn_f front before × SpellsItem dyn_f last item
+SpellsItems dyn_f nybbles (item ∷ before) =
+    (prefix : List ℕ) × (last : List ℕ) × (nybbles ≡ prefix ++ last)
+    × SpellsItems dyn_f prefix before × SpellsItem dyn_f last item
 
 -- the nybbles end before a number is whole
 abbrev pub CutsNumber : ℕ → List ℕ → Type 0
 CutsNumber dyn_f nybbles =
     (nybbles ≡ [])
     ⊎ (((i : ℕ) × (nybbles ≡ i ∷ []) × (dyn_f < i) × (i ≤ 13))
-    ⊎ ((k : ℕ) × (others : List ℕ) × (1 ≤ k) × (length others ≤ k) × IsFalse (slice_index_or others 0 1 == 0) × (nybbles ≡ replicate k 0 ++ others)))
+    ⊎ ((k : ℕ) × (others : List ℕ) × (1 ≤ k) × (length others ≤ k)
+    × IsFalse (slice_index_or others 0 1 == 0) × (nybbles ≡ replicate k 0 ++ others)))
 
 -- a nybble that marks a repeat count
 abbrev pub IsRepeatMark : ℕ → Type 0
@@ -54,11 +61,18 @@ IsRepeatMark i = (i ≡ 14) ⊎ (i ≡ 15)
 
 -- no number begins another, nor does an item
 abbrev pub NoNumberBeginsAnother : Type 0
-NoNumberBeginsAnother = (dyn_f m n : ℕ) (a b x y : List ℕ) → SpellsNumber dyn_f a m → SpellsNumber dyn_f b n → a ++ x ≡ b ++ y → (a ≡ b) × (m ≡ n)
+NoNumberBeginsAnother =
+    (dyn_f m n : ℕ) (a b x y : List ℕ) → SpellsNumber dyn_f a m → SpellsNumber dyn_f b n
+    → a ++ x ≡ b ++ y → (a ≡ b) × (m ≡ n)
 
 abbrev pub NoItemBeginsAnother : Type 0
-NoItemBeginsAnother = (dyn_f : ℕ) (i j : Item) (a b x y : List ℕ) → dyn_f ≤ 13 → SpellsItem dyn_f a i → SpellsItem dyn_f b j → a ++ x ≡ b ++ y → (a ≡ b) × (i ≡ j)
+NoItemBeginsAnother =
+    (dyn_f : ℕ) (i j : Item) (a b x y : List ℕ) → dyn_f ≤ 13 → SpellsItem dyn_f a i
+    → SpellsItem dyn_f b j → a ++ x ≡ b ++ y → (a ≡ b) × (i ≡ j)
 
--- run lengths and repeat counts have no greatest: zeros, a 1, and as many zeros spell a number above any
+-- run lengths and repeat counts have no greatest: zeros, a 1, and as many zeros spell a number
+-- above any
 abbrev pub NumbersHaveNoGreatest : Type 0
-NumbersHaveNoGreatest = (dyn_f n : ℕ) → dyn_f ≤ 13 → (k : ℕ) × (m : ℕ) × (n < m) × SpellsNumber dyn_f (replicate k 0 ++ 1 ∷ replicate k 0) m
+NumbersHaveNoGreatest =
+    (dyn_f n : ℕ) → dyn_f ≤ 13 → (k : ℕ) × (m : ℕ) × (n < m) × SpellsNumber dyn_f (replicate k 0
+    ++ 1 ∷ replicate k 0) m

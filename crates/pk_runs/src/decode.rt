@@ -11,14 +11,14 @@ use crate::runs::paint_runs;
 use packed_rows::PackedBitmap;
 use std::alloc::Global;
 
-/// The raster of so many columns and rows that the bytes stand for: as a plain bitmap where `dyn_f` is 14,
-/// else by run lengths and repeat counts, of which the first run is black or white (PKtype, "Packed file
-/// format"). Where a side is 0 the bytes aren't looked at.
+/// The raster of n columns and rows that the bytes stand for: as a plain bitmap where `dyn_f` is
+/// 14, else by run lengths and repeat counts, of which the first run is black or white (PKtype,
+/// "Packed file format"). Where a side is 0 the bytes aren't looked at.
 ///
-/// No bytes have both a raster and a fault, two rasters or two faults (`one_fault`, `runs_apart`). So, want
-/// of memory apart, the raster comes exactly where the bytes stand for it, and a fault exactly where they
-/// have it. A number is judged as itself however large it is: a run above the pixels left is `Overrun`, and
-/// a repeat count above the rows left is `TooManyRows`.
+/// No bytes have both a raster and a fault, two rasters or two faults (`one_fault`, `runs_apart`).
+/// So, want of memory apart, the raster comes exactly where the bytes stand for it, and a fault
+/// exactly where they have it. A number is judged as itself however large it is: a run above the
+/// pixels left is `Overrun`, and a repeat count above the rows left is `TooManyRows`.
 pub fn raster(
     alloc: Global,
     bytes: &[u8],

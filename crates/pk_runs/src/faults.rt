@@ -11,7 +11,7 @@ pub enum RunFault {
     /// A run is longer than the pixels that runs still have to give.
     #[error("a run is too long")]
     Overrun,
-    /// A second repeat count for a row, below so many complete rows.
+    /// A second repeat count for a row, below n complete rows.
     #[error("a second repeat count in row {0}")]
     SecondRepeat(u32),
     /// A row and its copies do not fit above the raster's lower edge.

@@ -21,7 +21,8 @@ pub fn paint_rows(bits: &mut PackedBitmap, rows: &[Vec<bool>], w: usize)
     requires size { w ≡ width_of (map (λ row. row.items) rows.now) }
     requires narrow { w ≤ 16384 }
     requires low { length rows.now ≤ 16384 }
-    requires equal { (y : ℕ) → y < length rows.now → length (slice_index_or (map (λ row. row.items) rows.now) y []) ≡ w }
+    requires equal { (y : ℕ) → y < length rows.now
+        → length (slice_index_or (map (λ row. row.items) rows.now) y []) ≡ w }
     requires white { bits.old ≡ white_bitmap w (length rows.now) }
     ensures { bits.new ≡ bitmap_of_rows (map (λ row. row.items) rows.now) }
 {
@@ -35,7 +36,8 @@ fn paint_given(bits: &mut PackedBitmap, rows: &[Vec<bool>], w: usize, place: usi
     requires some { 1 ≤ w }
     requires wide { bits.old.width ≡ w }
     requires high { bits.old.height ≡ length rows.now }
-    requires equal { (y : ℕ) → y < length rows.now → length (slice_index_or (map (λ row. row.items) rows.now) y []) ≡ w }
+    requires equal { (y : ℕ) → y < length rows.now
+        → length (slice_index_or (map (λ row. row.items) rows.now) y []) ≡ w }
     requires inside { place < w * length rows.now }
     requires few { place < 2 ^ 32 }
     ensures { bits.new ≡ if pixel_at w (map (λ row. row.items) rows.now) place

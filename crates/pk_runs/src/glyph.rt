@@ -35,12 +35,14 @@ pub struct Glyph {
 }
 
 impl Raster {
-    /// The raster of rows of one length, one value a pixel, true for black. Without rows the width is 0.
+    /// The raster of rows of one length, one value a pixel, true for black. Without rows the width
+    /// is 0.
     pub fn of(alloc: Global, rows: &[Vec<bool>]) -> Result<Raster, NoMemory>
         requires low { length rows.now ≤ 16384 }
         requires narrow { width_of (map (λ row. row.items) rows.now) ≤ 16384 }
         requires equal { (y : ℕ) → y < length rows.now →
-            length (slice_index_or (map (λ row. row.items) rows.now) y []) ≡ width_of (map (λ row. row.items) rows.now) }
+            length (slice_index_or (map (λ row. row.items) rows.now) y [])
+            ≡ width_of (map (λ row. row.items) rows.now) }
         ensures { IfOk result (λ raster. raster ≡ bitmap_of_rows (map (λ row. row.items) rows.now)) }
     {
         let w = row_len(rows);

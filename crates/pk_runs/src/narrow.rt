@@ -1,12 +1,12 @@
 //! Runs, painted row after row on a raster of less than sixty-four columns.
 
-use crate::row_words::{front, last, turned_from, word_of};
+use crate::row_words::{last, prefix, turned_from, word_of};
 use packed_rows::{PackedBitmap, Span};
 use std::marker::Model;
 
-/// A `Painter` of a narrow raster: the pixels of the next row are kept in a word, and joined into the
-/// raster when the row ends, with its copies. From the column on the word has the colour that is due.
-/// A contract sees it as a `Painter`.
+/// A `Painter` of a narrow raster: the pixels of the next row are kept in a word, and joined into
+/// the raster when the row ends, with its copies. From the column on the word has the colour that
+/// is due. A contract sees it as a `Painter`.
 #[derive(Drop)]
 pub struct NarrowPainter {
     bits: PackedBitmap,
@@ -21,13 +21,13 @@ impl Model for NarrowPainter {
     ghost use Rattle.std.specs.Prelude.{◌+◌};
     ghost use Rattle.packed_rows.specs.Joined.{with_word};
     ghost use Rattle.packed_rows.specs.Stamped.{word_pixel};
-    ghost use Rattle.pk_runs.specs.Narrow.{IsAhead, IsKept, front};
+    ghost use Rattle.pk_runs.specs.Narrow.{IsAhead, IsKept, prefix};
     ghost use Rattle.pk_runs.specs.declared.painter.Painter.{Painter};
 
     ghost Value = { Painter };
 
     ghost view = { λ p. record {
-      bits = with_word p.bits (front p.word p.column) p.row (p.row + 1);
+      bits = with_word p.bits (prefix p.word p.column) p.row (p.row + 1);
       row = p.row;
       column = p.column;
       copies = p.copies;
@@ -35,7 +35,7 @@ impl Model for NarrowPainter {
       black = word_pixel p.word 63;
     } };
 
-    ghost invariant = { λ p. IsKept p.bits (front p.word p.column) p.row p.column
+    ghost invariant = { λ p. IsKept p.bits (prefix p.word p.column) p.row p.column
         × IsAhead p.word p.column (word_pixel p.word 63) };
 }
 
@@ -47,7 +47,14 @@ impl NarrowPainter {
     pub fn new(bits: PackedBitmap, black: bool) -> NarrowPainter
         requires narrow { bits.width < 64 }
         requires white { bits ≡ white_bitmap bits.width bits.height }
-        ensures { result ≡ record { bits = bits; row = 0; column = 0; copies = 0; repeated = false; black = black } }
+        ensures { result ≡ record {
+          bits = bits;
+          row = 0;
+          column = 0;
+          copies = 0;
+          repeated = false;
+          black = black;
+        } }
     {
         NarrowPainter {
             bits,
@@ -59,7 +66,7 @@ impl NarrowPainter {
         }
     }
 
-    // Paints so many pixels of the next row in the colour of the run.
+    // Paints n pixels of the next row in the colour of the run.
     fn paint(&mut self, n: u32)
         requires { self.old.column + n ≤ self.old.bits.width }
         ensures { self.new ≡ painted self.old n }
@@ -78,7 +85,7 @@ impl NarrowPainter {
             from: self.row as usize,
             until: below as usize,
         };
-        self.bits.join_rows(front(self.word, self.column), rows);
+        self.bits.join_rows(prefix(self.word, self.column), rows);
         self.word = word_of(last(self.word));
         self.row = below;
         self.column = 0;
@@ -110,13 +117,14 @@ impl NarrowPainter {
         self.turn();
     }
 
-    /// Paints a run of so many pixels in the colour that is due, over row ends. The next run has the
+    /// Paints a run of n pixels in the colour that is due, over row ends. The next run has the
     /// other colour.
     pub fn run(&mut self, n: u32)
         requires short { self.old.bits.height < 2 ^ 16 }
         requires inside { self.old.column < self.old.bits.width }
         requires ready { IsReady self.old }
-        requires room { n + self.old.column + self.old.bits.width * self.old.copies + self.old.bits.width * self.old.row
+        requires room { n + self.old.column + self.old.bits.width * self.old.copies
+            + self.old.bits.width * self.old.row
             ≤ self.old.bits.width * self.old.bits.height }
         ensures turned { self.new.black ≡ not self.old.black }
         ensures ready { IsReady self.new }
@@ -166,7 +174,7 @@ impl NarrowPainter {
         self.bits.height() - self.row - 1
     }
 
-    /// Whether runs still have so many pixels to give.
+    /// Whether runs still have n pixels to give.
     pub fn has_room(&self, n: u64) -> bool
         requires short { self.now.bits.height < 2 ^ 16 }
         requires fit { self.now.row + 1 + self.now.copies ≤ self.now.bits.height }
@@ -191,7 +199,7 @@ impl NarrowPainter {
             from: self.row as usize,
             until: until as usize,
         };
-        self.bits.join_rows(front(self.word, self.column), rows);
+        self.bits.join_rows(prefix(self.word, self.column), rows);
         self.bits
     }
 }

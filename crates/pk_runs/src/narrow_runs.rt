@@ -13,7 +13,7 @@ use crate::narrow::NarrowPainter;
 use crate::nybbles::Nybbles;
 use packed_rows::PackedBitmap;
 
-// Reads and paints the runs that end within the next row, and gives the item behind them.
+// Reads and paints the runs that end within the next row, and gives the item after them.
 fn runs_in_row(
     painter: &mut NarrowPainter,
     nybbles: &mut Nybbles,
@@ -62,7 +62,8 @@ fn step(painter: &mut NarrowPainter, nybbles: &mut Nybbles, dyn_f: u8) -> Result
     ensures fewer { OnOk result (length nybbles.new < length nybbles.old) }
     ensures painted { (bytes : List ℕ) (first : Bool) →
         IsPaintedTo bytes dyn_f first painter.old.bits.width painter.old.bits.height nybbles.old painter.old →
-        MatchResult result (λ _. IsPaintedTo bytes dyn_f first painter.old.bits.width painter.old.bits.height nybbles.new painter.new)
+        MatchResult result
+        (λ _. IsPaintedTo bytes dyn_f first painter.old.bits.width painter.old.bits.height nybbles.new painter.new)
         (IsStuck bytes dyn_f painter.old.bits.width painter.old.bits.height) }
 {
     match runs_in_row(painter, nybbles, dyn_f)? {
@@ -82,8 +83,8 @@ fn step(painter: &mut NarrowPainter, nybbles: &mut Nybbles, dyn_f: u8) -> Result
     Ok(())
 }
 
-/// Paints the runs that the bytes spell on a white raster of less than sixty-four columns, until it is
-/// complete.
+/// Paints the runs that the bytes spell on a white raster of less than sixty-four columns, until it
+/// is complete.
 pub fn paint_narrow(
     bits: PackedBitmap,
     w: u32,

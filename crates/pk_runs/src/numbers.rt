@@ -8,11 +8,11 @@ use crate::nybbles::Nybbles;
 // Numbers from here on are all alike: longer than any raster.
 const HUGE: u64 = 0xffff_ffff;
 
-// The zeros that a long number begins with, and the nybble behind them.
+// The zeros that a long number begins with, and the nybble after them.
 #[derive(Clone, Copy)]
 struct Zeros {
     count: u128,
-    behind: u8,
+    after: u8,
 }
 
 // The number whose first nybble was read, or None where the nybbles end before it is whole.
@@ -22,7 +22,8 @@ pub fn number(nybbles: &mut Nybbles, dyn_f: u8, first: u8) -> Option<u64>
     requires runs { dyn_f ≤ 13 }
     requires no_mark { first ≤ 13 }
     ensures { MatchOption result (CutsNumber dyn_f (first ∷ nybbles.old))
-        (λ m. (n : ℕ) × (number : List ℕ) × (first ∷ nybbles.old ≡ number ++ nybbles.new) × SpellsNumber dyn_f number n × (m ≡ min n (2 ^ 32 - 1))) }
+        (λ m. (n : ℕ) × (number : List ℕ) × (first ∷ nybbles.old ≡ number ++ nybbles.new)
+        × SpellsNumber dyn_f number n × (m ≡ min n (2 ^ 32 - 1))) }
 {
     if first == 0 {
         let mut rest = nybbles.again();
@@ -42,17 +43,19 @@ pub fn number(nybbles: &mut Nybbles, dyn_f: u8, first: u8) -> Option<u64>
 fn long_number(nybbles: &mut Nybbles, dyn_f: u8) -> Option<u64>
     requires { dyn_f ≤ 13 }
     ensures { MatchOption result (CutsNumber dyn_f (0 ∷ nybbles.old))
-        (λ m. (n : ℕ) × (number : List ℕ) × (0 ∷ nybbles.old ≡ number ++ nybbles.new) × SpellsNumber dyn_f number n × (m ≡ min n (2 ^ 32 - 1))) }
+        (λ m. (n : ℕ) × (number : List ℕ) × (0 ∷ nybbles.old ≡ number ++ nybbles.new)
+        × SpellsNumber dyn_f number n × (m ≡ min n (2 ^ 32 - 1))) }
 {
     let zeros = pass_zeros(nybbles)?;
-    let value = digits(nybbles, zeros.behind, zeros.count + 1)?;
+    let value = digits(nybbles, zeros.after, zeros.count + 1)?;
     Some((value - 15 + u64::from(13 - dyn_f) * 16 + u64::from(dyn_f)).min(HUGE))
 }
 
 // Passes zeros, up to a nybble that isn't 0.
 fn pass_zeros(nybbles: &mut Nybbles) -> Option<Zeros>
     ensures { MatchOption result ((k : ℕ) × (nybbles.old ≡ replicate k 0))
-        (λ z. (nybbles.old ≡ replicate z.count 0 ++ z.behind ∷ nybbles.new) × (1 ≤ z.behind) × (z.behind < 16) × (z.count < 2 ^ 65)) }
+        (λ z. (nybbles.old ≡ replicate z.count 0 ++ z.after ∷ nybbles.new) × (1 ≤ z.after)
+        × (z.after < 16) × (z.count < 2 ^ 65)) }
 {
     let mut count = 0;
     let mut nybble = nybbles.next()?;
@@ -62,15 +65,16 @@ fn pass_zeros(nybbles: &mut Nybbles) -> Option<Zeros>
     }
     Some(Zeros {
         count,
-        behind: nybble,
+        after: nybble,
     })
 }
 
-// The number of a nybble and so many others. A number above 2 ^ 40 is read as 2 ^ 40.
+// The number of a nybble and n others. A number above 2 ^ 40 is read as 2 ^ 40.
 fn digits(nybbles: &mut Nybbles, first: u8, count: u128) -> Option<u64>
     requires { first < 16 }
     ensures { MatchOption result (length nybbles.old < count)
-        (λ v. (others : List ℕ) × (length others ≡ count) × (nybbles.old ≡ others ++ nybbles.new) × (v ≡ min (hex_of (first ∷ others)) (2 ^ 40))) }
+        (λ v. (others : List ℕ) × (length others ≡ count) × (nybbles.old ≡ others ++ nybbles.new)
+        × (v ≡ min (hex_of (first ∷ others)) (2 ^ 40))) }
 {
     let mut value = u64::from(first);
     let mut left = count;

@@ -30,8 +30,8 @@ impl<'a> Nybbles<'a> {
         Nybbles { bytes, half: false }
     }
 
-    /// The same nybbles once more, for a function that is not inlined: a caller that lends it a copy
-    /// keeps its own in registers.
+    /// The same nybbles once more, for a function that is not inlined: a caller that lends it a
+    /// copy keeps its own in registers.
     pub fn again(&self) -> Nybbles<'a>
         ensures { result ≡ self.now }
     {
@@ -44,7 +44,8 @@ impl<'a> Nybbles<'a> {
     /// The next nybble, if there is one.
     #[inline(always)]
     pub fn next(&mut self) -> Option<u8>
-        ensures cases { MatchOption result ((self.old ≡ []) × (self.new ≡ [])) (λ i. (self.old ≡ i ∷ self.new) × (i < 16)) }
+        ensures cases { MatchOption result ((self.old ≡ []) × (self.new ≡ []))
+            (λ i. (self.old ≡ i ∷ self.new) × (i < 16)) }
         ensures few { length self.old < 2 ^ 65 }
     {
         let len = self.bytes.len();

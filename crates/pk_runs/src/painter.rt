@@ -24,7 +24,14 @@ impl Painter {
     ghost use Rattle.pk_runs.specs.Painting.{painted, row_ended, IsReady, IsDrawn};
 
     pub fn new(bits: PackedBitmap, black: bool) -> Painter
-        ensures { result ≡ record { bits = bits; row = 0; column = 0; copies = 0; repeated = false; black = black } }
+        ensures { result ≡ record {
+          bits = bits;
+          row = 0;
+          column = 0;
+          copies = 0;
+          repeated = false;
+          black = black;
+        } }
     {
         Painter {
             bits,
@@ -36,7 +43,7 @@ impl Painter {
         }
     }
 
-    // Paints so many pixels of the next row in the colour of the run.
+    // Paints n pixels of the next row in the colour of the run.
     fn paint(&mut self, n: u32)
         requires narrow { self.old.bits.width < 2 ^ 16 }
         requires inside { self.old.column + n ≤ self.old.bits.width }
@@ -72,14 +79,15 @@ impl Painter {
         self.repeated = false;
     }
 
-    // Paints so many pixels of the next row, and ends it where these are its last.
+    // Paints n pixels of the next row, and ends it where these are its last.
     fn put(&mut self, n: u32)
         requires narrow { self.old.bits.width < 2 ^ 16 }
         requires short { self.old.bits.height < 2 ^ 16 }
         requires inside { self.old.column + n ≤ self.old.bits.width }
         requires low { self.old.row + self.old.copies < self.old.bits.height }
         ensures in_row { self.old.column + n < self.old.bits.width → self.new ≡ painted self.old n }
-        ensures row_ends { self.old.column + n ≡ self.old.bits.width → self.new ≡ row_ended (painted self.old n) }
+        ensures row_ends { self.old.column + n ≡ self.old.bits.width
+            → self.new ≡ row_ended (painted self.old n) }
     {
         self.paint(n);
         if self.column == self.bits.width() {
@@ -87,13 +95,15 @@ impl Painter {
         }
     }
 
-    /// Paints a run of so many pixels in the colour that is due, over row ends. The next run has the other colour.
+    /// Paints a run of n pixels in the colour that is due, over row ends. The next run has the
+    /// other colour.
     pub fn run(&mut self, n: u32)
         requires narrow { self.old.bits.width < 2 ^ 16 }
         requires short { self.old.bits.height < 2 ^ 16 }
         requires inside { self.old.column < self.old.bits.width }
         requires ready { IsReady self.old }
-        requires room { n + self.old.column + self.old.bits.width * self.old.copies + self.old.bits.width * self.old.row
+        requires room { n + self.old.column + self.old.bits.width * self.old.copies
+            + self.old.bits.width * self.old.row
             ≤ self.old.bits.width * self.old.bits.height }
         ensures turned { self.new.black ≡ not self.old.black }
         ensures ready { IsReady self.new }

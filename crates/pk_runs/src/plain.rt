@@ -8,7 +8,7 @@ ghost use Rattle.pk_runs.specs.Raster.{IsPlainRaster};
 ghost use Rattle.pk_runs.specs.declared.faults.RunFault.TheVariants.{Short};
 
 use crate::faults::RunFault;
-use crate::row_words::front;
+use crate::row_words::prefix;
 use packed_rows::{PackedBitmap, Span, is_black};
 
 /// Paints the bits of the bytes on a white raster, row after row without padding.
@@ -22,7 +22,8 @@ pub fn paint_plain(
     requires narrow { w ≤ 16384 }
     requires short { h ≤ 16384 }
     requires white { bits ≡ white_bitmap w h }
-    ensures { MatchResult result (λ b. (b.width ≡ w) × (b.height ≡ h) × IsPlainRaster bytes.now w h b.rows)
+    ensures { MatchResult result (λ b. (b.width ≡ w) × (b.height ≡ h)
+        × IsPlainRaster bytes.now w h b.rows)
         (λ f. (8 * length bytes.now < w * h) × (f ≡ Short)) }
 {
     let size = w as usize * h as usize;
@@ -45,7 +46,8 @@ fn paint_place(bits: &mut PackedBitmap, w: usize, bytes: &[u8], place: usize)
     requires inside { place < w * bits.old.height }
     requires enough { place < 8 * length bytes.now }
     requires few { place < 2 ^ 32 }
-    ensures { bits.new ≡ if pixel bytes.now place then with_black bits.old (place % w) (place % w + 1) (place / w) (place / w + 1) else bits.old }
+    ensures { bits.new ≡ if pixel bytes.now place then with_black bits.old (place % w) (place % w
+        + 1) (place / w) (place / w + 1) else bits.old }
 {
     if is_black(bytes, place) {
         let x = place % w;
@@ -83,7 +85,7 @@ fn paint_narrow_rows(mut bits: PackedBitmap, w: u32, h: u32, bytes: &[u8]) -> Pa
     bits
 }
 
-// So many pixels from a place on, as a word: byte by byte.
+// n pixels from a place on, as a word: byte by byte.
 fn plain_word(bytes: &[u8], place: usize, w: u32) -> u64
     requires narrow { w < 64 }
     requires few { place < 2 ^ 32 }
@@ -97,7 +99,7 @@ fn plain_word(bytes: &[u8], place: usize, w: u32) -> u64
         word |= byte_pixels(bytes, at, x);
         x += 8 - (at % 8) as u32;
     }
-    front(word, w)
+    prefix(word, w)
 }
 
 // The pixels from a place on to the end of its byte, as those of a word from pixel `x` on.

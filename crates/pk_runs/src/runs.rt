@@ -27,7 +27,8 @@ pub fn step(painter: &mut Painter, nybbles: &mut Nybbles, dyn_f: u8) -> Result<(
     ensures fewer { OnOk result (length nybbles.new < length nybbles.old) }
     ensures painted { (bytes : List ℕ) (first : Bool) →
         IsPaintedTo bytes dyn_f first painter.old.bits.width painter.old.bits.height nybbles.old painter.old →
-        MatchResult result (λ _. IsPaintedTo bytes dyn_f first painter.old.bits.width painter.old.bits.height nybbles.new painter.new)
+        MatchResult result
+        (λ _. IsPaintedTo bytes dyn_f first painter.old.bits.width painter.old.bits.height nybbles.new painter.new)
         (IsStuck bytes dyn_f painter.old.bits.width painter.old.bits.height) }
 {
     match next_item(nybbles, dyn_f, painter.row, painter.repeated)? {

@@ -49,10 +49,10 @@ fn runs_go_over_row_ends(rt: HostRuntime) -> Result<(), Fail> {
         (row_of(&over, 0), row_of(&over, 1), row_of(&over, 2)),
         (0b111, 0b100, 0b011)
     );
-    let behind_copies = raster(rt.alloc(), &[0x1f, 0x21], 10, true, 2, 3)?;
-    assert_eq!(rt; row_of(&behind_copies, 0), 0b10);
+    let after_copies = raster(rt.alloc(), &[0x1f, 0x21], 10, true, 2, 3)?;
+    assert_eq!(rt; row_of(&after_copies, 0), 0b10);
     assert_eq!(rt;
-        (row_of(&behind_copies, 1), row_of(&behind_copies, 2)),
+        (row_of(&after_copies, 1), row_of(&after_copies, 2)),
         (0b10, 0b01)
     );
     Ok(())

@@ -81,8 +81,9 @@ impl Page {
         self.dots.is_black(x, y)
     }
 
-    /// Makes the dots of the page inside a rectangle black: `w` dots wide and `h` dots high, with its
-    /// upper left dot in column `x` of row `y`. The others stay. What lies beside the page is cut off.
+    /// Makes the dots of the page inside a rectangle black: `w` dots wide and `h` dots high, with
+    /// its upper left dot in column `x` of row `y`. The others stay. What lies beside the page is
+    /// cut off.
     pub fn rule(&mut self, x: i64, y: i64, w: i64, h: i64)
         requires left { IsCoordinate x }
         requires top { IsCoordinate y }
@@ -102,8 +103,8 @@ impl Page {
         self.dots.blacken(columns, rows);
     }
 
-    /// Makes the dots of the page black that lie on a black pixel of the bitmap, whose upper left pixel
-    /// lies in column `x` of row `y`. The others stay. What lies beside the page is cut off.
+    /// Makes the dots of the page black that lie on a black pixel of the bitmap, whose upper left
+    /// pixel lies in column `x` of row `y`. The others stay. What lies beside the page is cut off.
     #[inline(always)]
     pub fn stamp(&mut self, bitmap: &PackedBitmap, x: i64, y: i64)
         requires left { IsCoordinate x }
@@ -120,8 +121,8 @@ impl Page {
         self.dots.stamp(bitmap, x, y);
     }
 
-    /// The bytes of row `y`: eight dots a byte, the first in the high bit, 1 for black, and zero bits
-    /// after the last.
+    /// The bytes of row `y`: eight dots a byte, the first in the high bit, 1 for black, and zero
+    /// bits after the last.
     pub fn row(&self, y: u32) -> &[u8]
         requires { y < self.now.height }
         ensures text { result.now ≡ row_text (slice_index_or self.now.rows y []) }
@@ -131,7 +132,8 @@ impl Page {
         self.dots.row(y)
     }
 
-    /// The bytes of row `y` with its padding: whole words of eight bytes, zero after those of the row.
+    /// The bytes of row `y` with its padding: whole words of eight bytes, zero after those of the
+    /// row.
     pub fn padded(&self, y: u32) -> &[u8]
         requires { y < self.now.height }
         ensures len { length result.now ≡ 8 * div_ceil self.now.width 64 }

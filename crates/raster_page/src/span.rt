@@ -17,7 +17,7 @@ fn cut_end(end: i64, from: i64, side: i64) -> i64
     end.clamp(from, side)
 }
 
-/// The places on a side of so many dots that a stretch of `len` dots from `at` covers.
+/// The places on a side of n dots that a stretch of `len` dots from `at` covers.
 pub fn clipped(at: i64, len: i64, side: u32) -> Span
     requires at { IsCoordinate at }
     requires len { IsCoordinate len }

@@ -13,11 +13,15 @@ use Rattle.run_report.specs.Summary.{count_of, is_busy, is_hit, is_look}
 
 -- looks are those that hit, those that claimed and those that found the key claimed
 abbrev pub LooksAreAnswers : Type 0
-LooksAreAnswers = (history : List Call) → count_of is_look history ≡ count_of is_hit history + count_of is_claim history + count_of is_busy history
+LooksAreAnswers =
+    (history : List Call) → count_of is_look history ≡ count_of is_hit history
+    + count_of is_claim history + count_of is_busy history
 
 -- the calls of a kind in two joined histories are those of the one and those of the other
 abbrev pub CountsAddUp : Type 0
-CountsAddUp = (is_kind : Done → Bool) (xs ys : List Call) → count_of is_kind (xs ++ ys) ≡ count_of is_kind xs + count_of is_kind ys
+CountsAddUp =
+    (is_kind : Done → Bool) (xs ys : List Call) → count_of is_kind (xs ++ ys) ≡ count_of is_kind xs
+    + count_of is_kind ys
 
 -- the trace of two joined histories is that of the one and then that of the other
 abbrev pub TracesAreJoined : Type 0
@@ -39,7 +43,8 @@ pub record IsCall (c : Call) : Type 0 where
   pub key : IsKey c.key
   pub done : HasKey c.done
 
--- a key as a line shows it: bytes that can't be seen are question marks, and the area isn't told apart from the name
+-- a key as a line shows it: bytes that can't be seen are question marks, and the area isn't told
+-- apart from the name
 abbrev pub shown_key : FontKey → FontKey
 shown_key k = record k { area = 0; name = map shown_byte k.name }
 
@@ -59,4 +64,5 @@ LinesTell = (a b : Call) → IsCall a → IsCall b → entry_line a ≡ entry_li
 
 -- a trace tells its history, call by call
 abbrev pub TracesTell : Type 0
-TracesTell = (xs ys : List Call) → All IsCall xs → All IsCall ys → trace_text xs ≡ trace_text ys → map shown xs ≡ map shown ys
+TracesTell = (xs ys : List Call) → All IsCall xs → All IsCall ys → trace_text xs ≡ trace_text ys
+    → map shown xs ≡ map shown ys

@@ -4,4 +4,4 @@ pub mod Trace
 pub mod Summary
 pub mod Tallies
 pub mod Laws
-pub mod Rows
+pub mod Examples

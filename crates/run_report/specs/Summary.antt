@@ -41,11 +41,15 @@ count_line name n = name ++ codes " " ++ decimal n ++ codes "\n"
 -- the calls of each kind
 abbrev pub calls_text : List Call → List ℕ
 calls_text history =
-    count_line (codes "looks") (count_of is_look history) ++ count_line (codes "hits") (count_of is_hit history)
-    ++ count_line (codes "claims") (count_of is_claim history) ++ count_line (codes "busy") (count_of is_busy history)
-    ++ count_line (codes "evictions") (count_of is_eviction history) ++ count_line (codes "releases") (count_of is_release history)
+    count_line (codes "looks") (count_of is_look history) ++ count_line (codes "hits")
+    (count_of is_hit history)
+    ++ count_line (codes "claims") (count_of is_claim history) ++ count_line (codes "busy")
+    (count_of is_busy history)
+    ++ count_line (codes "evictions") (count_of is_eviction history)
+    ++ count_line (codes "releases") (count_of is_release history)
 
 abbrev pub summary_text : Counts → List Call → List ℕ
 summary_text counts history =
-    count_line (codes "pages") counts.pages ++ calls_text history ++ count_line (codes "loads") counts.loads
+    count_line (codes "pages") counts.pages ++ calls_text history
+    ++ count_line (codes "loads") counts.loads
     ++ count_line (codes "black") counts.black

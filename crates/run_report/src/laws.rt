@@ -1,11 +1,11 @@
 //! Laws over the texts, each a clause of a function without a body.
 ghost use Rattle.std.specs.Prelude.{◌≡◌};
-ghost use Rattle.cache_core.specs.Rows.{history_of_one, history_of_three, second_is_busy};
+ghost use Rattle.cache_core.specs.Examples.{history_of_one, history_of_three, second_is_busy};
 ghost use Rattle.run_report.specs.Laws.{CountsAddUp, LooksAreAnswers};
 ghost use Rattle.run_report.specs.Laws.{LinesTell, TracesAreJoined, TracesTell};
-ghost use Rattle.run_report.specs.Rows.{page_counts, summary_of_one, summary_of_three};
-ghost use Rattle.run_report.specs.Rows.{summary_of_two_seats, trace_of_two_seats};
-ghost use Rattle.run_report.specs.Rows.{trace_of_one, trace_of_three};
+ghost use Rattle.run_report.specs.Examples.{page_counts, summary_of_one, summary_of_three};
+ghost use Rattle.run_report.specs.Examples.{summary_of_two_seats, trace_of_two_seats};
+ghost use Rattle.run_report.specs.Examples.{trace_of_one, trace_of_three};
 ghost use Rattle.run_report.specs.Summary.{summary_text};
 ghost use Rattle.run_report.specs.Trace.{trace_text};
 

@@ -89,7 +89,7 @@ fn page_of_three(alloc: Global) -> Result<Vec<Entry>, Fail> {
     Ok(history)
 }
 
-// Notes that take at most so many bytes a write, and fail at these.
+// Notes that take at most n bytes a write, and fail at these.
 fn notes(alloc: Global, piece: usize, fails: &[u64]) -> Result<MemOutput, Fail>
     requires { 1 ≤ piece }
 {

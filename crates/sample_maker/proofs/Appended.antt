@@ -17,28 +17,28 @@ texts pages = map (λ page. page.items) pages
 here : (pages : List (Vec ℕ Global)) (i : ℕ) (p : Vec ℕ Global) → i < length pages → p ≡ get_or pages i p → texts (drop i pages) ≡ p.items ∷ texts (drop (i + 1) pages)
 here pages i p lt e = ap texts (drop_more pages i p lt) ∙ ap (λ x. x.items ∷ texts (drop (i + 1) pages)) (sym e)
 
-module _ (front now : List ℕ) (number : ℕ) (back next : ℤ) (pages : List (Vec ℕ Global)) (i : ℕ) (p : Vec ℕ Global) (lt : i < length pages) (e : p ≡ get_or pages i p)
-    (appended : now ≡ front ++ page_text number back p.items) (at : next ≡ pos (length front)) where
-  long : length front + length (page_text number back p.items) ≡ length now
-  long = omega (arith, length-append front (page_text number back p.items), ap length appended)
+module _ (prefix now : List ℕ) (number : ℕ) (back next : ℤ) (pages : List (Vec ℕ Global)) (i : ℕ) (p : Vec ℕ Global) (lt : i < length pages) (e : p ≡ get_or pages i p)
+    (appended : now ≡ prefix ++ page_text number back p.items) (at : next ≡ pos (length prefix)) where
+  long : length prefix + length (page_text number back p.items) ≡ length now
+  long = omega (arith, length-append prefix (page_text number back p.items), ap length appended)
 
-  pub one_page : (whole : List ℕ) → whole ≡ front ++ pages_text (length front) number back (texts (drop i pages))
+  pub one_page : (whole : List ℕ) → whole ≡ prefix ++ pages_text (length prefix) number back (texts (drop i pages))
       → whole ≡ now ++ pages_text (length now) (number + 1) next (texts (drop (i + 1) pages))
   one_page whole w =
-      w ∙ ap (λ t. front ++ pages_text (length front) number back t) (here pages i p lt e)
-      ∙ sym (append_assoc front (page_text number back p.items) (pages_text (length front + length (page_text number back p.items)) (number + 1) (pos (length front)) (texts (drop (i + 1) pages))))
-      ∙ ap (λ t. t ++ pages_text (length front + length (page_text number back p.items)) (number + 1) (pos (length front)) (texts (drop (i + 1) pages))) (sym appended)
-      ∙ ap (λ n. now ++ pages_text n (number + 1) (pos (length front)) (texts (drop (i + 1) pages))) long
+      w ∙ ap (λ t. prefix ++ pages_text (length prefix) number back t) (here pages i p lt e)
+      ∙ sym (append_assoc prefix (page_text number back p.items) (pages_text (length prefix + length (page_text number back p.items)) (number + 1) (pos (length prefix)) (texts (drop (i + 1) pages))))
+      ∙ ap (λ t. t ++ pages_text (length prefix + length (page_text number back p.items)) (number + 1) (pos (length prefix)) (texts (drop (i + 1) pages))) (sym appended)
+      ∙ ap (λ n. now ++ pages_text n (number + 1) (pos (length prefix)) (texts (drop (i + 1) pages))) long
       ∙ ap (λ z. now ++ pages_text (length now) (number + 1) z (texts (drop (i + 1) pages))) (sym at)
 
-  pub one_pointer : (last : ℤ) → last ≡ last_page (length front) number back (texts (drop i pages)) → last ≡ last_page (length now) (number + 1) next (texts (drop (i + 1) pages))
+  pub one_pointer : (last : ℤ) → last ≡ last_page (length prefix) number back (texts (drop i pages)) → last ≡ last_page (length now) (number + 1) next (texts (drop (i + 1) pages))
   one_pointer last w =
-      w ∙ ap (last_page (length front) number back) (here pages i p lt e)
-      ∙ ap (λ n. last_page n (number + 1) (pos (length front)) (texts (drop (i + 1) pages))) long
+      w ∙ ap (last_page (length prefix) number back) (here pages i p lt e)
+      ∙ ap (λ n. last_page n (number + 1) (pos (length prefix)) (texts (drop (i + 1) pages))) long
       ∙ ap (λ z. last_page (length now) (number + 1) z (texts (drop (i + 1) pages))) (sym at)
 
-pub front_fits : (a b front rest : List ℕ) (n : ℕ) → a ++ b ≡ front ++ rest → length a + length b < n → length front < n
-front_fits a b front rest n e lt = omega (arith, ap length e, length-append a b, length-append front rest, lt)
+pub prefix_fits : (a b prefix rest : List ℕ) (n : ℕ) → a ++ b ≡ prefix ++ rest → length a + length b < n → length prefix < n
+prefix_fits a b prefix rest n e lt = omega (arith, ap length e, length-append a b, length-append prefix rest, lt)
 
 -- the three parts of a page
 abbrev noughts : List ℤ
@@ -61,12 +61,12 @@ writable_at (f ∷ fonts) zero d h lt = h.0
 writable_at (f ∷ fonts) (suc i) d h lt = writable_at fonts i d h.1 (omega (arith, lt))
 
 -- one font more
-pub one_font : (front before now : List ℕ) (fonts : List (ℤ × FontKey)) (i : ℕ) (f : ℤ × FontKey) → i < length fonts → f ≡ get_or fonts i f → before ≡ front ++ fonts_text (take i fonts)
-    → now ≡ before ++ shortest_spelling (definition f) → now ≡ front ++ fonts_text (take (i + 1) fonts)
-one_font front before now fonts i f lt e eb en =
+pub one_font : (prefix before now : List ℕ) (fonts : List (ℤ × FontKey)) (i : ℕ) (f : ℤ × FontKey) → i < length fonts → f ≡ get_or fonts i f → before ≡ prefix ++ fonts_text (take i fonts)
+    → now ≡ before ++ shortest_spelling (definition f) → now ≡ prefix ++ fonts_text (take (i + 1) fonts)
+one_font prefix before now fonts i f lt e eb en =
     en ∙ ap (λ t. t ++ shortest_spelling (definition f)) eb
-    ∙ append_assoc front (fonts_text (take i fonts)) (shortest_spelling (definition f))
-    ∙ ap (λ t. front ++ t) (ap (λ t. fonts_text (take i fonts) ++ t) (sym (append-nil (shortest_spelling (definition f))))
+    ∙ append_assoc prefix (fonts_text (take i fonts)) (shortest_spelling (definition f))
+    ∙ ap (λ t. prefix ++ t) (ap (λ t. fonts_text (take i fonts) ++ t) (sym (append-nil (shortest_spelling (definition f))))
     ∙ sym (flat_map-append (λ (font : ℤ × FontKey). shortest_spelling (definition font)) (take i fonts) (f ∷ []))
     ∙ ap fonts_text (sym (taken_more fonts i f lt e)))
   where

@@ -12,9 +12,9 @@ use Rattle.dvi_commands.specs.Reading.{placed, placed_from}
 use Rattle.page_index.specs.Limits.{MOST_PAGES}
 use Rattle.page_index.specs.Document.{IsDocument, Reading, end_of, font_table, is_ended, last_bop, text_of, units_of}
 use Rattle.page_index.specs.Pages.{page_commands}
-use Rattle.sample_maker.specs.DviFile.{GivesBack, IsFontSpelled, IsPageText, NeverDefines, are_apart, behind, document_reading, document_text, filler_behind, fonts_text, key_given, last_page, pages_reading, pages_text, postamble, preamble, with_fonts}
+use Rattle.sample_maker.specs.DviFile.{GivesBack, IsFontSpelled, IsPageText, NeverDefines, are_apart, after, document_reading, document_text, filler_after, fonts_text, key_given, last_page, pages_reading, pages_text, postamble, preamble, with_fonts}
 use Rattle.sample_maker.proofs.Spelled.{AreSpelled, one_reading, sound_spelled}
-use Rattle.sample_maker.proofs.PageTexts.{IsEven, Stands, even_behind, off_page}
+use Rattle.sample_maker.proofs.PageTexts.{IsEven, Stands, even_after, off_page}
 use Rattle.sample_maker.proofs.DviTexts.{fonts_even, last_of_pages, pages_even, text_of_fonts, text_of_pages}
 use Rattle.sample_maker.proofs.DviPages.{ArePages, are_pages, none_on_pages, not_redefined, fonts_off_page, fonts_stand, fonts_there, position_fits}
 
@@ -23,58 +23,58 @@ told u = record { id = 2; num = pos u.num; den = pos u.den; mag = pos u.mag; tex
 
 -- the preamble and the fonts
 abbrev pub head : Units → List (ℤ × FontKey) → Reading
-head u fonts = with_fonts (behind [] (preamble u)) fonts
+head u fonts = with_fonts (after [] (preamble u)) fonts
 
 pub head_even : (u : Units) (fonts : List (ℤ × FontKey)) → IsEven (head u fonts)
-head_even u fonts = fonts_even fonts (behind [] (preamble u)) (even_behind [] (preamble u) refl)
+head_even u fonts = fonts_even fonts (after [] (preamble u)) (even_after [] (preamble u) refl)
 
 head_last : (fonts : List (ℤ × FontKey)) (r : Reading) → last_bop (with_fonts r fonts) ≡ last_bop r
 head_last [] r = refl
 head_last (f ∷ fonts) r = head_last fonts _
 
 pub head_text : (u : Units) (fonts : List (ℤ × FontKey)) → text_of (head u fonts) ≡ shortest_spelling (preamble u) ++ fonts_text fonts
-head_text u fonts = text_of_fonts fonts (behind [] (preamble u))
+head_text u fonts = text_of_fonts fonts (after [] (preamble u))
 
 module _ (u : Units) (fonts : List (ℤ × FontKey)) (pages : List (List ℕ)) (all : AllByRecursion IsPageText pages) where
-  pub front_even : IsEven (pages_reading u fonts pages)
+  pub prefix_even : IsEven (pages_reading u fonts pages)
   unfolding pages_reading
-  front_even = pages_even pages (head u fonts) 1 all (head_even u fonts)
+  prefix_even = pages_even pages (head u fonts) 1 all (head_even u fonts)
 
   -- the bytes before the postamble, and the pointer to the last page
-  pub front_text : text_of (pages_reading u fonts pages) ≡ text_of (head u fonts) ++ pages_text (length (text_of (head u fonts))) 1 (negsuc 0) pages
+  pub prefix_text : text_of (pages_reading u fonts pages) ≡ text_of (head u fonts) ++ pages_text (length (text_of (head u fonts))) 1 (negsuc 0) pages
   unfolding pages_reading
-  front_text =
+  prefix_text =
       text_of_pages pages (head u fonts) 1 all (head_even u fonts)
       ∙ ap (λ n. text_of (head u fonts) ++ pages_text n 1 (last_bop (head u fonts)) pages) (sym (head_even u fonts))
-      ∙ ap (λ z. text_of (head u fonts) ++ pages_text (length (text_of (head u fonts))) 1 z pages) (head_last fonts (behind [] (preamble u)))
+      ∙ ap (λ z. text_of (head u fonts) ++ pages_text (length (text_of (head u fonts))) 1 z pages) (head_last fonts (after [] (preamble u)))
 
-  pub front_last : last_bop (pages_reading u fonts pages) ≡ last_page (length (text_of (head u fonts))) 1 (negsuc 0) pages
+  pub prefix_last : last_bop (pages_reading u fonts pages) ≡ last_page (length (text_of (head u fonts))) 1 (negsuc 0) pages
   unfolding pages_reading
-  front_last =
+  prefix_last =
       last_of_pages pages (head u fonts) 1 all (head_even u fonts)
       ∙ ap (λ n. last_page n 1 (last_bop (head u fonts)) pages) (sym (head_even u fonts))
-      ∙ ap (λ z. last_page (length (text_of (head u fonts))) 1 z pages) (head_last fonts (behind [] (preamble u)))
+      ∙ ap (λ z. last_page (length (text_of (head u fonts))) 1 z pages) (head_last fonts (after [] (preamble u)))
 
-  abbrev front : Reading
-  front = pages_reading u fonts pages
+  abbrev prefix : Reading
+  prefix = pages_reading u fonts pages
 
   abbrev post : DviCommand
-  post = postamble u (last_bop front) (length pages)
+  post = postamble u (last_bop prefix) (length pages)
 
   -- the whole text in its parts
-  pub whole_text : text_of (document_reading u fonts pages) ≡ ((text_of front ++ shortest_spelling post) ++ fonts_text fonts) ++ shortest_spelling (PostPost (pos (length (text_of front))) 2)
+  pub whole_text : text_of (document_reading u fonts pages) ≡ ((text_of prefix ++ shortest_spelling post) ++ fonts_text fonts) ++ shortest_spelling (PostPost (pos (length (text_of prefix))) 2)
   unfolding document_reading
   whole_text =
-      ap (λ n. text_of (with_fonts (behind front post) fonts) ++ shortest_spelling (PostPost (pos n) 2)) (sym front_even)
-      ∙ ap (λ t. t ++ shortest_spelling (PostPost (pos (length (text_of front))) 2)) (text_of_fonts fonts (behind front post))
+      ap (λ n. text_of (with_fonts (after prefix post) fonts) ++ shortest_spelling (PostPost (pos n) 2)) (sym prefix_even)
+      ∙ ap (λ t. t ++ shortest_spelling (PostPost (pos (length (text_of prefix))) 2)) (text_of_fonts fonts (after prefix post))
 
-  pub front_short : length (text_of front) ≤ length (text_of (document_reading u fonts pages))
-  front_short =
-      omega (arith, ap length whole_text, length-append ((text_of front ++ shortest_spelling post) ++ fonts_text fonts) (shortest_spelling (PostPost (pos (length (text_of front))) 2)), length-append (text_of front ++ shortest_spelling post) (fonts_text fonts), length-append (text_of front) (shortest_spelling post))
+  pub prefix_short : length (text_of prefix) ≤ length (text_of (document_reading u fonts pages))
+  prefix_short =
+      omega (arith, ap length whole_text, length-append ((text_of prefix ++ shortest_spelling post) ++ fonts_text fonts) (shortest_spelling (PostPost (pos (length (text_of prefix))) 2)), length-append (text_of prefix ++ shortest_spelling post) (fonts_text fonts), length-append (text_of prefix) (shortest_spelling post))
 
 pub document_long : (u : Units) (fonts : List (ℤ × FontKey)) (pages : List (List ℕ)) → length (text_of (document_reading u fonts pages)) ≤ length (document_text u fonts pages)
 unfolding document_text
-document_long u fonts pages = omega (arith, length-append (text_of (document_reading u fonts pages)) (replicate (filler_behind (length (text_of (document_reading u fonts pages)))) 223))
+document_long u fonts pages = omega (arith, length-append (text_of (document_reading u fonts pages)) (replicate (filler_after (length (text_of (document_reading u fonts pages)))) 223))
 
 -- ---- the reading
 
@@ -83,14 +83,14 @@ module _ (u : Units) (fonts : List (ℤ × FontKey)) (pages : List (List ℕ)) (
   pre_spelled : Spells (preamble u) (shortest_spelling (preamble u))
   pre_spelled = (0, (refl, omega arith, omega (arith, num), omega (arith, den), omega (arith, mag), omega arith), refl)
 
-  pub pre_stands : Stands (told u) false false 0 (negsuc 0) (behind [] (preamble u))
+  pub pre_stands : Stands (told u) false false 0 (negsuc 0) (after [] (preamble u))
   pre_stands = record { spelled = (tt, record { unfinished = refl; place = refl; spelled = pre_spelled }); going = refl; post_is = refl; open_is = refl; begun = refl; last = refl; preamble = refl }
 
   pub head_stands : Stands (told u) false false 0 (negsuc 0) (head u fonts)
-  head_stands = fonts_stand (told u) false 0 (negsuc 0) fonts (behind [] (preamble u)) spelled pre_stands
+  head_stands = fonts_stand (told u) false 0 (negsuc 0) fonts (after [] (preamble u)) spelled pre_stands
 
   pub at : end_of (pages_reading u fonts pages) < 2 ^ 31
-  at = omega (arith, front_even u fonts pages all, front_short u fonts pages all, document_long u fonts pages, fits)
+  at = omega (arith, prefix_even u fonts pages all, prefix_short u fonts pages all, document_long u fonts pages, fits)
 
   pub minus : IsSigned 4 (negsuc 0)
   minus = omega arith
@@ -103,7 +103,7 @@ module _ (u : Units) (fonts : List (ℤ × FontKey)) (pages : List (List ℕ)) (
   closing = postamble u (last_bop (pages_reading u fonts pages)) (length pages)
 
   abbrev pub done : Reading
-  done = behind (pages_reading u fonts pages) closing
+  done = after (pages_reading u fonts pages) closing
 
   post_spelled : Spells (postamble u (last_bop (pages_reading u fonts pages)) (length pages)) (shortest_spelling (postamble u (last_bop (pages_reading u fonts pages)) (length pages)))
   post_spelled = (0, (refl, (subst (IsSigned 4) (sym are.stands.last) are.fits, (omega (arith, num), (omega (arith, den), (omega (arith, mag), (omega arith, (omega arith, tt)))))), omega arith, omega arith), refl)
@@ -145,7 +145,7 @@ module _ (u : Units) (fonts : List (ℤ × FontKey)) (pages : List (List ℕ)) (
   unfolding document_reading pages_reading
   others k none never =
       not_redefined fonts done k none
-      ∙ none_on_pages k pages (head u fonts) 1 all never (not_redefined fonts (behind [] (preamble u)) k none)
+      ∙ none_on_pages k pages (head u fonts) 1 all never (not_redefined fonts (after [] (preamble u)) k none)
 
   made : (res : ℕ) → GivesBack u fonts pages res (document_reading u fonts pages)
   unfolding document_reading

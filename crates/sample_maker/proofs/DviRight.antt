@@ -16,7 +16,7 @@ use Rattle.page_index.specs.Limits.{MOST_PAGES}
 use Rattle.page_index.specs.Judged.{agrees_with, bop_fault, define_fault, is_same_font, is_size}
 use Rattle.page_index.specs.Document.{Reading, Sound, context_after, end_of, font_table, is_eop, key_of, key_or, last_bop, whole_fault}
 use Rattle.page_index.specs.declared.faults.DocFault.TheVariants.{FontClash, FontDef}
-use Rattle.sample_maker.specs.DviFile.{DefineRightly, IsFontSpelled, IsPageText, IsRightDefinition, IsWritable, are_apart, beginning, behind, behind_text, definition, with_fonts, with_page, with_pages}
+use Rattle.sample_maker.specs.DviFile.{DefineRightly, IsFontSpelled, IsPageText, IsRightDefinition, IsWritable, are_apart, beginning, after, after_text, definition, with_fonts, with_page, with_pages}
 use Rattle.sample_maker.proofs.Spelled.{AreSpelled}
 use Rattle.sample_maker.proofs.PageTexts.{IsEven, IsPlain, Stands, commands_are, plain, plain_more, text_more, text_none, with}
 use Rattle.sample_maker.proofs.DviTexts.{page_even, pages_grow}
@@ -115,11 +115,11 @@ int_apart a b h = elim (cases_Bool (int_eq a b)) [
 ]
 
 still_free : (f : ℤ × FontKey) (fonts : List (ℤ × FontKey)) (r : Reading) → list_any (λ (g : ℤ × FontKey). int_eq g.0 f.0) fonts ≡ false → AllByRecursion (IsFree (font_table r)) fonts
-    → AllByRecursion (IsFree (font_table (behind r (definition f)))) fonts
+    → AllByRecursion (IsFree (font_table (after r (definition f)))) fonts
 still_free f [] r apart h = tt
 still_free f (g ∷ fonts) r apart h =
     let parts = or_parts (int_eq g.0 f.0) (list_any (λ (x : ℤ × FontKey). int_eq x.0 f.0) fonts) apart in
-    let same : font_table (behind r (definition f)) g.0 ≡ font_table r g.0 = cond-false (int_eq f.0 g.0) (Some f.1) (font_table r g.0) (int_apart f.0 g.0 parts.0) in
+    let same : font_table (after r (definition f)) g.0 ≡ font_table r g.0 = cond-false (int_eq f.0 g.0) (Some f.1) (font_table r g.0) (int_apart f.0 g.0 parts.0) in
     (elim h.0 [ inl none ↦ inl (same ∙ none) | inr some ↦ inr (same ∙ some) ], still_free f fonts r parts.1 h.1)
 
 pub fonts_right : (res : ℕ) (q : Preamble) (post : Bool) (n : ℕ) (back : ℤ) (fonts : List (ℤ × FontKey)) (r : Reading) → All IsFontSpelled fonts → AllByRecursion IsWritable fonts → IsTrue (are_apart fonts)
@@ -131,7 +131,7 @@ fonts_right res q post n back (f ∷ fonts) r spelled writable apart h free righ
     let may : IsTrue (may_stand (context_after r) (242 + op.0)) = allowed_there (place_by post false) r (242 + op.0) (place_is q post false n back r h) (defines_may post op.0 op.1 op.2) in
     let allowed : IsTrue (may_stand (context_after r) (slice_index (shortest_spelling (definition f)) 0)) = subst (λ (k : ℕ). IsTrue (may_stand (context_after r) k)) (sym op.3) may in
     let apart_parts = and_parts (not (list_any (λ (g : ℤ × FontKey). int_eq g.0 f.0) fonts)) (are_apart fonts) apart in
-    fonts_right res q post n back fonts (behind r (definition f)) parts.1 writable.1 apart_parts.1
+    fonts_right res q post n back fonts (after r (definition f)) parts.1 writable.1 apart_parts.1
     (fonts_stand q post n back (f ∷ []) r (λ k g lt. one f parts.0 k g lt) h)
     (still_free f fonts r (not-true _ apart_parts.0) free.1)
     (right, record { allowed = allowed; right = definition_right f (end_of r) (font_table r) writable.0 free.0 })
@@ -188,16 +188,17 @@ key_stays known (Define d) k key right h = elim (cases_Bool (int_eq d.number k))
 ]
 key_stays known _ k key right h = h
 
--- from one reading to a later one all is right, font numbers keep their keys, and the definitions to come are right
+-- from one reading to a later one all is right, font numbers keep their keys, and the definitions
+-- to come are right
 pub record Rightly (res : ℕ) (r later : Reading) (more : List DviCommand) : Type 0 where
   pub right : AreRight res later
   pub keeps : (k : ℤ) (key : FontKey) → font_table r k ≡ Some key → font_table later k ≡ Some key
   pub rest : DefineRightly (font_table later) more
 
 text_right : (res n : ℕ) (q : Preamble) (back : ℤ) (more commands : List DviCommand) (body : List ℕ) (r : Reading) → AreCommands context.Page commands body → AllByRecursion (λ c. is_eop c ≡ false) commands
-    → Stands q false true n back r → AreRight res r → DefineRightly (font_table r) (commands ++ more) → Rightly res r (behind_text r body) more
+    → Stands q false true n back r → AreRight res r → DefineRightly (font_table r) (commands ++ more) → Rightly res r (after_text r body) more
 text_right res n q back more [] body r are ends h right define =
-    subst (λ (x : Reading). Rightly res r x more) (sym (ap (behind_text r) are ∙ text_none r)) (record { right = right; keeps = λ k key e. e; rest = define })
+    subst (λ (x : Reading). Rightly res r x more) (sym (ap (after_text r) are ∙ text_none r)) (record { right = right; keeps = λ k key e. e; rest = define })
 text_right res n q back more (c ∷ commands) body r are ends h right define =
     let is = plain c are.0 are.2.spelled are.2.allowed ends.0 in
     let next = with r c are.0 in
@@ -206,7 +207,7 @@ text_right res n q back more (c ∷ commands) body r are ends h right define =
       right = plain_right res r (end_of r) are.0 c is define.0;
     } in
     let later = text_right res n q back more commands are.1 next are.3 ends.1 (plain_more q false true n back r c are.0 is h are.2.spelled) (right, here) define.1 in
-    subst (λ (x : Reading). Rightly res r x more) (sym (ap (behind_text r) are.2.whole ∙ text_more r c are.0 are.1 are.2.spelled))
+    subst (λ (x : Reading). Rightly res r x more) (sym (ap (after_text r) are.2.whole ∙ text_more r c are.0 are.1 are.2.spelled))
     (record { right = later.right; keeps = λ k key e. later.keeps k key (key_stays (font_table r) c k key define.0 e); rest = later.rest })
 
 -- ---- pages
@@ -217,15 +218,15 @@ bop_right n at back few = rw (lt-leb MOST_PAGES n few, int_same back) refl
 page_right : (res n : ℕ) (q : Preamble) (back : ℤ) (r : Reading) (number : ℕ) (body : List ℕ) (more : List DviCommand) → number < 2 ^ 31 → IsSigned 4 back → IsPageText body → n < MOST_PAGES
     → Stands q false false n back r → AreRight res r → DefineRightly (font_table r) (commands_of body ++ more) → Rightly res r (with_page r number body) more
 page_right res n q back r number body more small fits is few h right define =
-    let opened = behind r (beginning number (last_bop r)) in
+    let opened = after r (beginning number (last_bop r)) in
     let bop : IsRight res r (placed (end_of r) (beginning number (last_bop r)) (shortest_spelling (beginning number (last_bop r)))) = record {
       allowed = allowed_there context.Between r 139 (place_is q false false n back r h) refl;
       right = ap (λ (k : ℕ). bop_fault k (last_bop r) (end_of r) (last_bop r)) h.begun ∙ bop_right n (end_of r) (last_bop r) few;
     } in
     let told : DefineRightly (font_table r) (is.commands ++ more) = subst (λ (cs : List DviCommand). DefineRightly (font_table r) (cs ++ more)) (commands_are is.commands body is.are) define in
     let filled = text_right res (suc n) q (pos (end_of r)) more is.commands body opened is.are is.no_end (opened_stands q n back r h number small fits body is) (right, bop) told in
-    let eop : IsRight res (behind_text opened body) (placed (end_of (behind_text opened body)) Eop (shortest_spelling Eop)) = record {
-      allowed = allowed_there context.Page (behind_text opened body) 140 (place_is q false true (suc n) (pos (end_of r)) (behind_text opened body) (filled_stands q n back r h number small fits body is)) refl;
+    let eop : IsRight res (after_text opened body) (placed (end_of (after_text opened body)) Eop (shortest_spelling Eop)) = record {
+      allowed = allowed_there context.Page (after_text opened body) 140 (place_is q false true (suc n) (pos (end_of r)) (after_text opened body) (filled_stands q n back r h number small fits body is)) refl;
       right = refl;
     } in
     record { right = (filled.right, eop); keeps = filled.keeps; rest = filled.rest }

@@ -7,8 +7,8 @@ use Rattle.pixel_round.specs.declared.units.Units.{Units}
 use Rattle.dvi_commands.specs.Spelling.{Eop, PostPost}
 use Rattle.dvi_commands.specs.ShortestSpelling.{shortest_spelling}
 use Rattle.page_index.specs.Document.{last_bop, text_of}
-use Rattle.sample_maker.specs.DviFile.{IsPageText, beginning, document_reading, document_text, filler_behind, fonts_text, page_text, pages_reading, pages_text, postamble, preamble}
-use Rattle.sample_maker.proofs.DviRead.{front_text, head, head_text, whole_text}
+use Rattle.sample_maker.specs.DviFile.{IsPageText, beginning, document_reading, document_text, filler_after, fonts_text, page_text, pages_reading, pages_text, postamble, preamble}
+use Rattle.sample_maker.proofs.DviRead.{prefix_text, head, head_text, whole_text}
 
 -- a page has 46 bytes around its own
 abbrev pub pages_size : List (List ℕ) → ℕ
@@ -29,19 +29,19 @@ pub document_size : (u : Units) (fonts : List (ℤ × FontKey)) (pages : List (L
     → length (document_text u fonts pages) ≤ 57 + 2 * length (fonts_text fonts) + pages_size pages
 unfolding document_text
 document_size u fonts pages all =
-    let front = pages_reading u fonts pages in
-    let post = postamble u (last_bop front) (length pages) in
-    let last = PostPost (pos (length (text_of front))) 2 in
+    let prefix = pages_reading u fonts pages in
+    let post = postamble u (last_bop prefix) (length pages) in
+    let last = PostPost (pos (length (text_of prefix))) 2 in
     let text = text_of (document_reading u fonts pages) in
     omega (
       arith,
-      length-append text (replicate (filler_behind (length text)) 223),
-      length-replicate {A = ℕ} (filler_behind (length text)) 223,
+      length-append text (replicate (filler_after (length text)) 223),
+      length-replicate {A = ℕ} (filler_after (length text)) 223,
       ap length (whole_text u fonts pages all),
-      length-append ((text_of front ++ shortest_spelling post) ++ fonts_text fonts) (shortest_spelling last),
-      length-append (text_of front ++ shortest_spelling post) (fonts_text fonts),
-      length-append (text_of front) (shortest_spelling post),
-      ap length (front_text u fonts pages all),
+      length-append ((text_of prefix ++ shortest_spelling post) ++ fonts_text fonts) (shortest_spelling last),
+      length-append (text_of prefix ++ shortest_spelling post) (fonts_text fonts),
+      length-append (text_of prefix) (shortest_spelling post),
+      ap length (prefix_text u fonts pages all),
       length-append (text_of (head u fonts)) (pages_text (length (text_of (head u fonts))) 1 (negsuc 0) pages),
       pages_long pages (length (text_of (head u fonts))) 1 (negsuc 0),
       ap length (head_text u fonts),

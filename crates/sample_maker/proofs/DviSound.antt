@@ -17,7 +17,7 @@ use Rattle.page_index.specs.Judged.{is_scale_right, post_fault, post_fault_again
 use Rattle.page_index.specs.Document.{IsDocument, Reading, end_of, font_table, last_bop, pages_begun, post_at, preamble_of, text_of}
 use Rattle.page_index.specs.declared.faults.DocFault.{DocFault}
 use Rattle.page_index.specs.declared.faults.DocFault.TheVariants as fault
-use Rattle.sample_maker.specs.DviFile.{AreSigned, DefineRightly, IsFontSpelled, IsPageText, IsWritable, are_apart, behind, definition, document_reading, document_text, filler_behind, key_given, pages_reading, postamble, preamble, with_fonts}
+use Rattle.sample_maker.specs.DviFile.{AreSigned, DefineRightly, IsFontSpelled, IsPageText, IsWritable, are_apart, after, definition, document_reading, document_text, filler_after, key_given, pages_reading, postamble, preamble, with_fonts}
 use Rattle.sample_maker.proofs.DviPages.{fonts_there, int_eq_same, none_given, not_redefined}
 use Rattle.sample_maker.proofs.DviRead.{all_spelled, are, at, done_stands, end_stands, ended, head, head_even, head_stands, minus, pre_stands, told}
 use Rattle.sample_maker.proofs.DviRight.{AreRight, IsFree, Rightly, allowed_there, fonts_right, int_same, pages_right, place_is, sound_of}
@@ -63,7 +63,7 @@ post_right u n at r begun preamble =
 
 post_stays : (fonts : List (ℤ × FontKey)) (r : Reading) → post_at (with_fonts r fonts) ≡ post_at r
 post_stays [] r = refl
-post_stays (f ∷ fonts) r = post_stays fonts (behind r (definition f))
+post_stays (f ∷ fonts) r = post_stays fonts (after r (definition f))
 
 postpost_right : (post at : ℕ) → post < 2 ^ 31 → postpost_fault (Some post) at (shortest_spelling (PostPost (pos post) 2)) ≡ None
 postpost_right post at few =
@@ -114,10 +114,10 @@ module _ (u : Units) (fonts : List (ℤ × FontKey)) (pages : List (List ℕ)) (
   short = omega (arith, fits)
 
   abbrev first : Reading
-  first = behind [] (preamble u)
+  first = after [] (preamble u)
 
-  abbrev front : Reading
-  front = pages_reading u fonts pages
+  abbrev prefix : Reading
+  prefix = pages_reading u fonts pages
 
   first_right : AreRight res first
   first_right = (tt, record { allowed = refl; right = preamble_right u res s scale })
@@ -127,32 +127,32 @@ module _ (u : Units) (fonts : List (ℤ × FontKey)) (pages : List (List ℕ)) (
       fonts_right res (told u) false 0 (negsuc 0) fonts first spelled writable apart (pre_stands u fonts pages s.num.1 s.den.1 s.mag.1 spelled apart few all short)
       (all_free (font_table first) fonts (λ k. refl)) first_right
 
-  front_right : Rightly res (head u fonts) front []
+  prefix_right : Rightly res (head u fonts) prefix []
   unfolding pages_reading
-  front_right =
+  prefix_right =
       pages_right res 0 (told u) pages (negsuc 0) (head u fonts) 1 all (head_stands u fonts pages s.num.1 s.den.1 s.mag.1 spelled apart few all short) (head_even u fonts)
       (minus u fonts pages s.num.1 s.den.1 s.mag.1 spelled apart few all short) (omega (arith, few)) (omega (arith, few)) (at u fonts pages s.num.1 s.den.1 s.mag.1 spelled apart few all short) head_right
       (same_keys (key_given fonts) (font_table (head u fonts)) (flat_map commands_of pages) (given_there fonts first apart (λ k. refl)) define)
 
   abbrev closing : DviCommand
-  closing = postamble u (last_bop front) (length pages)
+  closing = postamble u (last_bop prefix) (length pages)
 
   abbrev done : Reading
-  done = behind front closing
+  done = after prefix closing
 
   done_right : AreRight res done
   done_right =
       let pages_are = are u fonts pages s.num.1 s.den.1 s.mag.1 spelled apart few all short in
       let stands = done_stands u fonts pages s.num.1 s.den.1 s.mag.1 spelled apart few all short in (
-        front_right.right,
+        prefix_right.right,
         record {
-          allowed = allowed_there context.Between front 248 (place_is (told u) false false (0 + length pages) pages_are.back front pages_are.stands) refl;
-          right = post_right u (length pages) (end_of front) front stands.begun stands.preamble;
+          allowed = allowed_there context.Between prefix 248 (place_is (told u) false false (0 + length pages) pages_are.back prefix pages_are.stands) refl;
+          right = post_right u (length pages) (end_of prefix) prefix stands.begun stands.preamble;
         },
       )
 
   kept : (k : ℤ) (key : FontKey) → key_given fonts k ≡ Some key → font_table done k ≡ Some key
-  kept k key e = front_right.keeps k key (fonts_there fonts first k key apart e)
+  kept k key e = prefix_right.keeps k key (fonts_there fonts first k key apart e)
 
   end_right : AreRight res (with_fonts done fonts)
   end_right =
@@ -165,8 +165,8 @@ module _ (u : Units) (fonts : List (ℤ × FontKey)) (pages : List (List ℕ)) (
     end_right,
     record {
       allowed = allowed_there context.Post (with_fonts done fonts) 249 (place_is (told u) true false (length pages) _ (with_fonts done fonts) (end_stands u fonts pages s.num.1 s.den.1 s.mag.1 spelled apart few all short)) refl;
-      right = ap (λ (o : Option ℕ). postpost_fault o (end_of (with_fonts done fonts)) (shortest_spelling (PostPost (pos (end_of front)) 2))) (post_stays fonts done)
-          ∙ postpost_right (end_of front) (end_of (with_fonts done fonts)) (at u fonts pages s.num.1 s.den.1 s.mag.1 spelled apart few all short);
+      right = ap (λ (o : Option ℕ). postpost_fault o (end_of (with_fonts done fonts)) (shortest_spelling (PostPost (pos (end_of prefix)) 2))) (post_stays fonts done)
+          ∙ postpost_right (end_of prefix) (end_of (with_fonts done fonts)) (at u fonts pages s.num.1 s.den.1 s.mag.1 spelled apart few all short);
     },
   )
 
@@ -176,7 +176,7 @@ module _ (u : Units) (fonts : List (ℤ × FontKey)) (pages : List (List ℕ)) (
     fits = fits;
     sound = sound_of res (document_reading u fonts pages) (all_spelled u fonts pages s.num.1 s.den.1 s.mag.1 spelled apart few all short) all_right;
     ended = ended u fonts pages s.num.1 s.den.1 s.mag.1 spelled apart few all short;
-    filler = filler_behind (length (text_of (document_reading u fonts pages)));
+    filler = filler_after (length (text_of (document_reading u fonts pages)));
     filled = omega arith;
     whole = refl;
   }

@@ -5,35 +5,35 @@ use Rattle.outside.specs.declared.keys.FontKey.{FontKey}
 use Rattle.dvi_commands.specs.Spelling.{Eop}
 use Rattle.dvi_commands.specs.ShortestSpelling.{shortest_spelling}
 use Rattle.page_index.specs.Document.{Reading, end_of, last_bop, text_of}
-use Rattle.sample_maker.specs.DviFile.{IsPageText, beginning, behind, behind_text, definition, fonts_text, last_page, page_text, pages_text, with_fonts, with_page, with_pages}
-use Rattle.sample_maker.proofs.PageTexts.{IsEven, even_behind, even_text, last_stays, text_behind}
+use Rattle.sample_maker.specs.DviFile.{IsPageText, beginning, after, after_text, definition, fonts_text, last_page, page_text, pages_text, with_fonts, with_page, with_pages}
+use Rattle.sample_maker.proofs.PageTexts.{IsEven, even_after, even_text, last_stays, text_after}
 
 -- ---- fonts
 
 pub fonts_even : (fonts : List (ℤ × FontKey)) (r : Reading) → IsEven r → IsEven (with_fonts r fonts)
 fonts_even [] r h = h
-fonts_even (f ∷ fonts) r h = fonts_even fonts (behind r (definition f)) (even_behind r (definition f) h)
+fonts_even (f ∷ fonts) r h = fonts_even fonts (after r (definition f)) (even_after r (definition f) h)
 
 pub text_of_fonts : (fonts : List (ℤ × FontKey)) (r : Reading) → text_of (with_fonts r fonts) ≡ text_of r ++ fonts_text fonts
 text_of_fonts [] r = sym (append-nil (text_of r))
-text_of_fonts (f ∷ fonts) r = text_of_fonts fonts (behind r (definition f)) ∙ append_assoc (text_of r) (shortest_spelling (definition f)) (fonts_text fonts)
+text_of_fonts (f ∷ fonts) r = text_of_fonts fonts (after r (definition f)) ∙ append_assoc (text_of r) (shortest_spelling (definition f)) (fonts_text fonts)
 
 -- ---- a page
 
 abbrev begun : Reading → ℕ → Reading
-begun r number = behind r (beginning number (last_bop r))
+begun r number = after r (beginning number (last_bop r))
 
 pub text_of_page : (r : Reading) (number : ℕ) (body : List ℕ) → IsPageText body → text_of (with_page r number body) ≡ text_of r ++ page_text number (last_bop r) body
 unfolding page_text
 text_of_page r number body is =
-    ap (λ t. t ++ shortest_spelling Eop) (text_behind body (begun r number) is)
+    ap (λ t. t ++ shortest_spelling Eop) (text_after body (begun r number) is)
     ∙ regrouped (text_of r) (shortest_spelling (beginning number (last_bop r))) body (shortest_spelling Eop)
   where
     regrouped : (a b c d : List ℕ) → ((a ++ b) ++ c) ++ d ≡ a ++ ((b ++ c) ++ d)
     regrouped a b c d = simp append_assoc
 
 pub page_even : (r : Reading) (number : ℕ) (body : List ℕ) → IsPageText body → IsEven r → IsEven (with_page r number body)
-page_even r number body is h = even_behind (behind_text (begun r number) body) Eop (even_text body (begun r number) is (even_behind r (beginning number (last_bop r)) h))
+page_even r number body is h = even_after (after_text (begun r number) body) Eop (even_text body (begun r number) is (even_after r (beginning number (last_bop r)) h))
 
 last_of_page : (r : Reading) (number : ℕ) (body : List ℕ) → IsPageText body → last_bop (with_page r number body) ≡ pos (end_of r)
 last_of_page r number body is = last_stays body (begun r number) is

@@ -126,7 +126,7 @@ module _ (r : Bitmap) where
   padded_bytes = record {
     len = length_of_bytes;
     small = small_bytes (plain_pixels r);
-    zero_behind = λ i past h. pixel_back (plain_pixels r) i (omega (arith, h, length_of_text (plain_pixels r))) ∙ no_pixel i past;
+    zero_after = λ i past h. pixel_back (plain_pixels r) i (omega (arith, h, length_of_text (plain_pixels r))) ∙ no_pixel i past;
   }
 
   pub pixel_again : (x y : ℕ) → x < r.width → y < r.height → is_black r x y ≡ pixel (plain_bytes r) (y * r.width + x)

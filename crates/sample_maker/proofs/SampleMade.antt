@@ -19,9 +19,9 @@ use Rattle.sample_maker.proofs.DviSound.{is_document}
 
 -- ---- the commands of a page
 
-one_more : (c : DviCommand) (front rest : List ℕ) (commands : List DviCommand) → Spells c front → IsTrue (may_stand context.Page (slice_index front 0)) → AreCommands context.Page commands rest
-    → AreCommands context.Page (c ∷ commands) (front ++ rest)
-one_more c front rest commands spelled allowed h = (front, rest, record { whole = refl; spelled = spelled; allowed = allowed }, h)
+one_more : (c : DviCommand) (prefix rest : List ℕ) (commands : List DviCommand) → Spells c prefix → IsTrue (may_stand context.Page (slice_index prefix 0)) → AreCommands context.Page commands rest
+    → AreCommands context.Page (c ∷ commands) (prefix ++ rest)
+one_more c prefix rest commands spelled allowed h = (prefix, rest, record { whole = refl; spelled = spelled; allowed = allowed }, h)
 
 -- n characters 65
 characters : (n : ℕ) (rest : List ℕ) (commands : List DviCommand) → AreCommands context.Page commands rest → AreCommands context.Page (replicate n (Set (pos 65)) ++ commands) (replicate n 0x41 ++ rest)

@@ -1,4 +1,5 @@
--- Readings whose commands are spelled one after another, of which only the last may be PostPost: their bytes tell them.
+-- Readings whose commands are spelled one after another, of which only the last may be PostPost:
+-- their bytes tell them.
 use Rattle.std.proofs.Common.{◌≡◌, ◌∙◌, ℕ, ◌+◌, true, false, List, [], ◌∷◌, ◌++◌, length, refl, sym, ap, arith, append_assoc, length-append}
 use Rattle.std.specs.Prelude.{reverse, IsFalse, if◌then◌else◌}
 use Rattle.std.proofs.lemmas.Bool.{cond-true, cond-false}

@@ -26,8 +26,8 @@ pair_word pair = word pair.1
 abbrev words_of : List (ℕ × ℤ) → ℕ
 words_of pairs = 6 + 2 + codes_of pairs + (length pairs + 1) + 3
 
-abbrev front : List (ℕ × ℤ) → List ℕ
-front pairs = head (words_of pairs) (first_code pairs) (last_code pairs) (length pairs + 1)
+abbrev prefix : List (ℕ × ℤ) → List ℕ
+prefix pairs = head (words_of pairs) (first_code pairs) (last_code pairs) (length pairs + 1)
 
 abbrev indices : List (ℕ × ℤ) → List ℕ
 indices pairs = flat_map (index_word pairs) (range_with_len (first_code pairs) (codes_of pairs))
@@ -46,9 +46,9 @@ tables pairs = indices pairs ++ (flat_map pair_word (all_widths pairs) ++ zeros)
 regroup : (f i w0 w z : List ℕ) → (((f ++ i) ++ w0) ++ w) ++ z ≡ f ++ (i ++ ((w0 ++ w) ++ z))
 regroup f i w0 w z = simp append_assoc
 
-parted : (pairs : List (ℕ × ℤ)) → tfm_file pairs ≡ front pairs ++ tables pairs
+parted : (pairs : List (ℕ × ℤ)) → tfm_file pairs ≡ prefix pairs ++ tables pairs
 unfolding tfm_file
-parted pairs = regroup (front pairs) (indices pairs) (word (pos 0)) (flat_map pair_word pairs) zeros
+parted pairs = regroup (prefix pairs) (indices pairs) (word (pos 0)) (flat_map pair_word pairs) zeros
 
 -- ---- the words after the prefix
 
@@ -63,20 +63,20 @@ length_indices pairs =
     length_of_blocks (index_word pairs) (index_four pairs) (range_with_len (first_code pairs) (codes_of pairs))
     ∙ ap (λ k. 4 * k) (length-range_with_len (first_code pairs) (codes_of pairs))
 
-index_at : (pairs : List (ℕ × ℤ)) (i : ℕ) → i < codes_of pairs → take 4 (drop (4 * (8 + i)) (front pairs ++ tables pairs)) ≡ index_word pairs (first_code pairs + i)
+index_at : (pairs : List (ℕ × ℤ)) (i : ℕ) → i < codes_of pairs → take 4 (drop (4 * (8 + i)) (prefix pairs ++ tables pairs)) ≡ index_word pairs (first_code pairs + i)
 index_at pairs i lt =
     let place : 4 * (8 + i) ≡ 32 + 4 * i = omega arith in
     let inside : i < length (range_with_len (first_code pairs) (codes_of pairs)) = omega (arith, length-range_with_len (first_code pairs) (codes_of pairs)) in
-    ap (λ k. take 4 (drop k (front pairs ++ tables pairs))) place
-    ∙ ap (take 4) (drop-append-add (front pairs) (tables pairs) (4 * i))
+    ap (λ k. take 4 (drop k (prefix pairs ++ tables pairs))) place
+    ∙ ap (take 4) (drop-append-add (prefix pairs) (tables pairs) (4 * i))
     ∙ block_at (index_word pairs) (index_four pairs) (range_with_len (first_code pairs) (codes_of pairs)) i 0 (flat_map pair_word (all_widths pairs) ++ zeros) inside
     ∙ ap (index_word pairs) (get_or-range_with_len (first_code pairs) (codes_of pairs) i 0 lt)
 
-word_at : (pairs : List (ℕ × ℤ)) (i : ℕ) → i < length pairs + 1 → take 4 (drop (4 * (8 + codes_of pairs + i)) (front pairs ++ tables pairs)) ≡ pair_word (get_or (all_widths pairs) i (0, pos 0))
+word_at : (pairs : List (ℕ × ℤ)) (i : ℕ) → i < length pairs + 1 → take 4 (drop (4 * (8 + codes_of pairs + i)) (prefix pairs ++ tables pairs)) ≡ pair_word (get_or (all_widths pairs) i (0, pos 0))
 word_at pairs i lt =
     let place : 4 * (8 + codes_of pairs + i) ≡ 32 + (length (indices pairs) + 4 * i) = omega (arith, length_indices pairs) in
-    ap (λ k. take 4 (drop k (front pairs ++ tables pairs))) place
-    ∙ ap (take 4) (drop-append-add (front pairs) (tables pairs) (length (indices pairs) + 4 * i))
+    ap (λ k. take 4 (drop k (prefix pairs ++ tables pairs))) place
+    ∙ ap (take 4) (drop-append-add (prefix pairs) (tables pairs) (length (indices pairs) + 4 * i))
     ∙ ap (take 4) (drop-append-add (indices pairs) (flat_map pair_word (all_widths pairs) ++ zeros) (4 * i))
     ∙ block_at pair_word word_four (all_widths pairs) i (0, pos 0) zeros (omega (arith, lt))
 
@@ -106,33 +106,33 @@ module _ (pairs : List (ℕ × ℤ)) (some : 1 ≤ length pairs) (few : length p
   order : first_code pairs ≤ last_code pairs
   order = last_greatest pairs 0 rising some
 
-  read : AreRead (words_of pairs) (first_code pairs) (last_code pairs) (length pairs + 1) (front pairs ++ tables pairs)
+  read : AreRead (words_of pairs) (first_code pairs) (last_code pairs) (length pairs + 1) (prefix pairs ++ tables pairs)
   read = counts_read _ _ _ _ (tables pairs) (omega (arith, few, top)) (omega (arith, order, top)) (omega (arith, top)) (omega (arith, few))
 
-  codes_are : tfm.codes_of (front pairs ++ tables pairs) ≡ codes_of pairs
+  codes_are : tfm.codes_of (prefix pairs ++ tables pairs) ≡ codes_of pairs
   codes_are = omega (arith, read.first, read.last)
 
-  index_is : (i : ℕ) → i < codes_of pairs → width_index (front pairs ++ tables pairs) i ≡ place_from 1 pairs (first_code pairs + i)
-  index_is i lt = first_of_block (4 * (8 + i)) (front pairs ++ tables pairs) _ (index_at pairs i lt)
+  index_is : (i : ℕ) → i < codes_of pairs → width_index (prefix pairs ++ tables pairs) i ≡ place_from 1 pairs (first_code pairs + i)
+  index_is i lt = first_of_block (4 * (8 + i)) (prefix pairs ++ tables pairs) _ (index_at pairs i lt)
 
-  at_is : (i : ℕ) → width_at (front pairs ++ tables pairs) i ≡ 4 * (8 + codes_of pairs + i)
+  at_is : (i : ℕ) → width_at (prefix pairs ++ tables pairs) i ≡ 4 * (8 + codes_of pairs + i)
   at_is i = ap (λ k. 4 * (8 + k + i)) codes_are
 
-  word_is : (i : ℕ) → i < length pairs + 1 → width_word (front pairs ++ tables pairs) i ≡ (get_or (all_widths pairs) i (0, pos 0)).1
+  word_is : (i : ℕ) → i < length pairs + 1 → width_word (prefix pairs ++ tables pairs) i ≡ (get_or (all_widths pairs) i (0, pos 0)).1
   word_is i lt =
-      ap (λ k. signed_of (take 4 (drop k (front pairs ++ tables pairs)))) (at_is i)
+      ap (λ k. signed_of (take 4 (drop k (prefix pairs ++ tables pairs)))) (at_is i)
       ∙ ap signed_of (word_at pairs i lt)
       ∙ signed_is_read_again 4 _ (omega arith) (omega arith) (fix_word_signed _ (all_fit pairs i fit lt))
 
-  byte_is : (i : ℕ) → i < length pairs + 1 → slice_index (front pairs ++ tables pairs) (width_at (front pairs ++ tables pairs) i) ≡ slice_index (pair_word (get_or (all_widths pairs) i (0, pos 0))) 0
+  byte_is : (i : ℕ) → i < length pairs + 1 → slice_index (prefix pairs ++ tables pairs) (width_at (prefix pairs ++ tables pairs) i) ≡ slice_index (pair_word (get_or (all_widths pairs) i (0, pos 0))) 0
   byte_is i lt =
-      ap (slice_index (front pairs ++ tables pairs)) (at_is i)
-      ∙ first_of_block (4 * (8 + codes_of pairs + i)) (front pairs ++ tables pairs) _ (word_at pairs i lt)
+      ap (slice_index (prefix pairs ++ tables pairs)) (at_is i)
+      ∙ first_of_block (4 * (8 + codes_of pairs + i)) (prefix pairs ++ tables pairs) _ (word_at pairs i lt)
 
-  long : 4 * words_of pairs ≤ length (front pairs ++ tables pairs)
-  long = omega (arith, length-append (front pairs) (tables pairs), length-append (indices pairs) (flat_map pair_word (all_widths pairs) ++ zeros), length-append (flat_map pair_word (all_widths pairs)) zeros, length_indices pairs, length_of_blocks pair_word word_four (all_widths pairs))
+  long : 4 * words_of pairs ≤ length (prefix pairs ++ tables pairs)
+  long = omega (arith, length-append (prefix pairs) (tables pairs), length-append (indices pairs) (flat_map pair_word (all_widths pairs) ++ zeros), length-append (flat_map pair_word (all_widths pairs)) zeros, length_indices pairs, length_of_blocks pair_word word_four (all_widths pairs))
 
-  parts_sound : IsTfm (front pairs ++ tables pairs)
+  parts_sound : IsTfm (prefix pairs ++ tables pairs)
   parts_sound = record {
     counted = omega (arith, long);
     rise = omega (arith, read.first, read.last, order);
@@ -148,15 +148,15 @@ module _ (pairs : List (ℕ × ℤ)) (some : 1 ≤ length pairs) (few : length p
   -- ---- the widths
 
   by_index : (k : ℕ) (w : Option ℤ) → k < length pairs + 1 → (k ≡ 0 → w ≡ None) → ((j : ℕ) → k ≡ suc j → w ≡ Some (get_or pairs j (0, pos 0)).1)
-      → indexed_width (front pairs ++ tables pairs) k ≡ w
+      → indexed_width (prefix pairs ++ tables pairs) k ≡ w
   by_index zero w lt none found = sym (none refl)
   by_index (suc j) w lt none found = ap Some (word_is (suc j) lt) ∙ sym (found j refl)
 
   width_inside : (c : ℕ) → first_code pairs ≤ c → c ≤ last_code pairs
-      → indexed_width (front pairs ++ tables pairs) (width_index (front pairs ++ tables pairs) (c - first_code pairs)) ≡ width_in pairs c
+      → indexed_width (prefix pairs ++ tables pairs) (width_index (prefix pairs ++ tables pairs) (c - first_code pairs)) ≡ width_in pairs c
   width_inside c low high =
       let back : first_code pairs + (c - first_code pairs) ≡ c = omega (arith, low) in
-      ap (indexed_width (front pairs ++ tables pairs)) (index_is (c - first_code pairs) (omega (arith, low, high)) ∙ ap (place_from 1 pairs) back)
+      ap (indexed_width (prefix pairs ++ tables pairs)) (index_is (c - first_code pairs) (omega (arith, low, high)) ∙ ap (place_from 1 pairs) back)
       ∙ elim (place_or_none 1 pairs c) [
         | inl f ↦ by_index (place_from 1 pairs c) (width_in pairs c) (omega (arith, place_fits pairs c)) (λ e. absurd (omega (arith, e, f.1.place)))
             (λ j e. let same : f.0 ≡ j = omega (arith, e, f.1.place) in f.1.width ∙ ap (λ k. Some (get_or pairs k (0, pos 0)).1) same)
@@ -173,20 +173,20 @@ module _ (pairs : List (ℕ × ℤ)) (some : 1 ≤ length pairs) (few : length p
       not_outside j (inl below) e low high = omega (arith, below, e, low)
       not_outside j (inr above) e low high = omega (arith, above, e, high)
 
-  width_is : (c : ℕ) (a b : Bool) → nat_le (bc (front pairs ++ tables pairs)) c ≡ a → nat_lt (c - bc (front pairs ++ tables pairs)) (tfm.codes_of (front pairs ++ tables pairs)) ≡ b
-      → cond (a && b) (indexed_width (front pairs ++ tables pairs) (width_index (front pairs ++ tables pairs) (c - bc (front pairs ++ tables pairs)))) None ≡ width_in pairs c
-  width_is c false b e f = let below : c < bc (front pairs ++ tables pairs) = leb-false _ _ e in sym (width_outside c (inl (omega (arith, below, read.first))))
+  width_is : (c : ℕ) (a b : Bool) → nat_le (bc (prefix pairs ++ tables pairs)) c ≡ a → nat_lt (c - bc (prefix pairs ++ tables pairs)) (tfm.codes_of (prefix pairs ++ tables pairs)) ≡ b
+      → cond (a && b) (indexed_width (prefix pairs ++ tables pairs) (width_index (prefix pairs ++ tables pairs) (c - bc (prefix pairs ++ tables pairs)))) None ≡ width_in pairs c
+  width_is c false b e f = let below : c < bc (prefix pairs ++ tables pairs) = leb-false _ _ e in sym (width_outside c (inl (omega (arith, below, read.first))))
   width_is c true false e f =
-      let low : bc (front pairs ++ tables pairs) ≤ c = leb-true _ _ e in
-      let high : tfm.codes_of (front pairs ++ tables pairs) ≤ c - bc (front pairs ++ tables pairs) = ltb-false _ _ f in
+      let low : bc (prefix pairs ++ tables pairs) ≤ c = leb-true _ _ e in
+      let high : tfm.codes_of (prefix pairs ++ tables pairs) ≤ c - bc (prefix pairs ++ tables pairs) = ltb-false _ _ f in
       sym (width_outside c (inr (omega (arith, low, high, codes_are, read.first, order))))
   width_is c true true e f =
-      let low : bc (front pairs ++ tables pairs) ≤ c = leb-true _ _ e in
-      let high : c - bc (front pairs ++ tables pairs) < tfm.codes_of (front pairs ++ tables pairs) = ltb-true _ _ f in
-      ap (λ k. indexed_width (front pairs ++ tables pairs) (width_index (front pairs ++ tables pairs) (c - k))) read.first
+      let low : bc (prefix pairs ++ tables pairs) ≤ c = leb-true _ _ e in
+      let high : c - bc (prefix pairs ++ tables pairs) < tfm.codes_of (prefix pairs ++ tables pairs) = ltb-true _ _ f in
+      ap (λ k. indexed_width (prefix pairs ++ tables pairs) (width_index (prefix pairs ++ tables pairs) (c - k))) read.first
       ∙ width_inside c (omega (arith, low, read.first)) (omega (arith, low, high, codes_are, read.first, order))
 
-  widths_are : (c : ℤ) → tfm_width (front pairs ++ tables pairs) c ≡ width_given pairs c
+  widths_are : (c : ℤ) → tfm_width (prefix pairs ++ tables pairs) c ≡ width_given pairs c
   widths_are (pos c) = width_is c _ _ refl refl
   widths_are (negsuc c) = refl
 
@@ -202,5 +202,5 @@ pub appended : (pairs : List (ℕ × ℤ)) (counts start a b c d e f : List ℕ)
     → d ≡ c ++ word (pos 0) → e ≡ d ++ flat_map pair_word pairs → f ≡ e ++ zeros → f ≡ tfm_file pairs
 unfolding tfm_file
 appended pairs counts start a b c d e f counted empty ea eb ec ed ee ef =
-    let front : b ≡ flat_map two (counts_of pairs) ++ header = eb ∙ ap (λ t. t ++ header) (ea ∙ ap (λ t. t ++ flat_map two counts) empty ∙ ap (flat_map two) counted) in
-    ef ∙ ap (λ t. t ++ zeros) (ee ∙ ap (λ t. t ++ flat_map pair_word pairs) (ed ∙ ap (λ t. t ++ word (pos 0)) (ec ∙ ap (λ t. t ++ indices pairs) front)))
+    let prefix : b ≡ flat_map two (counts_of pairs) ++ header = eb ∙ ap (λ t. t ++ header) (ea ∙ ap (λ t. t ++ flat_map two counts) empty ∙ ap (flat_map two) counted) in
+    ef ∙ ap (λ t. t ++ zeros) (ee ∙ ap (λ t. t ++ flat_map pair_word pairs) (ed ∙ ap (λ t. t ++ word (pos 0)) (ec ∙ ap (λ t. t ++ indices pairs) prefix)))

@@ -9,15 +9,15 @@ use Rattle.vf_reader.specs.Locals.{local_of, local_with, locals_of, with_local}
 use Rattle.vf_reader.specs.Fonts.{AreSound, IsVfFile, program_with}
 use Rattle.vf_reader.specs.declared.locals.LocalDef.{LocalDef}
 use Rattle.vf_reader.proofs.OneItem.{no_item_begins_another, not_closing}
-use Rattle.sample_maker.specs.VfFile.{GivesFont, IsLocalSpelled, IsLocalWritable, IsPacketWritable, Packet, closing_behind, have_own_codes, have_own_numbers, local_definition, local_item, packet_item, program_given, vf_file, vf_items, vf_preamble}
+use Rattle.sample_maker.specs.VfFile.{GivesFont, IsLocalSpelled, IsLocalWritable, IsPacketWritable, Packet, closing_after, have_own_codes, have_own_numbers, local_definition, local_item, packet_item, program_given, vf_file, vf_items, vf_preamble}
 use Rattle.sample_maker.proofs.VfItems.{IsDefinitionOf, IsPacketOf, local_is, packet_is}
 
 -- ---- items from the first to the last
 
 -- after those before them
-abbrev pub behind : List (List ℕ) → List (List ℕ) → List (List ℕ)
-behind before [] = before
-behind before (item ∷ items) = behind (item ∷ before) items
+abbrev pub after : List (List ℕ) → List (List ℕ) → List (List ℕ)
+after before [] = before
+after before (item ∷ items) = after (item ∷ before) items
 
 -- their bytes, and what follows
 chain : List (List ℕ) → List ℕ → List ℕ
@@ -29,9 +29,9 @@ unfolding chain
 chain_more [] item rest = refl
 chain_more (x ∷ items) item rest = ap (λ t. x ++ t) (chain_more items item rest)
 
-behind_more : (items before : List (List ℕ)) (item : List ℕ) → behind before (items ++ item ∷ []) ≡ item ∷ behind before items
-behind_more [] before item = refl
-behind_more (x ∷ items) before item = behind_more items (x ∷ before) item
+after_more : (items before : List (List ℕ)) (item : List ℕ) → after before (items ++ item ∷ []) ≡ item ∷ after before items
+after_more [] before item = refl
+after_more (x ∷ items) before item = after_more items (x ∷ before) item
 
 items_more : (items : List (List ℕ)) (item : List ℕ) → AllByRecursion IsItem items → IsItem item → AllByRecursion IsItem (items ++ item ∷ [])
 items_more [] item all one = (one, tt)
@@ -40,7 +40,7 @@ items_more (x ∷ items) item all one = (all.0, items_more items item all.1 one)
 -- items that were read, from the first to the last
 record InOrder (r : List (List ℕ)) : Type 0 where
   items : List (List ℕ)
-  are : r ≡ behind [] items
+  are : r ≡ after [] items
   whole : AllByRecursion IsItem items
   text : (rest : List ℕ) → text_of r ++ rest ≡ chain items rest
 
@@ -51,7 +51,7 @@ in_order (item ∷ before) sound =
     let b = in_order before sound.0 in
     record {
       items = b.items ++ item ∷ [];
-      are = ap (λ r. item ∷ r) b.are ∙ sym (behind_more b.items [] item);
+      are = ap (λ r. item ∷ r) b.are ∙ sym (after_more b.items [] item);
       whole = items_more b.items item b.whole sound.1;
       text = λ rest. append_assoc (text_of before) item rest ∙ b.text (item ++ rest) ∙ sym (chain_more b.items item rest);
     }
@@ -86,7 +86,7 @@ still_none known d (e ∷ locals) none other =
     (not_known known d e.number none.0 parts.0, still_none known d locals none.1 parts.1)
 
 locals_there : (locals : List LocalDef) (before : List (List ℕ)) → AllByRecursion (λ d. IsDefinitionOf (local_definition d) (local_item d)) locals → HaveNone (locals_of before) locals → IsTrue (have_own_numbers locals)
-    → locals_of (behind before (map local_item locals)) ≡ locals_of before ++ locals
+    → locals_of (after before (map local_item locals)) ≡ locals_of before ++ locals
 locals_there [] before are none own = sym (append-nil (locals_of before))
 locals_there (d ∷ locals) before are none own =
     let known = locals_of before in
@@ -99,7 +99,7 @@ locals_there (d ∷ locals) before are none own =
     locals_there locals (local_item d ∷ before) are.1 still parts.1 ∙ ap (λ k. k ++ locals) new ∙ append_assoc known (d ∷ []) locals
 
 no_program : (locals : List LocalDef) (before : List (List ℕ)) (c : ℕ) → AllByRecursion (λ d. IsDefinitionOf (local_definition d) (local_item d)) locals
-    → program_with (behind before (map local_item locals)) c ≡ program_with before c
+    → program_with (after before (map local_item locals)) c ≡ program_with before c
 no_program [] before c are = refl
 no_program (d ∷ locals) before c are =
     no_program locals (local_item d ∷ before) c are.1
@@ -110,7 +110,7 @@ no_program (d ∷ locals) before c are =
 ArePackets : List Packet → Type 0
 ArePackets packets = AllByRecursion (λ p. IsPacketOf p (packet_item p)) packets
 
-no_local : (packets : List Packet) (before : List (List ℕ)) → AllByRecursion (λ p. IsPacketOf p (packet_item p)) packets → locals_of (behind before (map packet_item packets)) ≡ locals_of before
+no_local : (packets : List Packet) (before : List (List ℕ)) → AllByRecursion (λ p. IsPacketOf p (packet_item p)) packets → locals_of (after before (map packet_item packets)) ≡ locals_of before
 no_local [] before are = refl
 no_local (p ∷ packets) before are = no_local packets (packet_item p ∷ before) are.1 ∙ cond-true (is_packet (packet_item p)) (locals_of before) _ are.0.kind
 
@@ -121,7 +121,7 @@ packet_with p before c is =
     ∙ ap (λ t. if p.0 == c then Some t else program_with before c) is.program
 
 not_replaced : (packets : List Packet) (before : List (List ℕ)) (c : ℕ) → AllByRecursion (λ p. IsPacketOf p (packet_item p)) packets → program_given packets c ≡ None
-    → program_with (behind before (map packet_item packets)) c ≡ program_with before c
+    → program_with (after before (map packet_item packets)) c ≡ program_with before c
 not_replaced [] before c are none = refl
 not_replaced (p ∷ packets) before c are none = elim (cases_Bool (p.0 == c)) [
   | inl same ↦ let some : Some p.2 ≡ None = sym (cond-true (p.0 == c) (Some p.2) (program_given packets c) same) ∙ none in cc
@@ -137,7 +137,7 @@ none_given (q ∷ packets) c h =
     cond-false (q.0 == c) (Some q.2) (program_given packets c) parts.0 ∙ none_given packets c parts.1
 
 programs_there : (packets : List Packet) (before : List (List ℕ)) (c : ℕ) → AllByRecursion (λ p. IsPacketOf p (packet_item p)) packets → IsTrue (have_own_codes packets) → program_with before c ≡ None
-    → program_with (behind before (map packet_item packets)) c ≡ program_given packets c
+    → program_with (after before (map packet_item packets)) c ≡ program_given packets c
 programs_there [] before c are own none = none
 programs_there (p ∷ packets) before c are own none = elim (cases_Bool (p.0 == c)) [
   | inl same ↦
@@ -152,9 +152,9 @@ programs_there (p ∷ packets) before c are own none = elim (cases_Bool (p.0 == 
 
 -- ---- the file
 
-behind_both : (xs ys before : List (List ℕ)) → behind before (xs ++ ys) ≡ behind (behind before xs) ys
-behind_both [] ys before = refl
-behind_both (x ∷ xs) ys before = behind_both xs ys (x ∷ before)
+after_both : (xs ys before : List (List ℕ)) → after before (xs ++ ys) ≡ after (after before xs) ys
+after_both [] ys before = refl
+after_both (x ∷ xs) ys before = after_both xs ys (x ∷ before)
 
 chain_of : {X : Type 0} (g : X → List ℕ) (xs : List X) (items : List (List ℕ)) (rest : List ℕ) → chain (map g xs ++ items) rest ≡ flat_map g xs ++ chain items rest
 unfolding chain
@@ -195,15 +195,15 @@ module _ (locals : List LocalDef) (packets : List Packet) (wl : AllByRecursion I
   abbrev closing : ℕ → ℕ
   closing n = (4 - (n + 1) % 4) % 4
 
-  tail : (n : ℕ) → replicate {A = ℕ} (closing_behind n) 248 ≡ 248 ∷ replicate (closing n) 248
-  tail n = let more : closing_behind n ≡ suc (closing n) = omega arith in ap (λ k. replicate {A = ℕ} k 248) more
+  tail : (n : ℕ) → replicate {A = ℕ} (closing_after n) 248 ≡ 248 ∷ replicate (closing n) 248
+  tail n = let more : closing_after n ≡ suc (closing n) = omega arith in ap (λ k. replicate {A = ℕ} k 248) more
 
-  behind_preamble : drop 11 (vf_file locals packets) ≡ chain made (248 ∷ replicate (closing (length (vf_items locals packets))) 248)
+  after_preamble : drop 11 (vf_file locals packets) ≡ chain made (248 ∷ replicate (closing (length (vf_items locals packets))) 248)
   unfolding vf_file vf_items chain
-  behind_preamble =
+  after_preamble =
       let n = length (vf_items locals packets) in
       let rest : List ℕ = 248 ∷ replicate (closing n) 248 in
-      append_assoc (flat_map local_item locals) (flat_map packet_item packets) (replicate (closing_behind n) 248)
+      append_assoc (flat_map local_item locals) (flat_map packet_item packets) (replicate (closing_after n) 248)
       ∙ ap (λ t. flat_map local_item locals ++ (flat_map packet_item packets ++ t)) (tail n)
       ∙ sym (chain_of local_item locals (map packet_item packets ++ []) rest ∙ ap (λ t. flat_map local_item locals ++ t) (chain_of packet_item packets [] rest))
 
@@ -211,26 +211,26 @@ module _ (locals : List LocalDef) (packets : List Packet) (wl : AllByRecursion I
   unfolding vf_file vf_items
   its_text items is = is.whole
 
-  its_items : (items : List (List ℕ)) → IsVfFile (vf_file locals packets) items → items ≡ behind [] made
+  its_items : (items : List (List ℕ)) → IsVfFile (vf_file locals packets) items → items ≡ after [] made
   its_items items is =
       let o = in_order items is.sound in
-      let same : chain o.items (248 ∷ is.unused) ≡ chain made (248 ∷ replicate (closing (length (vf_items locals packets))) 248) = sym (o.text (248 ∷ is.unused)) ∙ sym (its_text items is) ∙ behind_preamble in
-      o.are ∙ ap (behind []) (one_list o.items made is.unused (replicate (closing (length (vf_items locals packets))) 248) o.whole (definition_items locals (map packet_item packets ++ []) definitions (packet_items packets programs)) same)
+      let same : chain o.items (248 ∷ is.unused) ≡ chain made (248 ∷ replicate (closing (length (vf_items locals packets))) 248) = sym (o.text (248 ∷ is.unused)) ∙ sym (its_text items is) ∙ after_preamble in
+      o.are ∙ ap (after []) (one_list o.items made is.unused (replicate (closing (length (vf_items locals packets))) 248) o.whole (definition_items locals (map packet_item packets ++ []) definitions (packet_items packets programs)) same)
 
   pub gives_font : (items : List (List ℕ)) → IsVfFile (vf_file locals packets) items → GivesFont locals packets items
   gives_font items is =
-      let split : items ≡ behind (behind [] (map local_item locals)) (map packet_item packets) = its_items items is ∙ ap (λ t. behind [] (map local_item locals ++ t)) (append-nil (map packet_item packets)) ∙ behind_both (map local_item locals) (map packet_item packets) [] in
+      let split : items ≡ after (after [] (map local_item locals)) (map packet_item packets) = its_items items is ∙ ap (λ t. after [] (map local_item locals ++ t)) (append-nil (map packet_item packets)) ∙ after_both (map local_item locals) (map packet_item packets) [] in
       record {
-        local = ap locals_of split ∙ no_local packets (behind [] (map local_item locals)) programs ∙ locals_there locals [] definitions (none_known locals) own;
-        program = λ c. ap (λ t. program_with t c) split ∙ programs_there packets (behind [] (map local_item locals)) c programs codes (no_program locals [] c definitions);
+        local = ap locals_of split ∙ no_local packets (after [] (map local_item locals)) programs ∙ locals_there locals [] definitions (none_known locals) own;
+        program = λ c. ap (λ t. program_with t c) split ∙ programs_there packets (after [] (map local_item locals)) c programs codes (no_program locals [] c definitions);
       }
 
 -- ---- the bytes as they are appended
 
 pub file_made : (locals : List LocalDef) (packets : List Packet) (v a b c d : List ℕ) → v ≡ [] → a ≡ v ++ vf_preamble → b ≡ a ++ flat_map local_item locals → c ≡ b ++ flat_map packet_item packets
-    → d ≡ c ++ replicate (closing_behind (length c)) 248 → d ≡ vf_file locals packets
+    → d ≡ c ++ replicate (closing_after (length c)) 248 → d ≡ vf_file locals packets
 unfolding vf_file vf_items
 file_made locals packets v a b c d ev ea eb ec ed =
     let items : c ≡ vf_preamble ++ flat_map local_item locals ++ flat_map packet_item packets =
     ec ∙ ap (λ t. t ++ flat_map packet_item packets) (eb ∙ ap (λ t. t ++ flat_map local_item locals) (ea ∙ ap (λ t. t ++ vf_preamble) ev)) in
-    ed ∙ ap (λ t. t ++ replicate (closing_behind (length t)) 248) items
+    ed ∙ ap (λ t. t ++ replicate (closing_after (length t)) 248) items

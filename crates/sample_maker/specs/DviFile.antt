@@ -79,21 +79,21 @@ postamble u back count = Post (record {
 -- ---- one after another
 
 -- a command in its shortest spelling
-abbrev pub behind : Reading → DviCommand → Reading
-behind before c = placed (end_of before) c (shortest_spelling c) ∷ before
+abbrev pub after : Reading → DviCommand → Reading
+after before c = placed (end_of before) c (shortest_spelling c) ∷ before
 
 -- the commands of bytes
-abbrev pub behind_text : Reading → List ℕ → Reading
-behind_text before body = reverse (placed_from (end_of before) body) ++ before
+abbrev pub after_text : Reading → List ℕ → Reading
+after_text before body = reverse (placed_from (end_of before) body) ++ before
 
 abbrev pub with_fonts : Reading → List (ℤ × FontKey) → Reading
 with_fonts before [] = before
-with_fonts before (f ∷ fonts) = with_fonts (behind before (definition f)) fonts
+with_fonts before (f ∷ fonts) = with_fonts (after before (definition f)) fonts
 
 -- a page, with its number in the first of the ten counts and the pointer to the page before it
 abbrev pub with_page : Reading → ℕ → List ℕ → Reading
 with_page before number body =
-    behind (behind_text (behind before (beginning number (last_bop before))) body) Eop
+    after (after_text (after before (beginning number (last_bop before))) body) Eop
 
 abbrev pub with_pages : Reading → ℕ → List (List ℕ) → Reading
 with_pages before number [] = before
@@ -104,23 +104,23 @@ with_pages before number (body ∷ pages) =
 
 -- up to the last page, which are numbered from 1
 unfoldable pub pages_reading : Units → List (ℤ × FontKey) → List (List ℕ) → Reading
-pages_reading u fonts pages = with_pages (with_fonts (behind [] (preamble u)) fonts) 1 pages
+pages_reading u fonts pages = with_pages (with_fonts (after [] (preamble u)) fonts) 1 pages
 
 -- and up to PostPost: the postamble defines the fonts again
 unfoldable pub document_reading : Units → List (ℤ × FontKey) → List (List ℕ) → Reading
 document_reading u fonts pages =
     let before = pages_reading u fonts pages in
-    behind (with_fonts (behind before (postamble u (last_bop before) (length pages))) fonts)
+    after (with_fonts (after before (postamble u (last_bop before) (length pages))) fonts)
     (PostPost (pos (end_of before)) 2)
 
--- so many bytes after these make a multiple of four, and are at least four
-abbrev pub filler_behind : ℕ → ℕ
-filler_behind n = 4 + (4 - n % 4) % 4
+-- n bytes after these make a multiple of four, and are at least four
+abbrev pub filler_after : ℕ → ℕ
+filler_after n = 4 + (4 - n % 4) % 4
 
 unfoldable pub document_text : Units → List (ℤ × FontKey) → List (List ℕ) → List ℕ
 document_text u fonts pages =
     let text = text_of (document_reading u fonts pages) in
-    text ++ replicate (filler_behind (length text)) 223
+    text ++ replicate (filler_after (length text)) 223
 
 -- the shortest spelling of a font's definition is one: each field holds what is put into it
 pub record IsFontSpelled (font : ℤ × FontKey) : Type 0 where

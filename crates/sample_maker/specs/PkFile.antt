@@ -110,7 +110,7 @@ pk_preamble =
 unfoldable pub pk_items : List (ℕ × Glyph) → List ℕ
 pk_items glyphs = pk_preamble ++ flat_map packet_item glyphs
 
--- so many no-ops after the closing command, before which n bytes stand, make a multiple of four
+-- n no-ops after the closing command, before which n bytes stand, make a multiple of four
 abbrev pub no_ops_after : ℕ → ℕ
 no_ops_after n = (4 - (n + 1) % 4) % 4
 

@@ -77,16 +77,16 @@ packet_item p = if nat_le (length p.2) 241 then short_packet p else long_packet 
 abbrev pub vf_preamble : List ℕ
 vf_preamble = 0xf7 ∷ 0xca ∷ 0 ∷ 0 ∷ 0 ∷ 0 ∷ 0 ∷ 0 ∷ 0xa0 ∷ 0 ∷ 0 ∷ []
 
--- so many closing commands after these bytes make a multiple of four
-abbrev pub closing_behind : ℕ → ℕ
-closing_behind n = 1 + (4 - (n + 1) % 4) % 4
+-- n closing commands after these bytes make a multiple of four
+abbrev pub closing_after : ℕ → ℕ
+closing_after n = 1 + (4 - (n + 1) % 4) % 4
 
 unfoldable pub vf_items : List LocalDef → List Packet → List ℕ
 vf_items locals packets = vf_preamble ++ flat_map local_item locals ++ flat_map packet_item packets
 
 unfoldable pub vf_file : List LocalDef → List Packet → List ℕ
 vf_file locals packets =
-    vf_items locals packets ++ replicate (closing_behind (length (vf_items locals packets))) 248
+    vf_items locals packets ++ replicate (closing_after (length (vf_items locals packets))) 248
 
 -- ---- read again
 

@@ -8,7 +8,7 @@ ghost use Rattle.dvi_commands.specs.Spelling.{PostPost};
 ghost use Rattle.page_index.specs.Document.{IsDocument, Reading, end_of, last_bop, text_of};
 ghost use Rattle.page_index.specs.Judged.{is_scale_right};
 ghost use Rattle.page_index.specs.Limits.{LONGEST, MOST_PAGES};
-ghost use Rattle.sample_maker.specs.DviFile.{AreSigned, DefineRightly, GivesBack, IsFontSpelled, IsPageText, IsWritable, are_apart, beginning, definition, document_reading, document_text, filler_behind, fonts_text, key_given, last_page, page_text, pages_reading, pages_text, postamble, preamble, with_fonts, with_pages};
+ghost use Rattle.sample_maker.specs.DviFile.{AreSigned, DefineRightly, GivesBack, IsFontSpelled, IsPageText, IsWritable, are_apart, beginning, definition, document_reading, document_text, filler_after, fonts_text, key_given, last_page, page_text, pages_reading, pages_text, postamble, preamble, with_fonts, with_pages};
 
 use dvi_commands::{Command, FontDef, write_command};
 use outside::FontKey;
@@ -89,7 +89,7 @@ fn append_pages(alloc: Global, pages: &[Vec<u8>], out: &mut Vec<u8>) -> Result<i
 // Appends bytes 223, at least four, up to a multiple of four.
 fn append_filler(out: &mut Vec<u8>) -> Result<(), NoMemory>
     ensures { OnOk result (out.new.items
-        ≡ out.old.items ++ replicate (filler_behind (length out.old.items)) 223) }
+        ≡ out.old.items ++ replicate (filler_after (length out.old.items)) 223) }
 {
     let count = 4 + (4 - out.len() % 4) % 4;
     for _ in 0..count {
@@ -117,7 +117,7 @@ fn append_preamble(alloc: Global, units: &Units, out: &mut Vec<u8>) -> Result<()
     )
 }
 
-// Appends the postamble of so many pages, with the pointer to the last one.
+// Appends the postamble of n pages, with the pointer to the last one.
 fn append_post(
     alloc: Global,
     units: &Units,

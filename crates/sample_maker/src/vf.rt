@@ -3,7 +3,7 @@ ghost use Rattle.std.specs.Prelude.{◌≡◌, ℕ, ◌^◌, ◌<◌, ◌≤◌,
 ghost use Rattle.std.specs.List.{AllByRecursion, flat_map};
 ghost use Rattle.big_endian.specs.Numbers.{IsUnsigned, number_bytes};
 ghost use Rattle.vf_reader.specs.Fonts.{IsVfFile};
-ghost use Rattle.sample_maker.specs.VfFile.{GivesFont, IsLocalSpelled, IsLocalWritable, IsPacketWritable, closing_behind, have_own_codes, have_own_numbers, local_item, long_packet, packet_item, short_packet, vf_file};
+ghost use Rattle.sample_maker.specs.VfFile.{GivesFont, IsLocalSpelled, IsLocalWritable, IsPacketWritable, closing_after, have_own_codes, have_own_numbers, local_item, long_packet, packet_item, short_packet, vf_file};
 
 use dvi_commands::{Command, FontDef, write_command};
 use std::alloc::{AllocError as NoMemory, Global};
@@ -104,7 +104,7 @@ fn append_packets(packets: &[(u8, i32, Vec<u8>)], out: &mut Vec<u8>) -> Result<(
 // Appends the closing command, at least once, up to a multiple of four.
 fn append_closing(out: &mut Vec<u8>) -> Result<(), NoMemory>
     ensures { OnOk result (out.new.items
-        ≡ out.old.items ++ replicate (closing_behind (length out.old.items)) 248) }
+        ≡ out.old.items ++ replicate (closing_after (length out.old.items)) 248) }
 {
     let count = 1 + (4 - (out.len() % 4 + 1) % 4) % 4;
     for _ in 0..count {

@@ -15,7 +15,7 @@ at_test test k n b h is = least_at test k n h ∙ ap (λ t. cond t (Some k) (lea
 pub found_at : (test : ℕ → Bool) (n i : ℕ) (start : Option ℕ) → i < n → test i ≡ true → start ≡ least_from test i (n - i) → start ≡ Some i
 found_at test n i start lt is e = e ∙ at_test test i (n - i) true (omega arith) is
 
--- a search goes on behind a number that doesn't pass
+-- a search goes on after a number that doesn't pass
 pub goes_on : (test : ℕ → Bool) (n i : ℕ) (start : Option ℕ) → i < n → test i ≡ false → start ≡ least_from test i (n - i) → start ≡ least_from test (i + 1) (n - (i + 1))
 goes_on test n i start lt is e =
     let left : n - i - 1 ≡ n - (i + 1) = omega arith in

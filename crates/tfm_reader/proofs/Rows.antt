@@ -22,7 +22,7 @@ index_right bytes i none lt =
     let found_none : least_from (is_index_wrong bytes) 0 (codes_of bytes) ≡ None = none_mapped (λ i. WidthIndex (bc bytes + i)) _ (rows bytes none).0 in
     leb-false _ _ (none_passes (is_index_wrong bytes) 0 (codes_of bytes) i found_none (omega arith) (omega (arith, lt)))
 
--- each width behind the first is small enough
+-- each width after the first is small enough
 pub byte_right : (bytes : List ℕ) (i : ℕ) → tables_fault bytes ≡ None → 1 ≤ i → i < nw bytes → is_width_byte_wrong bytes i ≡ false
 byte_right bytes i none some lt =
     let found_none : least_from (is_width_byte_wrong bytes) 1 (nw bytes - 1) ≡ None = none_mapped WidthByte _ (rows bytes none).1 in

@@ -3,7 +3,8 @@ use Rattle.std.specs.Prelude.{◌≡◌, ◌⊎◌, ◌↔◌, ◌<◌, ◌≤�
 use Rattle.tfm_reader.specs.Tfm.{bc, codes_of, ec, lf, lh, nw, others, tfm_fault, width_at, width_index, width_word}
 use Rattle.tfm_reader.specs.declared.faults.TfmFault.{TfmFault}
 
--- the counts go together and their words are there, each width index has a width, and each width lies between -16 and 16, the first at 0
+-- the counts go together and their words are there, each width index has a width, and each width
+-- lies between -16 and 16, the first at 0
 pub record IsTfm (bytes : List ℕ) : Type 0 where
   pub counted : 24 ≤ length bytes
   pub rise : bc bytes ≤ ec bytes + 1
@@ -22,4 +23,5 @@ abbrev pub FilesHaveNoFault : Type 0
 FilesHaveNoFault = (bytes : List ℕ) → (tfm_fault bytes ≡ None) ↔ IsTfm bytes
 
 abbrev pub FilesAreRightOrHaveAFault : Type 0
-FilesAreRightOrHaveAFault = (bytes : List ℕ) → IsTfm bytes ⊎ ((f : TfmFault) × (tfm_fault bytes ≡ Some f))
+FilesAreRightOrHaveAFault =
+    (bytes : List ℕ) → IsTfm bytes ⊎ ((f : TfmFault) × (tfm_fault bytes ≡ Some f))

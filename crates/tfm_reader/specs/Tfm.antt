@@ -1,4 +1,5 @@
--- The widths of a TFM file: Knuth, TFtoPL, "Font metric data", and DVItype, "Reading the font information".
+-- The widths of a TFM file: Knuth, TFtoPL, "Font metric data", and DVItype, "Reading the font
+-- information".
 use Rattle.std.specs.Prelude.{◌≡◌, ◌<◌, ℕ, zero, suc, ◌+◌, ◌-◌, ◌*◌, ℤ, pos, negsuc, Bool, false, not, ◌&&◌, List, [], ◌∷◌, length, nat_lt, nat_le, ◌==◌, if◌then◌else◌, slice_get, slice_index, take, Option, Some, None, unwrap_or}
 use Rattle.std.specs.Option.{option_map}
 use Rattle.big_endian.specs.Fields.{unsigned_at, signed_at}
@@ -27,11 +28,14 @@ ec bytes = count bytes 3
 abbrev pub nw : List ℕ → ℕ
 nw bytes = count bytes 4
 
--- the words of the seven tables behind the widths, which are passed over
+-- the words of the seven tables after the widths, which are passed over
 abbrev pub others : List ℕ → ℕ
-others bytes = count bytes 5 + count bytes 6 + count bytes 7 + count bytes 8 + count bytes 9 + count bytes 10 + count bytes 11
+others bytes =
+    count bytes 5 + count bytes 6 + count bytes 7 + count bytes 8 + count bytes 9 + count bytes 10
+    + count bytes 11
 
--- the codes rise to 255 at most, there is a width, and the words add up: the counts themselves, the header, char_info, the tables
+-- the codes rise to 255 at most, there is a width, and the words add up: the counts themselves, the
+-- header, char_info, the tables
 abbrev pub are_right : ℕ → ℕ → ℕ → ℕ → ℕ → ℕ → Bool
 are_right words header first last widths others =
     nat_le first (last + 1) && nat_le last 255 && not (widths == 0)
@@ -56,7 +60,8 @@ width_word bytes i = signed_at bytes (width_at bytes i) 4
 -- the first byte of a fix_word is 0 or 255, so that it lies between -16 and 16
 abbrev pub is_width_byte_wrong : List ℕ → ℕ → Bool
 is_width_byte_wrong bytes i =
-    not (slice_index bytes (width_at bytes i) == 0) && not (slice_index bytes (width_at bytes i) == 255)
+    not (slice_index bytes (width_at bytes i) == 0) && not
+    (slice_index bytes (width_at bytes i) == 255)
 
 abbrev pub is_index_wrong : List ℕ → ℕ → Bool
 is_index_wrong bytes i = nat_le (nw bytes) (width_index bytes i)
@@ -83,11 +88,14 @@ first_some (Some f ∷ rows) = Some f
 abbrev pub counts_fault : List ℕ → Option TfmFault
 counts_fault bytes = first_some (
     fault_if (nat_lt (length bytes) 24) Short
-    ∷ fault_if (not (are_right (lf bytes) (lh bytes) (bc bytes) (ec bytes) (nw bytes) (others bytes))) Counts
+    ∷ fault_if (not (are_right (lf bytes) (lh bytes) (bc bytes) (ec bytes) (nw bytes)
+    (others bytes))) Counts
     ∷ fault_if (nat_lt (length bytes) (4 * lf bytes)) Short ∷ [])
 
 abbrev pub index_fault : List ℕ → Option TfmFault
-index_fault bytes = option_map (λ i. WidthIndex (bc bytes + i)) (least_from (is_index_wrong bytes) 0 (codes_of bytes))
+index_fault bytes =
+    option_map (λ i. WidthIndex (bc bytes + i)) (least_from (is_index_wrong bytes) 0
+    (codes_of bytes))
 
 abbrev pub byte_fault : List ℕ → Option TfmFault
 byte_fault bytes = option_map WidthByte (least_from (is_width_byte_wrong bytes) 1 (nw bytes - 1))
@@ -114,7 +122,9 @@ indexed_width bytes (suc i) = Some (width_word bytes (suc i))
 -- the width of a code
 abbrev pub tfm_width : List ℕ → ℤ → Option ℤ
 tfm_width bytes (negsuc c) = None
-tfm_width bytes (pos c) = if nat_le (bc bytes) c && nat_lt (c - bc bytes) (codes_of bytes) then indexed_width bytes (width_index bytes (c - bc bytes)) else None
+tfm_width bytes (pos c) =
+    if nat_le (bc bytes) c && nat_lt (c - bc bytes) (codes_of bytes)
+    then indexed_width bytes (width_index bytes (c - bc bytes)) else None
 
 -- the width of a code by a table of the codes from 0 on
 abbrev pub width_of : List (Option ℤ) → ℤ → Option ℤ
@@ -125,4 +135,6 @@ width_of widths (pos c) = unwrap_or (slice_get widths c) None
 
 -- a file that is read is too short at each cut before the words that its counts tell
 abbrev pub CutFilesAreShort : Type 0
-CutFilesAreShort = (bytes : List ℕ) (n : ℕ) → tfm_fault bytes ≡ None → n < 4 * lf bytes → tfm_fault (take n bytes) ≡ Some Short
+CutFilesAreShort =
+    (bytes : List ℕ) (n : ℕ) → tfm_fault bytes ≡ None → n < 4 * lf bytes
+    → tfm_fault (take n bytes) ≡ Some Short

@@ -2,7 +2,7 @@
 use std::alloc::AllocError;
 
 /// What is wrong with a TFM file, in the order in which it is looked for. `Short` stands first, and
-/// again behind `Counts`; the first width is looked at before the others.
+/// again after `Counts`; the first width is looked at before the others.
 #[derive(Clone, Copy, Debug, PartialEq, Eq, thiserror::Error)]
 pub enum TfmFault {
     /// The counts, or the words that they tell, aren't all there.
@@ -28,7 +28,7 @@ pub enum TfmStop {
     /// Something is wrong with it.
     #[error("{0}")]
     Fault(TfmFault),
-    /// Memory was wanting.
+    /// Out of memory.
     #[error("out of memory")]
     NoMemory,
 }

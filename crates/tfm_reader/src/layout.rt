@@ -1,4 +1,4 @@
-//! The counts at the front of a TFM file, and the places that they tell.
+//! The counts at the beginning of a TFM file, and the places that they tell.
 ghost use Rattle.std.specs.Prelude.{◌<◌, ◌*◌};
 
 mod reads;
@@ -6,7 +6,7 @@ mod reads;
 pub use reads::places;
 
 /// The counts, each of two bytes: of words, of the header's words, the least and the greatest code,
-/// of widths, and of the words behind the widths.
+/// of widths, and of the words after the widths.
 #[derive(Drop)]
 pub struct Counts {
     pub words: usize,
@@ -15,7 +15,8 @@ pub struct Counts {
     pub last: usize,
     pub widths: usize,
     pub others: usize,
-    ghost fits: { (words < 65536) × (header < 65536) × (first < 65536) × (last < 65536) × (widths < 65536) × (others < 7 * 65536) },
+    ghost fits: { (words < 65536) × (header < 65536) × (first < 65536) × (last < 65536)
+        × (widths < 65536) × (others < 7 * 65536) },
 }
 
 /// The places: the least code, the number of codes, the byte at which their words of char_info

@@ -55,8 +55,8 @@ fn first_faults_of_files_with_two(rt: HostRuntime) {
     }
 }
 
-// Codes 3 to 6, of which 4 has no character, with widths of a half and -1/16, and what no reader looks at
-// behind them.
+// Codes 3 to 6, of which 4 has no character, with widths of a half and -1/16, and what no reader
+// looks at after them.
 const GAPS: [u8; 79] = [
     0, 18, 0, 2, 0, 3, 0, 6, 0, 3, 0, 1, 0, 1, 0, 1, 0, 0, 0, 0, 0, 0, 0, 0, // counts
     0, 0, 0, 0, 0, 160, 0, 0, // header

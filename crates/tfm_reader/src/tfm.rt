@@ -11,8 +11,8 @@ use crate::tables::{judge, width};
 use std::alloc::{AllocError as NoMemory, Global};
 use std::marker::Model;
 
-/// The widths of a font's characters. A contract sees it as a list of the widths of the codes from 0
-/// on.
+/// The widths of a font's characters. A contract sees it as a list of the widths of the codes from
+/// 0 on.
 #[derive(Debug, Drop)]
 pub struct Tfm {
     widths: Vec<Option<i32>>,
@@ -33,7 +33,8 @@ impl Model for Tfm {
 fn table(alloc: Global, bytes: &[u8], layout: &Layout) -> Result<Vec<Option<i32>>, NoMemory>
     requires places { IsLayoutOf layout.now bytes.now }
     requires right { tables_fault bytes.now ≡ None }
-    ensures widths { IfOk result (λ widths. (c : ℤ) → width_of widths.items c ≡ tfm_width bytes.now c) }
+    ensures widths { IfOk result (λ widths. (c : ℤ) → width_of widths.items c
+        ≡ tfm_width bytes.now c) }
     ensures fit { IfOk result (λ widths. AreFixWords widths.items) }
 {
     let mut widths = Vec::with_capacity(alloc, 256)?;
@@ -45,7 +46,7 @@ fn table(alloc: Global, bytes: &[u8], layout: &Layout) -> Result<Vec<Option<i32>
 
 impl Tfm {
     /// Reads the widths of a file, or tells the first thing that is wrong with it. What stands
-    /// behind the words that the counts tell is passed over.
+    /// after the words that the counts tell is passed over.
     pub fn read(alloc: Global, bytes: &[u8]) -> Result<Tfm, TfmStop>
         ensures right { OnOk result (tfm_fault bytes.now ≡ None) }
         ensures widths { IfOk result (λ tfm. (c : ℤ) → width_of tfm c ≡ tfm_width bytes.now c) }

@@ -39,5 +39,5 @@ module _ (part : Common) (words : List ℕ) (views : List View) (log : List Call
       let mine = q.each 0 v at f.live in
       let count = f.made in
       prefix_all (length views) v.seen log mine.begins q.made
-      (λ n inside. dite (ℕ_discrete n 0) (λ e. subst (λ (m : ℕ). own m v.seen ≡ own m log) (sym e) mine.behind)
-      (λ other. let joined = all n (omega arith) (omega arith) in f.behind joined.0 n joined.1))
+      (λ n inside. dite (ℕ_discrete n 0) (λ e. subst (λ (m : ℕ). own m v.seen ≡ own m log) (sym e) mine.after)
+      (λ other. let joined = all n (omega arith) (omega arith) in f.after joined.0 n joined.1))

@@ -12,7 +12,7 @@ use Rattle.cache_core.specs.declared.common.Common.{Common}
 use Rattle.cache_core.specs.Histories.{own}
 use Rattle.turn_lock.specs.Histories.{AllMade}
 use Rattle.turn_lock.proofs.Prefixes.{prefix_self}
-use Rattle.turn_lock.proofs.OwnCalls.{made_front, made_up, none_own}
+use Rattle.turn_lock.proofs.OwnCalls.{made_prefix, made_up, none_own}
 use Rattle.turn_lock.specs.declared.view.View.{View}
 use Rattle.turn_lock.specs.declared.view.Stage.{Stage}
 use Rattle.turn_lock.specs.declared.view.Stage.TheVariants.{Idle, Holding, Comparing, Spent}
@@ -27,7 +27,7 @@ module _ (part : Common) (words : List ℕ) (views : List View) (log : List Call
   -- the number that seat 0 makes next has no calls
   pub asks_from : (q : SeatsFit part words views log out serving) (v : View) → get_elem? views 0 ≡ some v → own v.made v.seen ≡ []
   asks_from q v at = let f = q.first v at in let g = q.each 0 v at f.live in
-      none_own (length views) v.made v.seen (made_front (length views) v.seen g.begins.0 (subst (AllMade (length views)) (sym g.begins.1) q.made)) (let m = f.made in omega arith)
+      none_own (length views) v.made v.seen (made_prefix (length views) v.seen g.begins.0 (subst (AllMade (length views)) (sym g.begins.1) q.made)) (let m = f.made in omega arith)
 
   -- seat 0 makes another
   pub splits_from : (q : SeatsFit part words views log out serving) (v : View) → get_elem? views 0 ≡ some v → v.made < 1024 → SeatsFit part words (set views 0 (split_view v) ++ new_view v ∷ []) log out serving
@@ -56,8 +56,8 @@ module _ (part : Common) (words : List ℕ) (views : List View) (log : List Call
         served = λ is_out. let h = q.served is_out in let t = there h.0 h.1 (λ st. st ≡ Holding serving) h.2 h.3 in (h.0, t.0, t.1, t.2);
         each = λ j u at_j. ⊎_elim
             (each_set (λ j u. IsLive u.stage → LiveFits part serving q.line new_draws log out j u) views 0 w
-            (λ _. record { number_is = g.number_is; part_is = g.part_is; begins = g.begins; behind = g.behind; drew = at_longer q.draws (0 ∷ []) 0 v.drawn g.drew; stage = g.stage })
-            (λ j u _ at_j live. let h = q.each j u at_j live in record { number_is = h.number_is; part_is = h.part_is; begins = h.begins; behind = h.behind; drew = at_longer q.draws (0 ∷ []) j u.drawn h.drew; stage = h.stage }) j u)
+            (λ _. record { number_is = g.number_is; part_is = g.part_is; begins = g.begins; after = g.after; drew = at_longer q.draws (0 ∷ []) 0 v.drawn g.drew; stage = g.stage })
+            (λ j u _ at_j live. let h = q.each j u at_j live in record { number_is = h.number_is; part_is = h.part_is; begins = h.begins; after = h.after; drew = at_longer q.draws (0 ∷ []) j u.drawn h.drew; stage = h.stage }) j u)
             (λ (t : (j ≡ length (set views 0 w)) × (new_view v ≡ u)).
             let here : j ≡ length views = t.0 ∙ long in
             subst (λ (x : View). IsLive x.stage → LiveFits part serving q.line new_draws log out j x) t.1
@@ -65,7 +65,7 @@ module _ (part : Common) (words : List ℕ) (views : List View) (log : List Call
               number_is = count ∙ sym here;
               part_is = g.part_is;
               begins = g.begins;
-              behind = let a = none_own (length views) j v.seen (made_front (length views) v.seen g.begins.0 (subst (AllMade (length views)) (sym g.begins.1) q.made)) (omega arith) in
+              after = let a = none_own (length views) j v.seen (made_prefix (length views) v.seen g.begins.0 (subst (AllMade (length views)) (sym g.begins.1) q.made)) (omega arith) in
                   let b = none_own (length views) j log q.made (omega arith) in a ∙ sym b;
               drew = ap (get_elem? new_draws) (here ∙ sym q.as_many) ∙ at_last q.draws 0 (length q.draws) refl;
               stage = tt;
@@ -83,7 +83,7 @@ module _ (part : Common) (words : List ℕ) (views : List View) (log : List Call
                   (λ at_n'. ⊎_elim (λ (t : (n ≡ 0) × (w ≡ x)). absurd (not_spent w x f.live t.1 is_spent)) (λ (t : (n ≢ 0) × (get_elem? views n ≡ some x)). f.all_spent n x t.1 is_spent) (at_set views 0 n w x at_n'))
                   (λ (t : (n ≡ length (set views 0 w)) × (new_view v ≡ x)). absurd (not_spent (new_view v) x tt t.1 is_spent))
                   (at_end (set views 0 w) (new_view v) x n at_n);
-              behind = f.behind;
+              after = f.after;
               compares = f.compares;
               same_part = f.same_part;
             };
@@ -129,7 +129,7 @@ module _ (part : Common) (words : List ℕ) (views : List View) (log : List Call
               number_is = g.number_is;
               part_is = g.part_is;
               begins = longer_begins v.seen x.seen log g.begins h.begins;
-              behind = first_owns 0 v.seen x.seen log g.begins h.begins g.behind;
+              after = first_owns 0 v.seen x.seen log g.begins h.begins g.after;
               drew = g.drew;
               stage = tt;
             })
@@ -147,18 +147,18 @@ module _ (part : Common) (words : List ℕ) (views : List View) (log : List Call
               (λ (t : (n ≢ other) × (get_elem? V n ≡ some u)). ⊎_elim (λ (s : (n ≡ 0) × (w ≡ u)). absurd (not_spent w u tt s.1 is_spent))
               (λ (s : (n ≢ 0) × (get_elem? views n ≡ some u)). let k = f.all_spent n u s.1 is_spent in (k.0, at_longer v.joined (x.number ∷ []) k.0 n k.1)) (at_set views 0 n w u t.1))
               (at_set V other n spent_view u at_n);
-          behind = λ i n at_i. ⊎_elim
-              (λ was. first_owns n v.seen x.seen log g.begins h.begins (f.behind i n was))
-              (λ (t : (i ≡ length v.joined) × (x.number ≡ n)). second_owns n v.seen x.seen log g.begins h.begins (subst (λ (m : ℕ). own m x.seen ≡ own m log) (sym h.number_is ∙ t.1) h.behind))
+          after = λ i n at_i. ⊎_elim
+              (λ was. first_owns n v.seen x.seen log g.begins h.begins (f.after i n was))
+              (λ (t : (i ≡ length v.joined) × (x.number ≡ n)). second_owns n v.seen x.seen log g.begins h.begins (subst (λ (m : ℕ). own m x.seen ≡ own m log) (sym h.number_is ∙ t.1) h.after))
               (at_end v.joined x.number n i at_i);
           compares = record {
             seen_is = refl;
             was_begins = g.begins;
             theirs_begins = h.begins;
-            first_behind = g.behind;
-            their_behind = subst (λ (m : ℕ). own m x.seen ≡ own m log) (sym h.number_is) h.behind;
+            first_after = g.after;
+            their_after = subst (λ (m : ℕ). own m x.seen ≡ own m log) (sym h.number_is) h.after;
             noted = (length v.joined, at_last v.joined x.number (length v.joined) refl);
-            before_behind = λ i m at_i inside. ⊎_elim (f.behind i m) (λ (t : (i ≡ length v.joined) × (x.number ≡ m)). let l = length-append v.joined (x.number ∷ []) in let e = t.0 in absurd (omega arith)) (at_end v.joined x.number m i at_i);
+            before_after = λ i m at_i inside. ⊎_elim (f.after i m) (λ (t : (i ≡ length v.joined) × (x.number ≡ m)). let l = length-append v.joined (x.number ∷ []) in let e = t.0 in absurd (omega arith)) (at_end v.joined x.number m i at_i);
           };
           same_part = h.part_is ∙ sym g.part_is;
         };
@@ -195,15 +195,15 @@ module _ (part : Common) (words : List ℕ) (views : List View) (log : List Call
             (λ i j at_i. let k = q.in_line i j at_i in (k.0, busy j k.0 (HasTicket (serving + i)) (λ e. e) k.1 k.2, k.2))
             (λ is_out. let k = q.served is_out in (k.0, k.1, busy k.0 k.1 (λ st. st ≡ Holding serving) (λ e. cc (e)) k.2 k.3, k.3))
             (prefix_self log) (λ m _. refl) q.made
-            record { number_is = g.number_is; part_is = g.part_is; begins = g.begins; behind = g.behind; drew = g.drew; stage = tt }
+            record { number_is = g.number_is; part_is = g.part_is; begins = g.begins; after = g.after; drew = g.drew; stage = tt }
             (λ j _. refl) (λ j u _ _ known. known)
-            (λ _. (refl, refl, refl, (λ i m at_i _. f.behind i m at_i), tt, tt)),
+            (λ _. (refl, refl, refl, (λ i m at_i _. f.after i m at_i), tt, tt)),
         subst (CompareTells v) (sym is_comparing) record {
           was_begins = subst (IsPrefix was) (sym c.seen_is) (first_begins was theirs log c.was_begins c.theirs_begins);
           theirs_begins = subst (IsPrefix theirs) (sym c.seen_is) (second_begins was theirs log c.was_begins c.theirs_begins);
-          mine = g.behind ∙ sym c.first_behind;
-          theirs_same = f.behind c.noted.0 n c.noted.1 ∙ sym c.their_behind;
+          mine = g.after ∙ sym c.first_after;
+          theirs_same = f.after c.noted.0 n c.noted.1 ∙ sym c.their_after;
           same_part = subst (HasSamePart v.part) is_comparing f.same_part;
-          before = λ i m at_i inside. f.behind i m at_i ∙ sym (c.before_behind i m at_i inside);
+          before = λ i m at_i inside. f.after i m at_i ∙ sym (c.before_after i m at_i inside);
         },
       )

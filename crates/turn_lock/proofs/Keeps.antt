@@ -78,7 +78,7 @@ module _ {T : Type 0} (history : T → List Call) (turns : T → ℕ) (stands : 
         live = tt;
         are_spent = λ i n at. absurd (some-ne-none n (sym at));
         all_spent = none_spent;
-        behind = λ i n at. refl;
+        after = λ i n at. refl;
         compares = tt;
         same_part = tt;
       };
@@ -97,7 +97,7 @@ module _ {T : Type 0} (history : T → List Call) (turns : T → ℕ) (stands : 
       none_spent (suc n) u at is = absurd (some-ne-none u (sym at))
 
       alone : (j : ℕ) (v : View) → get_elem? (opening_view part ∷ []) j ≡ some v → IsLive v.stage → LiveFits part 0 [] (0 ∷ []) [] false j v
-      alone zero v at live = subst (LiveFits part 0 [] (0 ∷ []) [] false 0) (some-injective (opening_view part) v at) record { number_is = refl; part_is = refl; begins = prefix_self []; behind = refl; drew = refl; stage = tt }
+      alone zero v at live = subst (LiveFits part 0 [] (0 ∷ []) [] false 0) (some-injective (opening_view part) v at) record { number_is = refl; part_is = refl; begins = prefix_self []; after = refl; drew = refl; stage = tt }
       alone (suc j) v at live = absurd (some-ne-none v (sym at))
 
   pub draws : (slots id : ℕ) (me : M) → me.0.stage ≡ Idle → me.0.drawn < 2 ^ 48 → Allows Rule slots id me 0 (λ n. (n + 1) % 2 ^ 64) (Drew (step slots 0 1 0 none) me)
@@ -145,10 +145,10 @@ module _ {T : Type 0} (history : T → List Call) (turns : T → ℕ) (stands : 
               few = let a = own_ticket in omega arith;
               stood = subst (stands x) (sym f.part_is) h.stood;
               begins = subst (IsPrefix v.seen) (sym h.history_is) f.begins;
-              own_same = ap (own v.number) h.history_is ∙ subst (λ (n : ℕ). own n r.log ≡ own n v.seen) (sym f.number_is) (sym f.behind);
+              own_same = ap (own v.number) h.history_is ∙ subst (λ (n : ℕ). own n r.log ≡ own n v.seen) (sym f.number_is) (sym f.after);
               joined_same = λ zero i n there.
                   let at0 : get_elem? s.views 0 ≡ some v = ap (get_elem? s.views) (sym (sym f.number_is ∙ zero)) ∙ at in
-                  ap (own n) h.history_is ∙ sym ((q.first v at0).behind i n there);
+                  ap (own n) h.history_is ∙ sym ((q.first v at0).after i n there);
             },
           ),
           λ not. absurd (not (hit ∙ sym own_ticket)),

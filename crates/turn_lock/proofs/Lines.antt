@@ -87,13 +87,13 @@ module _ (part : Common) (words : List ℕ) (views : List View) (log : List Call
         number_is = f.number_is;
         part_is = f.part_is;
         begins = f.begins;
-        behind = f.behind;
+        after = f.after;
         drew = set_here q.draws id (v.drawn + 1) (let m = q.as_many in omega arith);
         stage = record { place = length q.line; ticket_is = is; stands = at_last q.line id (length q.line) refl };
       }
       (λ j other. set_else q.draws id j (v.drawn + 1) other)
       (λ j u other there known. in_longer j u.seen id u.stage known)
-      (λ zeroth. (refl, refl, refl, (λ i n there _. (q.first v (ap (get_elem? views) (sym zeroth) ∙ at)).behind i n there), tt, tt))
+      (λ zeroth. (refl, refl, refl, (λ i n there _. (q.first v (ap (get_elem? views) (sym zeroth) ∙ at)).after i n there), tt, tt))
     where
       in_longer : (j : ℕ) (seen : List Call) (id : ℕ) (st : Stage) → StageFits serving q.line log out j seen st → StageFits serving (q.line ++ id ∷ []) log out j seen st
       in_longer j seen id Idle k = tt
@@ -136,7 +136,7 @@ module _ (part : Common) (words : List ℕ) (views : List View) (log : List Call
       (λ other. (g.0, set_else views id j w other ∙ g.1, g.2)))
       (λ _. (id, w, set_here views id w (at_inside views id v at), ap Holding is))
       (prefix_self log) (λ n _. refl) q.made
-      record { number_is = f.number_is; part_is = f.part_is; begins = prefix_self log; behind = refl; drew = f.drew; stage = record { ticket_is = is; stands = first; slot = refl; whole = refl } }
+      record { number_is = f.number_is; part_is = f.part_is; begins = prefix_self log; after = refl; drew = f.drew; stage = record { ticket_is = is; stands = first; slot = refl; whole = refl } }
       (λ j _. refl)
       (λ j u other there known. others home j u.seen u.stage known)
       (λ zeroth. (refl, refl, refl, (λ i n _ _. refl), tt, tt))
@@ -185,7 +185,7 @@ module _ (part : Common) (words : List ℕ) (views : List View) (log : List Call
       same
       (⊎_elim (λ e. subst (AllMade (length views)) (sym e) q.made)
       (λ (g : (c : Call) × (c.seat ≡ id) × (log' ≡ log ++ c ∷ [])). subst (AllMade (length views)) (sym g.2) (made-append (length views) log (g.0 ∷ []) q.made ((let h = g.1 in omega arith), tt))) grown)
-      record { number_is = f.number_is; part_is = f.part_is; begins = prefix_self log'; behind = refl; drew = f.drew; stage = tt }
+      record { number_is = f.number_is; part_is = f.part_is; begins = prefix_self log'; after = refl; drew = f.drew; stage = tt }
       (λ j _. refl)
       (λ j u other there known. others rest l.1 j other u.seen u.stage known)
       (λ zeroth. (refl, refl, refl, (λ i n _ _. refl), tt, tt))

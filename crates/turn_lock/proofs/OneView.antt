@@ -40,10 +40,10 @@ compares_grow log log' joined seen (Comparing n was theirs p) pre none same c =
       seen_is = c.seen_is;
       was_begins = prefix_trans was log log' c.was_begins pre;
       theirs_begins = prefix_trans theirs log log' c.theirs_begins pre;
-      first_behind = c.first_behind ∙ sym none;
-      their_behind = c.their_behind ∙ sym (same c.noted.0 n c.noted.1);
+      first_after = c.first_after ∙ sym none;
+      their_after = c.their_after ∙ sym (same c.noted.0 n c.noted.1);
       noted = c.noted;
-      before_behind = λ i m at inside. c.before_behind i m at inside ∙ sym (same i m at);
+      before_after = λ i m at inside. c.before_after i m at inside ∙ sym (same i m at);
     }
 compares_grow log log' joined seen Spent pre none same c = tt
 
@@ -56,7 +56,7 @@ first_other views log log' id v w u at lives lives' other pre same f =
       live = f.live;
       are_spent = λ i n there. let g = f.are_spent i n there in (g.0, set_else views id n w (away i n there) ∙ g.1, g.2);
       all_spent = λ n x there is. ⊎_elim (λ (t : (n ≡ id) × (w ≡ x)). absurd (not_spent w x lives' t.1 is)) (λ (t : (n ≢ id) × (get_elem? views n ≡ some x)). f.all_spent n x t.1 is) (at_set views id n w x there);
-      behind = λ i n there. f.behind i n there ∙ sym (same n (away i n there));
+      after = λ i n there. f.after i n there ∙ sym (same n (away i n there));
       compares = compares_grow log log' u.joined u.seen u.stage pre (same 0 other) (λ i n there. same n (away i n there)) f.compares;
       same_part = f.same_part;
     }
@@ -65,7 +65,7 @@ first_other views log log' id v w u at lives lives' other pre same f =
 pub first_own : (views : List View) (log log' : List Call) (v w : View) → get_elem? views 0 ≡ some v → IsLive v.stage → IsLive w.stage
     → (w.made ≡ v.made) → (w.joined ≡ v.joined) → ((i n : ℕ) → get_elem? v.joined i ≡ some n → n ≢ 0 → own n w.seen ≡ own n log') → CompareFits log' w.joined w.seen w.stage → HasSamePart w.part w.stage
     → FirstFits views log v → FirstFits (set views 0 w) log' w
-first_own views log log' v w at lives lives' made joined behind compares same_part f =
+first_own views log log' v w at lives lives' made joined after compares same_part f =
     let away : (i n : ℕ) → get_elem? v.joined i ≡ some n → n ≢ 0 = λ i n there. let g = f.are_spent i n there in apart views n 0 g.0 v g.1 at (λ e. not_spent v g.0 lives (sym e) g.2) in
     let here : (i n : ℕ) → get_elem? w.joined i ≡ some n → get_elem? v.joined i ≡ some n = λ i n there. subst (λ (l : List ℕ). get_elem? l i ≡ some n) joined there in record {
       made = made ∙ (f.made ∙ sym (length-set views 0 w));
@@ -73,7 +73,7 @@ first_own views log log' v w at lives lives' made joined behind compares same_pa
       are_spent = λ i n there. let g = f.are_spent i n (here i n there) in (g.0, set_else views 0 n w (away i n (here i n there)) ∙ g.1, g.2);
       all_spent = λ n x there is. ⊎_elim (λ (t : (n ≡ 0) × (w ≡ x)). absurd (not_spent w x lives' t.1 is))
           (λ (t : (n ≢ 0) × (get_elem? views n ≡ some x)). let g = f.all_spent n x t.1 is in (g.0, subst (λ (l : List ℕ). get_elem? l g.0 ≡ some n) (sym joined) g.1)) (at_set views 0 n w x there);
-      behind = λ i n there. behind i n (here i n there) (away i n (here i n there));
+      after = λ i n there. after i n (here i n there) (away i n (here i n there));
       compares = compares;
       same_part = same_part;
     }
@@ -119,7 +119,7 @@ moved part words words' views log log' out out' serving serving' line' draws' id
         number_is = f.number_is;
         part_is = f.part_is;
         begins = prefix_trans u.seen log log' f.begins pre;
-        behind = f.behind ∙ sym (same j other);
+        after = f.after ∙ sym (same j other);
         drew = drawn_else j other ∙ f.drew;
         stage = else j u other there f.stage;
       });

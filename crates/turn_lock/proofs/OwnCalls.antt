@@ -20,9 +20,9 @@ pub made-append : (n : ℕ) (xs ys : List Call) → AllMade n xs → AllMade n y
 made-append n [] ys p q = q
 made-append n (x ∷ xs) ys p q = (p.0, made-append n xs ys p.1 q)
 
-pub made_front : (n : ℕ) (xs ys : List Call) → AllMade n (xs ++ ys) → AllMade n xs
-made_front n [] ys p = tt
-made_front n (x ∷ xs) ys p = (p.0, made_front n xs ys p.1)
+pub made_prefix : (n : ℕ) (xs ys : List Call) → AllMade n (xs ++ ys) → AllMade n xs
+made_prefix n [] ys p = tt
+made_prefix n (x ∷ xs) ys p = (p.0, made_prefix n xs ys p.1)
 
 pub made_back : (n : ℕ) (xs ys : List Call) → AllMade n (xs ++ ys) → AllMade n ys
 made_back n [] ys p = p
@@ -59,9 +59,9 @@ own_between n xs ys zs p q same =
     let r : own n xs ++ own n p.0 ≡ own n ys = sym (own-append n xs p.0) ∙ ap (own n) p.1 in
     let s : own n ys ++ own n q.0 ≡ own n zs = sym (own-append n ys q.0) ∙ ap (own n) q.1 in
     let t : own n xs ++ (own n p.0 ++ own n q.0) ≡ own n xs = sym (append_assoc (own n xs) (own n p.0) (own n q.0)) ∙ (ap (λ l. l ++ own n q.0) r ∙ (s ∙ sym same)) in
-    let none : own n p.0 ≡ [] = front_none (own n p.0) (own n q.0) (append_same (own n xs) (own n p.0 ++ own n q.0) t) in
+    let none : own n p.0 ≡ [] = prefix_none (own n p.0) (own n q.0) (append_same (own n xs) (own n p.0 ++ own n q.0) t) in
     sym r ∙ (ap (λ l. own n xs ++ l) none ∙ (append-nil (own n xs) ∙ same))
   where
-    front_none : (xs bs : List Call) → xs ++ bs ≡ [] → xs ≡ []
-    front_none [] bs e = refl
-    front_none (x ∷ xs) bs e = absurd (cc (e))
+    prefix_none : (xs bs : List Call) → xs ++ bs ≡ [] → xs ≡ []
+    prefix_none [] bs e = refl
+    prefix_none (x ∷ xs) bs e = absurd (cc (e))

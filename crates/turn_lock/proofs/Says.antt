@@ -46,7 +46,8 @@ stands_at serving line log out j seen n (Comparing m was theirs p) k has = absur
 stands_at serving line log out j seen n Spent k has = absurd has
 
 module _ {T : Type 0} (history : T → List Call) (turns : T → ℕ) (stands : T → Common → Type 0) (part : Common) where
-  -- where the slot is out the rule says so, and where a value is home it is the one that the rule speaks of
+  -- where the slot is out the rule says so, and where a value is home it is the one that the rule
+  -- speaks of
   when_out : (log : List Call) (serving : ℕ) (homes : List (maybe.Option (Option T))) (out : Bool) → SlotFits history turns stands part log serving homes out → homes ≡ none ∷ [] → out ≡ true
   when_out log serving homes true k e = refl
   when_out log serving homes false k e = let home = k.homes_are in absurd (cc (home, e))
@@ -183,7 +184,7 @@ module _ {T : Type 0} (history : T → List Call) (turns : T → ℕ) (stands : 
           at_home = λ x e. (home_of r.log r.serving s.homes r.out r.slot x e).1;
           at_holder = λ i v n seat is. (served_at i v n seat is).whole;
           begins = λ i v seat. (fits i v seat).begins;
-          own_seen = λ i v seat. subst (λ (n : ℕ). own n v.seen ≡ own n r.log) (sym (fits i v seat).number_is) (fits i v seat).behind;
-          joined_seen = λ first at n joined. (r.seats.first first at).behind joined.0 n joined.1;
+          own_seen = λ i v seat. subst (λ (n : ℕ). own n v.seen ≡ own n r.log) (sym (fits i v seat).number_is) (fits i v seat).after;
+          joined_seen = λ first at n joined. (r.seats.first first at).after joined.0 n joined.1;
           made = λ first at. subst (λ (n : ℕ). AllMade n r.log) (sym (r.seats.first first at).made) r.seats.made;
         }

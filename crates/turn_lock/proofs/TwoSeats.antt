@@ -9,7 +9,7 @@ use Rattle.cache_core.specs.Histories.{own}
 use Rattle.turn_lock.specs.declared.view.View.{View}
 use Rattle.turn_lock.specs.Histories.{AllMade}
 use Rattle.turn_lock.specs.Seats.{AllJoined}
-use Rattle.turn_lock.proofs.OwnCalls.{own-append, append_same, made_front, made_back}
+use Rattle.turn_lock.proofs.OwnCalls.{own-append, append_same, made_prefix, made_back}
 
 -- both seats that were made beside seat 0 were joined
 pub both_joined : (v : View) → v.made ≡ 3 → v.joined ≡ 1 ∷ 2 ∷ [] → AllJoined v
@@ -33,7 +33,7 @@ pub two_calls : (a b : Call) (first whole : List Call) → AllMade 2 whole → I
 two_calls a b first whole made p none mine same theirs =
     let rest = p.0 in
     let made_both = subst (AllMade 2) (sym p.1) made in
-    let is_first : first ≡ a ∷ [] = sym (all_own 0 1 (λ k lt not. omega arith) first (made_front 2 first rest made_both) none) ∙ mine in
+    let is_first : first ≡ a ∷ [] = sym (all_own 0 1 (λ k lt not. omega arith) first (made_prefix 2 first rest made_both) none) ∙ mine in
     let split : (n : ℕ) → own n first ++ own n rest ≡ own n whole = λ n. sym (own-append n first rest) ∙ ap (own n) p.1 in
     let no_more : own 0 rest ≡ [] = append_same (own 0 first) (own 0 rest) (split 0 ∙ (same ∙ sym mine)) in
     let is_rest : rest ≡ b ∷ [] = sym (all_own 1 0 (λ k lt not. omega arith) rest (made_back 2 first rest made_both) no_more) ∙ (ap (λ l. l ++ own 1 rest) (sym none) ∙ (split 1 ∙ theirs)) in

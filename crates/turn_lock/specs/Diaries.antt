@@ -6,7 +6,8 @@ use Rattle.cache_core.specs.declared.common.Common.{Common}
 
 -- all seats look for one key
 abbrev pub call_by : ℕ → Call
-call_by seat = record { seat = seat; key = record { area = 0; name = []; size = 0; design = 0 }; done = Hit }
+call_by seat =
+    record { seat = seat; key = record { area = 0; name = []; size = 0; design = 0 }; done = Hit }
 
 abbrev pub calls_by : List ℕ → List Call
 calls_by seats = map call_by seats
@@ -16,4 +17,8 @@ EndsWith c calls = (before : List Call) × (calls ≡ before ++ c ∷ [])
 
 -- a common part, of which a diary says nothing
 abbrev pub any_part : Common
-any_part = record { capacity = 1; units = record { num = 1; den = 1; mag = 1; res = 1 }; library = None }
+any_part = record {
+  capacity = 1;
+  units = record { num = 1; den = 1; mag = 1; res = 1 };
+  library = None;
+}

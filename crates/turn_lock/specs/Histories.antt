@@ -10,7 +10,7 @@ abbrev pub AllMade : ℕ → List Call → Type 0
 AllMade n [] = Unit {0}
 AllMade n (c ∷ calls) = (c.seat < n) × AllMade n calls
 
--- a history after one turn of a seat: the same, or with one call of this seat behind it
+-- a history after one turn of a seat: the same, or with one call of this seat after it
 abbrev pub Grows : ℕ → List Call → List Call → Type 0
 Grows n before after = (after ≡ before) ⊎ ((c : Call) × (c.seat ≡ n) × (after ≡ before ++ c ∷ []))
 

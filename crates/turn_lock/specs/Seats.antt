@@ -25,7 +25,9 @@ IsHolding Spent = ⊥
 abbrev pub AllJoined : View → Type 0
 AllJoined v = (n : ℕ) → 0 < n → n < v.made → (i : ℕ) × (get_elem? v.joined i ≡ some n)
 
--- between two calls a seat is idle, or has its turn: then it has the ticket and the slot, from which the value was taken
+-- between two calls a seat is idle, or has its turn: then it has the ticket and the slot, from
+-- which the value was taken
 abbrev pub IsKept : {T : Type 0} → Option ℕ → Me (Option T) View → Type 0
 IsKept None me = (me.0.stage ≡ Idle) × (me.1 ≡ [])
-IsKept (Some ticket) me = (me.0.stage ≡ Holding ticket) × (me.1 ≡ (0, None) ∷ []) × (ticket < 2 ^ 58)
+IsKept (Some ticket) me =
+    (me.0.stage ≡ Holding ticket) × (me.1 ≡ (0, None) ∷ []) × (ticket < 2 ^ 58)

@@ -13,14 +13,17 @@ use Rattle.turn_lock.specs.declared.view.Stage.TheVariants.{Comparing}
 use Rattle.turn_lock.specs.Histories.{OwnsSame}
 use Rattle.turn_lock.specs.Views.{ticket_of, waiting_view, holding_view, idle_view}
 
--- seat 0 has compared what it had seen with what the seat n had: what it has seen now goes on from both, and has no
--- more calls of number 0, of n, and of the numbers joined before; both seats have one common part
-pub record IsCompared (seen : List Call) (joined : List ℕ) (part : Common) (n : ℕ) (was theirs : List Call) (their_part : Common) : Type 0 where
+-- seat 0 has compared what it had seen with what the seat n had: what it has seen now goes on from
+-- both, and has no more calls of number 0, of n, and of the numbers joined before; both seats have
+-- one common part
+pub record IsCompared (seen : List Call) (joined : List ℕ) (part : Common) (n : ℕ)
+    (was theirs : List Call) (their_part : Common) : Type 0 where
   pub was_begins : IsPrefix was seen
   pub theirs_begins : IsPrefix theirs seen
   pub mine : own 0 seen ≡ own 0 was
   pub theirs_same : own n seen ≡ own n theirs
-  pub before : (i m : ℕ) → get_elem? joined i ≡ some m → i + 1 < length joined → own m seen ≡ own m was
+  pub before : (i m : ℕ) → get_elem? joined i ≡ some m → i + 1 < length joined
+      → own m seen ≡ own m was
   pub same_part : their_part ≡ part
 
 abbrev pub CompareTells : View → Stage → Type 0
@@ -37,11 +40,12 @@ module _ {T : Type 0} where
   Asked step before found after = (after ≡ before) × (own before.0.made before.0.seen ≡ [])
 
   abbrev pub ComparedAll : Step (Option T) → Me (Option T) View → ℕ → Me (Option T) View → Type 0
-  ComparedAll step before found after = (after ≡ (idle_view before.0 before.0.seen, before.1)) × CompareTells before.0 before.0.stage
+  ComparedAll step before found after =
+      (after ≡ (idle_view before.0 before.0.seen, before.1)) × CompareTells before.0 before.0.stage
 
 module _ {T : Type 0} (history : T → List Call) (turns : T → ℕ) (stands : T → Common → Type 0) where
-  -- the value has as many turns as the ticket, begins with what was seen, has no more calls of the seat's number and,
-  -- at seat 0, of the numbers joined, and stands in the seat's common part
+  -- the value has as many turns as the ticket, begins with what was seen, has no more calls of the
+  -- seat's number and, at seat 0, of the numbers joined, and stands in the seat's common part
   pub record TakesValue (before : View) (value : T) (after : View) : Type 0 where
     pub view_is : after ≡ holding_view before (ticket_of before.stage) (history value)
     pub turns_are : turns value ≡ ticket_of before.stage
@@ -54,7 +58,8 @@ module _ {T : Type 0} (history : T → List Call) (turns : T → ℕ) (stands : 
   -- where its own ticket is served the seat takes the value, and else nothing changes
   abbrev pub Looked : Step (Option T) → Me (Option T) View → ℕ → Me (Option T) View → Type 0
   Looked step before found after =
-      (found ≡ ticket_of before.0.stage → (value : T) × (after.1 ≡ (0, Some value) ∷ []) × TakesValue before.0 value after.0)
+      (found ≡ ticket_of before.0.stage → (value : T) × (after.1 ≡ (0, Some value) ∷ [])
+      × TakesValue before.0 value after.0)
       × (found ≢ ticket_of before.0.stage → after ≡ before)
 
 module _ {T : Type 0} (history : T → List Call) where

@@ -31,7 +31,17 @@ ticket_of _ = 0
 
 -- seat 0 of a new lock
 abbrev pub opening_view : Common → View
-opening_view part = record { number = 0; stage = Idle; drawn = 0; seen = []; part = part; made = 1; joined = []; joined_drawn = [] }
+opening_view part =
+    record {
+      number = 0;
+      stage = Idle;
+      drawn = 0;
+      seen = [];
+      part = part;
+      made = 1;
+      joined = [];
+      joined_drawn = [];
+    }
 
 -- what a join leaves of the view that was taken in
 abbrev pub spent_view : View
@@ -41,7 +51,11 @@ spent_view =
       stage = Spent;
       drawn = 0;
       seen = [];
-      part = record { capacity = 0; units = record { num = 0; den = 0; mag = 0; res = 0 }; library = None };
+      part = record {
+        capacity = 0;
+        units = record { num = 0; den = 0; mag = 0; res = 0 };
+        library = None;
+      };
       made = 0;
       joined = [];
       joined_drawn = [];
@@ -64,7 +78,16 @@ abbrev pub split_view : View → View
 split_view v = record v { made = v.made + 1 }
 
 abbrev pub new_view : View → View
-new_view v = record { number = v.made; stage = Idle; drawn = 0; seen = v.seen; part = v.part; made = 0; joined = []; joined_drawn = [] }
+new_view v = record {
+  number = v.made;
+  stage = Idle;
+  drawn = 0;
+  seen = v.seen;
+  part = v.part;
+  made = 0;
+  joined = [];
+  joined_drawn = [];
+}
 
 -- seat 0 after it took another seat in, which it has not compared yet
 abbrev pub comparing_view : View → View → View

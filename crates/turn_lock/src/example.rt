@@ -1,4 +1,5 @@
-//! A caller of the lock, as an example and for tests: seats that note in a diary that they were there.
+//! A caller of the lock, as an example and for tests: seats that note in a diary that they were
+//! there.
 ghost use Rattle.std.specs.Prelude.{◌≡◌, ◌+◌, ◌*◌, ◌^◌, ◌<◌, ◌≤◌, [], ◌∷◌, ◌++◌, length, IfOk, OnOk, OnErr};
 ghost use mathlib.Core.List.{IsPrefix};
 ghost use Rattle.cache_core.specs.Histories.{own};
@@ -38,7 +39,7 @@ impl Diary {
         }
     }
 
-    /// One turn, which is noted unless memory is wanting.
+    /// One turn, which is noted unless memory runs out.
     pub fn note(&mut self, seat: u32) -> Result<(), NoMemory>
         requires few { self.old.turns < 2 ^ 62 }
         ensures turn { self.new.turns ≡ self.old.turns + 1 }
@@ -52,8 +53,9 @@ impl Diary {
     }
 }
 
-/// One turn of a seat. The history that the seat has then seen begins with what it had seen. Where the seat was noted
-/// it ends with this call, and the seat's own calls grew by just this one; else they are as before.
+/// One turn of a seat. The history that the seat has then seen begins with what it had seen. Where
+/// the seat was noted it ends with this call, and the seat's own calls grew by just this one; else
+/// they are as before.
 pub fn turn<R: Wait>(rt: &R, lock: &TurnLock<Diary>, seat: &mut Seat<Diary>) -> Result<(), NoMemory>
     requires lock { seat.old.lock ≡ lock.now }
     requires idle { seat.old.view.stage ≡ Idle }
@@ -62,7 +64,8 @@ pub fn turn<R: Wait>(rt: &R, lock: &TurnLock<Diary>, seat: &mut Seat<Diary>) -> 
     ensures idle { seat.new.view.stage ≡ Idle }
     ensures number { seat.new.view.number ≡ seat.old.view.number }
     ensures drawn { seat.new.view.drawn ≡ seat.old.view.drawn + 1 }
-    ensures joined { (seat.new.view.made ≡ seat.old.view.made) × (seat.new.view.joined ≡ seat.old.view.joined) }
+    ensures joined { (seat.new.view.made ≡ seat.old.view.made)
+        × (seat.new.view.joined ≡ seat.old.view.joined) }
     ensures begins { IsPrefix seat.old.view.seen seat.new.view.seen }
     ensures last { OnOk result (EndsWith (call_by seat.old.view.number) seat.new.view.seen) }
     ensures noted { OnOk result (own seat.old.view.number seat.new.view.seen
@@ -91,7 +94,8 @@ fn finish(lock: TurnLock<Diary>, mut first: Seat<Diary>, second: Seat<Diary>) ->
     lock.close(first)
 }
 
-/// Seat 0 takes a turn, and then a second seat that was split from it. The diary has these two calls, in that order.
+/// Seat 0 takes a turn, and then a second seat that was split from it. The diary has these two
+/// calls, in that order.
 pub fn two_turns<R: Wait>(rt: &R, alloc: Global) -> Result<Diary, NoMemory>
     ensures { IfOk result (λ d. calls_by d.seats.items ≡ calls_by (0 ∷ 1 ∷ [])) }
 {

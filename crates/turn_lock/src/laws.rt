@@ -4,8 +4,8 @@ ghost use Rattle.turn_lock.specs.RuleParts.{NumbersAlways, TicketsAlways, DrawsA
 
 use cache_core::Told;
 
-/// The rule holds when a lock is made, and each kind of step keeps it, whatever other seats did before. So it holds
-/// between any two steps.
+/// The rule holds when a lock is made, and each kind of step keeps it, whatever other seats did
+/// before. So it holds between any two steps.
 pub fn steps_keep<T: Told>()
     ensures make { MakeKeeps T.history T.turns T.stands }
     ensures draw { DrawKeeps T.history T.turns T.stands }
@@ -17,8 +17,8 @@ pub fn steps_keep<T: Told>()
     ensures compare { CompareKeeps T.history T.turns T.stands }
 {}
 
-/// What the rule says, part by part: of the numbers of seats, of tickets, of the turns drawn, of the slot, of the
-/// common part, and of the one history.
+/// What the rule says, part by part: of the numbers of seats, of tickets, of the turns drawn, of
+/// the slot, of the common part, and of the one history.
 pub fn rule_says<T: Told>()
     ensures numbers { NumbersAlways T.history T.turns T.stands }
     ensures tickets { TicketsAlways T.history T.turns T.stands }

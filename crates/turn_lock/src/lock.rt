@@ -27,7 +27,8 @@ pub(crate) const SERVING: usize = 1;
 
 const VALUE: usize = 0;
 
-/// A value that its seats take in turn. Contracts see which lock it is. Each call needs seats of this same lock.
+/// A value that its seats take in turn. Contracts see which lock it is. Each call needs seats of
+/// this same lock.
 #[derive(Drop)]
 pub struct TurnLock<T: Told> {
     pub(crate) table: Table<Option<T>, View, About, Turns, Global>,
@@ -44,12 +45,14 @@ impl<T: Told> Model for TurnLock<T> {
 
     ghost view = { λ l. l.table.shared.table_id };
 
-    ghost invariant = { λ l. (l.table.shared.table_id.words ≡ 2) × (l.table.shared.table_id.slots ≡ 1) };
+    ghost invariant = { λ l. (l.table.shared.table_id.words ≡ 2)
+        × (l.table.shared.table_id.slots ≡ 1) };
 }
 
 impl<T: Told> TurnLock<T> {
-    /// A lock with its seat 0, which has seen nothing, drew nothing and doesn't have the turn. The caller's proof
-    /// picks the common part of all seats. `Err` means that memory was wanting, and hands the value back.
+    /// A lock with its seat 0, which has seen nothing, drew nothing and doesn't have the turn. The
+    /// caller's proof picks the common part of all seats. `Err` means that memory ran out, and
+    /// hands the value back.
     pub fn make(alloc: Global, value: T) -> Result<(TurnLock<T>, Seat<T>), T>
         ghost part: { Common }
         requires no_turns { T.turns value ≡ 0 }
@@ -89,8 +92,8 @@ impl<T: Told> TurnLock<T> {
         }
     }
 
-    /// Makes one more seat. It has the next number, has seen what seat 0 has, has no calls of its own, drew nothing and
-    /// doesn't have the turn. Seat 0 counts it, and is else as it was.
+    /// Makes one more seat. It has the next number, has seen what seat 0 has, has no calls of its
+    /// own, drew nothing and doesn't have the turn. Seat 0 counts it, and is else as it was.
     pub fn split(&self, first: &mut Seat<T>) -> Seat<T>
         requires lock { first.old.lock ≡ self.now }
         requires first { first.old.view.number ≡ 0 }
@@ -115,9 +118,9 @@ impl<T: Told> TurnLock<T> {
         }
     }
 
-    /// Takes another seat in. Seat 0 has then seen the longer of both histories, which goes on from both. It has the
-    /// calls of the other's number that the other had, and of its own number and of each number joined before those
-    /// that it had itself. Both seats have one common part.
+    /// Takes another seat in. Seat 0 has then seen the longer of both histories, which goes on from
+    /// both. It has the calls of the other's number that the other had, and of its own number and
+    /// of each number joined before those that it had itself. Both seats have one common part.
     pub fn join(&self, first: &mut Seat<T>, other: Seat<T>)
         requires lock { first.old.lock ≡ self.now }
         requires other_lock { other.lock ≡ self.now }
@@ -128,7 +131,8 @@ impl<T: Told> TurnLock<T> {
         ensures seen { first.new.view ≡ joined_view first.old.view other.view }
         ensures begins { IsPrefix first.old.view.seen first.new.view.seen }
         ensures other_begins { IsPrefix other.view.seen first.new.view.seen }
-        ensures theirs { own other.view.number first.new.view.seen ≡ own other.view.number other.view.seen }
+        ensures theirs { own other.view.number first.new.view.seen
+            ≡ own other.view.number other.view.seen }
         ensures mine { own 0 first.new.view.seen ≡ own 0 first.old.view.seen }
         ensures before { OwnsSame first.old.view.joined first.new.view.seen first.old.view.seen }
         ensures common_part { other.view.part ≡ first.old.view.part }
@@ -173,16 +177,18 @@ impl<T: Told> TurnLock<T> {
         unreachable!()
     }
 
-    /// Draws a turn, waits for it, and takes the value. Its history begins with what the seat had seen and has no more
-    /// calls of the seat's number and, at seat 0, of the numbers joined.
+    /// Draws a turn, waits for it, and takes the value. Its history begins with what the seat had
+    /// seen and has no more calls of the seat's number and, at seat 0, of the numbers joined.
     pub fn take<R: Wait>(&self, rt: &R, seat: &mut Seat<T>) -> T
         requires lock { seat.old.lock ≡ self.now }
         requires idle { seat.old.view.stage ≡ Idle }
         requires room { seat.old.view.drawn < 2 ^ 48 }
         ensures lock { seat.new.lock ≡ seat.old.lock }
-        ensures seen { seat.new.view ≡ view_with_turn seat.old.view (T.turns result) (T.history result) }
+        ensures seen { seat.new.view ≡ view_with_turn seat.old.view (T.turns result)
+            (T.history result) }
         ensures begins { IsPrefix seat.old.view.seen (T.history result) }
-        ensures own { own seat.old.view.number (T.history result) ≡ own seat.old.view.number seat.old.view.seen }
+        ensures own { own seat.old.view.number (T.history result)
+            ≡ own seat.old.view.number seat.old.view.seen }
         ensures joined { seat.old.view.number ≡ 0
             → OwnsSame seat.old.view.joined (T.history result) seat.old.view.seen }
         ensures stands { T.stands result seat.old.view.part }
@@ -197,9 +203,9 @@ impl<T: Told> TurnLock<T> {
         value
     }
 
-    /// Gives the value back after one turn, and hands the turn on. The seat has then seen the value's
-    /// history, which is the one that it took, or that with one call of this seat behind it. No number
-    /// that seat 0 joined is its own, so none of those has a call more.
+    /// Gives the value back after one turn, and hands the turn on. The seat has then seen the
+    /// value's history, which is the one that it took, or that with one call of this seat after it.
+    /// No number that seat 0 joined is its own, so none of those has a call more.
     pub fn give(&self, seat: &mut Seat<T>, value: T)
         requires lock { seat.old.lock ≡ self.now }
         requires turn { IsHolding seat.old.view.stage }
@@ -224,7 +230,8 @@ impl<T: Told> TurnLock<T> {
         self.wake(ticket + 1);
     }
 
-    /// The value, once all other seats were joined and no turn is held. It has just the history that seat 0 has seen.
+    /// The value, once all other seats were joined and no turn is held. It has just the history
+    /// that seat 0 has seen.
     pub fn close(self, first: Seat<T>) -> T
         requires lock { first.lock ≡ self }
         requires first { first.view.number ≡ 0 }

@@ -7,9 +7,10 @@ use std::marker::Model;
 // What the table knows of it. It has no bytes.
 pub(crate) type Place<T> = atomic_table::Seat<Option<T>, View>;
 
-/// A seat at a turn lock. Contracts see its lock and its view: its number, whether it has the turn, how many turns
-/// it drew, the history that it has seen, and the common part; of seat 0 also how many seats were made, and which
-/// were joined. A seat that is let go stays live, and then no call can close the lock.
+/// A seat at a turn lock. Contracts see its lock and its view: its number, whether it has the turn,
+/// how many turns it drew, the history that it has seen, and the common part; of seat 0 also how
+/// many seats were made, and which were joined. A seat that is dropped stays live, and then no call
+/// can close the lock.
 #[derive(Drop)]
 pub struct Seat<T> {
     pub(crate) place: Place<T>,
@@ -32,7 +33,8 @@ impl<T> Model for Seat<T> {
 
     ghost view = { λ s. record { lock = s.place.table_id; view = s.place.me.0 } };
 
-    ghost invariant = { λ s. (s.number ≡ s.place.me.0.number) × (s.drawn ≡ s.place.me.0.drawn) × (s.made ≡ s.place.me.0.made) × IsKept s.ticket s.place.me };
+    ghost invariant = { λ s. (s.number ≡ s.place.me.0.number) × (s.drawn ≡ s.place.me.0.drawn)
+        × (s.made ≡ s.place.me.0.made) × IsKept s.ticket s.place.me };
 }
 
 impl<T> Seat<T> {

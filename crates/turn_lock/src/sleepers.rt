@@ -1,4 +1,5 @@
-//! Where seats sleep that wait. No contract rests on it: whoever wakes, for whatever reason, looks again.
+//! Where seats sleep that wait. No contract rests on it: whoever wakes, for whatever reason, looks
+//! again.
 use std::array;
 use std::sync::Wait;
 use std::sync::atomic::{AtomicU64, Ordering};
@@ -7,7 +8,7 @@ use std::time::Duration;
 // How many places there are for seats that sleep with a ticket.
 const PLACES: usize = 16;
 
-// A wake that was lost would cost so many milliseconds, and no more.
+// A wake that was lost would cost n milliseconds, and no more.
 const LONGEST_SLEEP: u64 = 50;
 
 /// The seats of one lock that sleep.
@@ -46,7 +47,8 @@ impl Sleepers {
         self.count.load(Ordering::SeqCst) == 0
     }
 
-    /// From now on whoever hands a turn on knows of this seat, which then looks once more before it sleeps.
+    /// From now on whoever hands a turn on knows of this seat, which then looks once more before it
+    /// sleeps.
     pub(crate) fn announce(&self) {
         self.count.fetch_add(1, Ordering::SeqCst);
     }

@@ -15,7 +15,7 @@ use std::thread::Threads;
 
 mod alone;
 
-// Waits until so many threads have come, and says whether they came.
+// Waits until n threads have come, and says whether they came.
 fn meet(gate: &AtomicU32, all: u32) -> bool {
     gate.fetch_add(1, Ordering::SeqCst);
     for _ in 0..1_000_000u32 {
@@ -27,7 +27,7 @@ fn meet(gate: &AtomicU32, all: u32) -> bool {
     false
 }
 
-// So many turns. False where memory was wanting.
+// n turns. False where memory ran out.
 fn turns<R: Wait>(rt: &R, lock: &TurnLock<Diary>, seat: &mut Seat<Diary>, count: u64) -> bool
     requires lock { seat.old.lock ≡ lock.now }
     requires idle { seat.old.view.stage ≡ Idle }
@@ -45,7 +45,8 @@ fn turns<R: Wait>(rt: &R, lock: &TurnLock<Diary>, seat: &mut Seat<Diary>, count:
     all
 }
 
-// Two threads meet, and then take so many turns each. With an answer, the diary has as many calls of each seat.
+// Two threads meet, and then take n turns each. With an answer, the diary has as many calls of each
+// seat.
 fn two<R: Threads + Wait + Sync>(rt: &R, alloc: Global, count: u64) -> Option<Diary>
     requires { count ≤ 2 ^ 48 }
     ensures one { IfSome result (λ d. length (own 1 (calls_by d.seats.items)) ≡ count) }
@@ -62,7 +63,8 @@ fn two<R: Threads + Wait + Sync>(rt: &R, alloc: Global, count: u64) -> Option<Di
     let ((one, ones), (two, twos)) = thread::join(
         rt,
         move || -> (Seat<Diary>, bool)
-            requires { (one.lock ≡ by.now) × (one.view.stage ≡ Idle) × (one.view.drawn + count ≤ 2 ^ 48) }
+            requires { (one.lock ≡ by.now) × (one.view.stage ≡ Idle)
+                × (one.view.drawn + count ≤ 2 ^ 48) }
             ensures lock { result.0.lock ≡ one.lock }
             ensures idle { result.0.view.stage ≡ Idle }
             ensures number { result.0.view.number ≡ one.view.number }
@@ -74,7 +76,8 @@ fn two<R: Threads + Wait + Sync>(rt: &R, alloc: Global, count: u64) -> Option<Di
             (one, all)
         },
         move || -> (Seat<Diary>, bool)
-            requires { (two.lock ≡ by.now) × (two.view.stage ≡ Idle) × (two.view.drawn + count ≤ 2 ^ 48) }
+            requires { (two.lock ≡ by.now) × (two.view.stage ≡ Idle)
+                × (two.view.drawn + count ≤ 2 ^ 48) }
             ensures lock { result.0.lock ≡ two.lock }
             ensures idle { result.0.view.stage ≡ Idle }
             ensures number { result.0.view.number ≡ two.view.number }
@@ -100,7 +103,8 @@ fn give_late<R: Wait>(
     met: &AtomicU32,
     all: u32,
 ) -> bool
-    requires { (seat.old.lock ≡ lock.now) × (seat.old.view.stage ≡ Idle) × (seat.old.view.drawn ≡ 0) }
+    requires { (seat.old.lock ≡ lock.now) × (seat.old.view.stage ≡ Idle)
+        × (seat.old.view.drawn ≡ 0) }
 {
     let mut diary = lock.take(rt, seat);
     let asked = meet(met, all);
@@ -112,7 +116,8 @@ fn give_late<R: Wait>(
     asked && noted.is_ok()
 }
 
-// The first thread has the turn when the others ask, who sleep until it gives late; then each takes one turn.
+// The first thread has the turn when the others ask, who sleep until it gives late; then each takes
+// one turn.
 fn late<R: Threads + Wait + Sync>(rt: &R, alloc: Global, all: u32) -> Option<Diary>
     requires some { 0 < all }
     requires few { all ≤ 1000 }
@@ -127,7 +132,8 @@ fn late<R: Threads + Wait + Sync>(rt: &R, alloc: Global, all: u32) -> Option<Dia
         &mut seats,
         all as usize,
         &|i, seat: &mut Seat<Diary>|
-            requires { (seat.old.lock ≡ by.now) × (seat.old.view.stage ≡ Idle) × (seat.old.view.drawn ≡ 0) }
+            requires { (seat.old.lock ≡ by.now) × (seat.old.view.stage ≡ Idle)
+                × (seat.old.view.drawn ≡ 0) }
         {
             let ends = if i == 0 {
                 give_late(rt, by, seat, &gate, all)
@@ -147,7 +153,7 @@ fn late<R: Threads + Wait + Sync>(rt: &R, alloc: Global, all: u32) -> Option<Dia
     }
 }
 
-// So many seats that drew nothing.
+// n seats that drew nothing.
 fn some_seats(
     alloc: Global,
     lock: &TurnLock<Diary>,
@@ -157,8 +163,12 @@ fn some_seats(
     requires lock { first.old.lock ≡ lock.now }
     requires first { (first.old.view.number ≡ 0) × (first.old.view.made ≡ 1) }
     requires few { all ≤ 1000 }
-    ensures first { (first.new.lock ≡ first.old.lock) × (first.new.view.stage ≡ first.old.view.stage) × (first.new.view.drawn ≡ first.old.view.drawn) }
-    ensures seats { IfSome result (λ seats. All (λ s. (s.lock ≡ lock.now) × (s.view.stage ≡ Idle) × (s.view.drawn ≡ 0)) seats.items) }
+    ensures first { (first.new.lock ≡ first.old.lock)
+        × (first.new.view.stage ≡ first.old.view.stage)
+        × (first.new.view.drawn ≡ first.old.view.drawn) }
+    ensures seats { IfSome result
+        (λ seats. All (λ s. (s.lock ≡ lock.now) × (s.view.stage ≡ Idle) × (s.view.drawn ≡ 0))
+        seats.items) }
 {
     let mut seats = Vec::new(alloc);
     for _i in 0..all {
@@ -170,7 +180,7 @@ fn some_seats(
     Some(seats)
 }
 
-// Each seat takes so many turns in a thread of its own, once all threads have met.
+// Each seat takes n turns in a thread of its own, once all threads have met.
 fn all_turns<R: Threads + Wait + Sync>(
     rt: &R,
     lock: &TurnLock<Diary>,
@@ -179,7 +189,8 @@ fn all_turns<R: Threads + Wait + Sync>(
     count: u64,
 ) -> bool
     requires some { 0 < all }
-    requires seats { All (λ s. (s.lock ≡ lock.now) × (s.view.stage ≡ Idle) × (s.view.drawn ≡ 0)) seats.old }
+    requires seats { All (λ s. (s.lock ≡ lock.now) × (s.view.stage ≡ Idle) × (s.view.drawn ≡ 0))
+        seats.old }
     requires room { count ≤ 2 ^ 48 }
 {
     let gate = AtomicU32::new(0);
@@ -189,7 +200,8 @@ fn all_turns<R: Threads + Wait + Sync>(
         seats,
         all as usize,
         &|_, seat: &mut Seat<Diary>|
-            requires { (seat.old.lock ≡ lock.now) × (seat.old.view.stage ≡ Idle) × (seat.old.view.drawn + count ≤ 2 ^ 48) }
+            requires { (seat.old.lock ≡ lock.now) × (seat.old.view.stage ≡ Idle)
+                × (seat.old.view.drawn + count ≤ 2 ^ 48) }
         {
             if meet(&gate, all) && turns(rt, lock, seat, count) {
                 good.fetch_add(1, Ordering::SeqCst);
@@ -199,7 +211,7 @@ fn all_turns<R: Threads + Wait + Sync>(
     good.load(Ordering::SeqCst) == all
 }
 
-// So many threads, each with a seat of its own.
+// n threads, each with a seat of its own.
 fn crowd<R: Threads + Wait + Sync>(rt: &R, alloc: Global, all: u32, count: u64) -> Option<Diary>
     requires some { 0 < all }
     requires few { all ≤ 1000 }
@@ -244,7 +256,7 @@ fn two_turns_in_order(rt: HostRuntime) -> Result<(), Fail> {
 
 #[test]
 fn turns_two(rt: HostRuntime) -> Result<(), Fail> {
-    let diary = two(&rt, rt.alloc(), 100).ok_or("memory was wanting, or the threads did not meet")?;
+    let diary = two(&rt, rt.alloc(), 100).ok_or("memory ran out, or the threads did not meet")?;
     assert_eq!(rt; diary.seats.len(), 200);
     assert_eq!(rt; diary.turns, 200);
     for seat in [1, 2] {
@@ -256,7 +268,7 @@ fn turns_two(rt: HostRuntime) -> Result<(), Fail> {
 // Four threads, of which three sleep while the first has the turn.
 #[test]
 fn a_turn_given_late(rt: HostRuntime) -> Result<(), Fail> {
-    let diary = late(&rt, rt.alloc(), 4).ok_or("memory was wanting, or the threads did not meet")?;
+    let diary = late(&rt, rt.alloc(), 4).ok_or("memory ran out, or the threads did not meet")?;
     assert_eq!(rt; diary.seats.first(), Some(&1));
     for seat in 1..5 {
         assert_eq!(rt; diary.seats.iter().filter(|&&s| s == seat).count(), 1);
@@ -269,7 +281,7 @@ fn a_turn_given_late(rt: HostRuntime) -> Result<(), Fail> {
 fn crowds_end(rt: HostRuntime) -> Result<(), Fail> {
     for (seats, count) in [(8u32, 1000u64), (40, 500)] {
         let diary = crowd(&rt, rt.alloc(), seats, count).ok_or(
-            "memory was wanting, or the threads did not meet",
+            "memory ran out, or the threads did not meet",
         )?;
         assert_eq!(rt; diary.turns, u64::from(seats) * count);
         for seat in 1..seats + 1 {

@@ -17,7 +17,7 @@ pub(crate) const LOOKS_IN_LINE: u32 = 12;
 // The longest time between two looks has 2 to this power of the processor's pauses.
 const LONGEST_PAUSE: u32 = 6;
 
-/// Lets some time pass after so many looks: each time twice as much, up to a limit.
+/// Lets some time pass after n looks: each time twice as much, up to a limit.
 pub(crate) fn pause(looks: u32) {
     for _ in 0..1u32 << looks.min(LONGEST_PAUSE) {
         hint::spin_loop();
@@ -43,7 +43,8 @@ impl<T: Told> TurnLock<T> {
         false
     }
 
-    // Before it draws, a seat waits until nobody has the turn, so that the line is short and its seats are awake.
+    // Before it draws, a seat waits until nobody has the turn, so that the line is short and its
+    // seats are awake.
     pub(crate) fn approach<R: Wait>(&self, rt: &R) {
         for _ in 0..SLEEPS {
             if self.is_free_soon() {

@@ -52,8 +52,8 @@ module _ (reading : Reading) (eop start at : ℕ) (bytes : List ℕ) (level : Fr
   head (o ∷ outer) h inside spelled current =
       let outside = seen_current o.current in
       let text = text_in outside level.code in
-      let behind = leave level.gap at (stack_left reading eop at outside (stack_of bytes start o outer)) in
-      ap (λ (commands : List DviCommand). expand_list (expand_one (deeper (MOST_DEEP - suc (depth (stack_of bytes start o outer))) at) (place_in reading outside) at) current commands behind)
+      let after = leave level.gap at (stack_left reading eop at outside (stack_of bytes start o outer)) in
+      ap (λ (commands : List DviCommand). expand_list (expand_one (deeper (MOST_DEEP - suc (depth (stack_of bytes start o outer))) at) (place_in reading outside) at) current commands after)
       (commands_on text level.pos end c h spelled)
       ∙ ap (λ (n : ℕ). expand_one (deeper (MOST_DEEP - suc n) at) (place_in reading outside) at current c
       (λ next. stack_left reading eop at next (stack_of bytes start (record level { pos = end }) (o ∷ outer)))) (depth_is bytes start o outer)

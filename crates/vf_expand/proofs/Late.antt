@@ -35,32 +35,32 @@ end_cut (suc b) x at e = ap (cut (suc b)) e
 
 -- ---- no room
 
-late_glyph : (at : ℕ) (k : FontKey) (c width : ℤ) (put : Bool) (glyph : Option Glyph) (behind : Course) → cut 0 (with_glyph at k c width put glyph behind) ≡ Stops TooLong at
-late_glyph at k c width put None behind = refl
-late_glyph at k c width put (Some g) behind = refl
+late_glyph : (at : ℕ) (k : FontKey) (c width : ℤ) (put : Bool) (glyph : Option Glyph) (after : Course) → cut 0 (with_glyph at k c width put glyph after) ≡ Stops TooLong at
+late_glyph at k c width put None after = refl
+late_glyph at k c width put (Some g) after = refl
 
-late_packet : (inner : FontKey → FontSeen → List DviCommand → Course → Course) (at : ℕ) (k : FontKey) (f : FontSeen) (c : ℤ) (gap : Option ℤ) (text : Option (List ℕ)) (behind : Course)
-    → cut 0 (packet inner at k f c gap text behind) ≡ Stops TooLong at
-late_packet inner at k f c gap None behind = refl
-late_packet inner at k f c gap (Some text) behind = refl
+late_packet : (inner : FontKey → FontSeen → List DviCommand → Course → Course) (at : ℕ) (k : FontKey) (f : FontSeen) (c : ℤ) (gap : Option ℤ) (text : Option (List ℕ)) (after : Course)
+    → cut 0 (packet inner at k f c gap text after) ≡ Stops TooLong at
+late_packet inner at k f c gap None after = refl
+late_packet inner at k f c gap (Some text) after = refl
 
-late_virtual : (deep : Deeper) (at : ℕ) (k : FontKey) (f : FontSeen) (c : ℤ) (gap : Option ℤ) (behind : Course) → cut 0 (virtual deep at k f c gap behind) ≡ Stops TooLong at
-late_virtual None at k f c gap behind = refl
-late_virtual (Some inner) at k f c gap behind = late_packet inner at k f c gap (packet_of f (number_of c)) behind
+late_virtual : (deep : Deeper) (at : ℕ) (k : FontKey) (f : FontSeen) (c : ℤ) (gap : Option ℤ) (after : Course) → cut 0 (virtual deep at k f c gap after) ≡ Stops TooLong at
+late_virtual None at k f c gap after = refl
+late_virtual (Some inner) at k f c gap after = late_packet inner at k f c gap (packet_of f (number_of c)) after
 
-late_kind : (deep : Deeper) (at : ℕ) (k : FontKey) (f : FontSeen) (c width : ℤ) (put is_virtual : Bool) (behind : Course)
-    → cut 0 (by_kind deep at k f c width put is_virtual behind) ≡ Stops TooLong at
-late_kind deep at k f c width put false behind = late_glyph at k c width put (glyph_at f (number_of c)) behind
-late_kind deep at k f c width put true behind = late_virtual deep at k f c (gap_of width put) behind
+late_kind : (deep : Deeper) (at : ℕ) (k : FontKey) (f : FontSeen) (c width : ℤ) (put is_virtual : Bool) (after : Course)
+    → cut 0 (by_kind deep at k f c width put is_virtual after) ≡ Stops TooLong at
+late_kind deep at k f c width put false after = late_glyph at k c width put (glyph_at f (number_of c)) after
+late_kind deep at k f c width put true after = late_virtual deep at k f c (gap_of width put) after
 
-late_width : (deep : Deeper) (at : ℕ) (k : FontKey) (f : FontSeen) (c : ℤ) (put : Bool) (width : Option ℤ) (behind : Course)
-    → cut 0 (with_width deep at k f c put width behind) ≡ Stops TooLong at
-late_width deep at k f c put None behind = refl
-late_width deep at k f c put (Some width) behind = late_kind deep at k f c width put (is_virtual_of f) behind
+late_width : (deep : Deeper) (at : ℕ) (k : FontKey) (f : FontSeen) (c : ℤ) (put : Bool) (width : Option ℤ) (after : Course)
+    → cut 0 (with_width deep at k f c put width after) ≡ Stops TooLong at
+late_width deep at k f c put None after = refl
+late_width deep at k f c put (Some width) after = late_kind deep at k f c width put (is_virtual_of f) after
 
-late_found : (deep : Deeper) (at : ℕ) (k : FontKey) (d : Decoded) (c : ℤ) (put : Bool) (behind : Course) → cut 0 (found deep at k d c put behind) ≡ Stops TooLong at
-late_found deep at k (decoded.Fault fault) c put behind = refl
-late_found deep at k (decoded.Font f) c put behind = late_width deep at k f c put (width_of f c) behind
+late_found : (deep : Deeper) (at : ℕ) (k : FontKey) (d : Decoded) (c : ℤ) (put : Bool) (after : Course) → cut 0 (found deep at k d c put after) ≡ Stops TooLong at
+late_found deep at k (decoded.Fault fault) c put after = refl
+late_found deep at k (decoded.Font f) c put after = late_width deep at k f c put (width_of f c) after
 
 late_character : (deep : Deeper) (place : Place) (at : ℕ) (current : Current) (c : ℤ) (put : Bool) (others : Current → Course)
     → cut 0 (character deep place at current c put others) ≡ Stops TooLong at
@@ -101,7 +101,7 @@ late_leave None at x = refl
 late_leave (Some width) at x = refl
 
 -- in a packet
-pub late_list : (deep : Deeper) (place : Place) (at : ℕ) (current : Current) (commands : List DviCommand) (gap : Option ℤ) (behind : Course)
-    → cut 0 (expand_list (expand_one deep place at) current commands (leave gap at behind)) ≡ Stops TooLong at
-late_list deep place at current [] gap behind = late_leave gap at behind
-late_list deep place at current (c ∷ commands) gap behind = late_one deep place at current c (λ next. expand_list (expand_one deep place at) next commands (leave gap at behind))
+pub late_list : (deep : Deeper) (place : Place) (at : ℕ) (current : Current) (commands : List DviCommand) (gap : Option ℤ) (after : Course)
+    → cut 0 (expand_list (expand_one deep place at) current commands (leave gap at after)) ≡ Stops TooLong at
+late_list deep place at current [] gap after = late_leave gap at after
+late_list deep place at current (c ∷ commands) gap after = late_one deep place at current c (λ next. expand_list (expand_one deep place at) next commands (leave gap at after))

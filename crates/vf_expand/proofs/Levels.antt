@@ -14,7 +14,7 @@ use Rattle.dvi_commands.proofs.Told.{spelling_tells_the_command}
 use Rattle.outside.specs.declared.keys.FontKey.{FontKey}
 use Rattle.drift_rules.specs.Bounds.{IsNumber}
 use Rattle.page_index.specs.Document.{Reading}
-use Rattle.vf_reader.specs.Programs.{AreSoundFrom, command_fault, depth_behind, dimensions, is_dimension}
+use Rattle.vf_reader.specs.Programs.{AreSoundFrom, command_fault, open_after, dimensions, is_dimension}
 use Rattle.font_decode.specs.Fonts.{FontSeen}
 use Rattle.vf_expand.specs.Course.{Current, Place, OnPage, InPacket}
 use Rattle.vf_expand.specs.Doing.{place_in}
@@ -27,7 +27,7 @@ use Rattle.vf_expand.specs.declared.current.Current as code
 
 sound_reads : (c depth : ℕ) (commands : List DviCommand) (bytes : List ℕ) → AreSoundFrom c depth commands bytes → AreCommands context.Packet commands bytes
 sound_reads c depth [] bytes h = h.0
-sound_reads c depth (d ∷ commands) bytes h = (h.0, h.1, h.2, sound_reads c (depth_behind depth d) commands h.1 h.4)
+sound_reads c depth (d ∷ commands) bytes h = (h.0, h.1, h.2, sound_reads c (open_after depth d) commands h.1 h.4)
 
 pub rest_reads : (c : ℕ) (bytes : List ℕ) → IsSoundRest c bytes → Reads context.Packet bytes
 rest_reads c bytes h = record { commands = h.1; are = sound_reads c h.0 h.1 bytes h.2 }
@@ -38,16 +38,16 @@ record IsRead (c : ℕ) (command : DviCommand) (rest : List ℕ) : Type 0 where
   pub right : command_fault c depth command ≡ None
   pub sound : IsSoundRest c rest
 
-read_first : (c depth : ℕ) (commands : List DviCommand) (command : DviCommand) (bytes front rest : List ℕ) → bytes ≡ front ++ rest → Spells command front → 0 < length front
+read_first : (c depth : ℕ) (commands : List DviCommand) (command : DviCommand) (bytes prefix rest : List ℕ) → bytes ≡ prefix ++ rest → Spells command prefix → 0 < length prefix
     → AreSoundFrom c depth commands bytes → IsRead c command rest
-read_first c depth [] command bytes front rest whole spelled some h = absurd (omega (arith, some, ap length (sym whole ∙ h.0), length-append front rest))
-read_first c depth (d ∷ commands) command bytes front rest whole spelled some h =
-    let same = no_spelling_begins_another command d front h.0 rest h.1 spelled h.2.spelled (sym whole ∙ h.2.whole) in
+read_first c depth [] command bytes prefix rest whole spelled some h = absurd (omega (arith, some, ap length (sym whole ∙ h.0), length-append prefix rest))
+read_first c depth (d ∷ commands) command bytes prefix rest whole spelled some h =
+    let same = no_spelling_begins_another command d prefix h.0 rest h.1 spelled h.2.spelled (sym whole ∙ h.2.whole) in
     let is : command ≡ d = spelling_tells_the_command command d h.0 (subst (Spells command) same.0 spelled) h.2.spelled in
     record {
       depth = depth;
       right = ap (command_fault c depth) is ∙ h.3;
-      sound = (depth_behind depth d, commands, subst (λ (b : List ℕ). AreSoundFrom c (depth_behind depth d) commands b) (sym same.1) h.4);
+      sound = (open_after depth d, commands, subst (λ (b : List ℕ). AreSoundFrom c (open_after depth d) commands b) (sym same.1) h.4);
     }
 
 sound_on : (c : ℕ) (text : List ℕ) (at end : ℕ) (command : DviCommand) → at < end → end ≤ length text → Spells command (slice_range text at end)
@@ -167,12 +167,12 @@ pub entered_levels : (bytes : List ℕ) (level outside : Frame) (outer : List Fr
 entered_levels bytes level outside outer n part acts key gap fine =
     let text : text_in (seen_current outside.current) level.code ≡ acts.text =
     ap (λ (x : Current). text_in x level.code) acts.known ∙ ap (λ (o : Option (List ℕ)). unwrap_or o []) acts.packet in
-    let all : drop level.pos (text_in (seen_current outside.current) level.code) ≡ acts.text = ap (λ (p : ℕ). drop p (text_in (seen_current outside.current) level.code)) acts.front ∙ text in (
+    let all : drop level.pos (text_in (seen_current outside.current) level.code) ≡ acts.text = ap (λ (p : ℕ). drop p (text_in (seen_current outside.current) level.code)) acts.prefix ∙ text in (
       record {
         key = acts.key;
         font = acts.font;
         known = acts.known;
-        inside = omega (arith, acts.front);
+        inside = omega (arith, acts.prefix);
         sound = subst (IsSoundRest level.code) (sym all) (0, acts.program.0, acts.program.1);
         keyed = key;
         gap = gap;

@@ -82,10 +82,10 @@ module _ (deep : Deeper) (place : Place) (at : ℕ) where
   look_in_one current Pop others look = absurd look
   look_in_one current _ others look = absurd look
 
-  look_in_list : (current : Current) (commands : List DviCommand) (gap : Option ℤ) (behind : Course) → IsAtLook (expand_list (expand_one deep place at) current commands (leave gap at behind))
-      → Waits current (λ now. expand_list (expand_one deep place at) now commands (leave gap at behind))
-  look_in_list current [] gap behind look = absurd (no_look_in_leave gap at behind look)
-  look_in_list current (c ∷ commands) gap behind look = look_in_one current c (λ next. expand_list (expand_one deep place at) next commands (leave gap at behind)) look
+  look_in_list : (current : Current) (commands : List DviCommand) (gap : Option ℤ) (after : Course) → IsAtLook (expand_list (expand_one deep place at) current commands (leave gap at after))
+      → Waits current (λ now. expand_list (expand_one deep place at) now commands (leave gap at after))
+  look_in_list current [] gap after look = absurd (no_look_in_leave gap at after look)
+  look_in_list current (c ∷ commands) gap after look = look_in_one current c (λ next. expand_list (expand_one deep place at) next commands (leave gap at after)) look
 
 look_in_packets : (reading : Reading) (eop at : ℕ) (current : Current) (page : List Placed) (packets : List Packet) → IsAtLook (packets_left reading eop at page current packets)
     → Waits current (λ now. packets_left reading eop at page now packets)

@@ -40,15 +40,15 @@ framed_joined at current gap (Goes members last) rest = ap (before (Flat flat.En
 framed_joined at current gap (Faults members fault) rest = refl
 
 module _ (fonts : Fonts) where
-  leave_list : (gap : Option ℤ) (at : ℕ) (behind : Course) → list_from fonts (leave gap at behind) ≡ before (leaving gap at) (list_from fonts behind)
-  leave_list None at behind = refl
-  leave_list (Some width) at behind = refl
+  leave_list : (gap : Option ℤ) (at : ℕ) (later : Course) → list_from fonts (leave gap at later) ≡ before (leaving gap at) (list_from fonts later)
+  leave_list None at later = refl
+  leave_list (Some width) at later = refl
 
   -- packets come to their lists
   abbrev ArePackets : ℕ → Deeper → Packets → Type 0
   ArePackets at None None = Unit {0}
-  ArePackets at (Some i) (Some p) = (k : FontKey) (f : FontSeen) (commands : List DviCommand) (behind : Course)
-      → list_from fonts (i k f commands behind) ≡ joined at (p k f commands) (λ last. list_from fonts behind)
+  ArePackets at (Some i) (Some p) = (k : FontKey) (f : FontSeen) (commands : List DviCommand) (later : Course)
+      → list_from fonts (i k f commands later) ≡ joined at (p k f commands) (λ last. list_from fonts later)
   ArePackets at _ _ = ⊥
 
   packet_joined : (at : ℕ) (i : FontKey → FontSeen → List DviCommand → Course → Course) (p : FontKey → FontSeen → List DviCommand → Outcome) → ArePackets at (Some i) (Some p)
@@ -56,10 +56,10 @@ module _ (fonts : Fonts) where
       → list_from fonts (packet i at k f c gap text (others (Known k (decoded.Font f)))) ≡ joined at (of_packet p at k f c gap text) (λ next. list_from fonts (others next))
   packet_joined at i p deep others k f c gap None = refl
   packet_joined at i p deep others k f c gap (Some text) =
-      let behind = others (Known k (decoded.Font f)) in
+      let later = others (Known k (decoded.Font f)) in
       let inside = p k f (commands_of text) in
-      ap (before (Flat flat.Enter None at ∷ [])) (deep k f (commands_of text) (leave gap at behind)
-      ∙ joined_same at inside (λ last. list_from fonts (leave gap at behind)) (λ last. before (leaving gap at) (list_from fonts behind)) (λ last. leave_list gap at behind))
+      ap (before (Flat flat.Enter None at ∷ [])) (deep k f (commands_of text) (leave gap at later)
+      ∙ joined_same at inside (λ last. list_from fonts (leave gap at later)) (λ last. before (leaving gap at) (list_from fonts later)) (λ last. leave_list gap at later))
       ∙ sym (framed_joined at (Known k (decoded.Font f)) gap inside (λ next. list_from fonts (others next)))
 
   virtual_joined : (at : ℕ) (d : Deeper) (p : Packets) → ArePackets at d p → (others : Current → Course) (k : FontKey) (f : FontSeen) (c : ℤ) (gap : Option ℤ)
@@ -132,23 +132,23 @@ module _ (fonts : Fonts) where
 
   -- ---- packets
 
-  packets_joined : (at : ℕ) (d : Deeper) (p : Packets) (place : Place) → ArePackets at d p → (commands : List DviCommand) (current : Current) (behind : Course)
-      → list_from fonts (expand_list (expand_one d place at) current commands behind)
-      ≡ joined at (of_list (of_command fonts p place at) current commands) (λ last. list_from fonts behind)
-  packets_joined at d p place deep [] current behind = refl
-  packets_joined at d p place deep (c ∷ commands) current behind =
+  packets_joined : (at : ℕ) (d : Deeper) (p : Packets) (place : Place) → ArePackets at d p → (commands : List DviCommand) (current : Current) (later : Course)
+      → list_from fonts (expand_list (expand_one d place at) current commands later)
+      ≡ joined at (of_list (of_command fonts p place at) current commands) (λ last. list_from fonts later)
+  packets_joined at d p place deep [] current later = refl
+  packets_joined at d p place deep (c ∷ commands) current later =
       let one = of_command fonts p place at in
       let course = expand_list (expand_one d place at) in
-      one_joined at d p deep (λ next. course next commands behind) place current c
-      ∙ joined_same at (one current c) (λ next. list_from fonts (course next commands behind)) (λ next. joined at (of_list one next commands) (λ last. list_from fonts behind))
-      (λ next. packets_joined at d p place deep commands next behind)
-      ∙ sym (followed_joined at (one current c) (λ next. of_list one next commands) (λ last. list_from fonts behind))
+      one_joined at d p deep (λ next. course next commands later) place current c
+      ∙ joined_same at (one current c) (λ next. list_from fonts (course next commands later)) (λ next. joined at (of_list one next commands) (λ last. list_from fonts later))
+      (λ next. packets_joined at d p place deep commands next later)
+      ∙ sym (followed_joined at (one current c) (λ next. of_list one next commands) (λ last. list_from fonts later))
 
   are_packets : (n at : ℕ) → ArePackets at (deeper n at) (packets_in fonts n at)
   unfolding deeper packets_in
   are_packets zero at = tt
-  are_packets (suc n) at = λ k f commands behind.
-      packets_joined at (deeper n at) (packets_in fonts n at) (InPacket k f) (are_packets n at) commands (first_font f) behind
+  are_packets (suc n) at = λ k f commands later.
+      packets_joined at (deeper n at) (packets_in fonts n at) (InPacket k f) (are_packets n at) commands (first_font f) later
 
   -- ---- a page
 

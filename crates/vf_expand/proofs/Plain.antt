@@ -10,11 +10,11 @@ use Rattle.vf_expand.specs.Acts.{SetsPlain}
 
 module _ (current : Current) (k : FontKey) (f : FontSeen) (n : ℕ) (c w : ℤ) (g : Glyph) (known : current ≡ Known k (decoded.Font f)) (is : c ≡ pos n)
     (width : width_of f c ≡ Some w) (packed : is_virtual_of f ≡ false) (glyph : glyph_at f n ≡ Some g) where
-  sets_at : (place : Place) (m at : ℕ) (behind : Course) → with_width (deeper m at) at k f (pos n) false (width_of f (pos n)) behind ≡ Gives (Char k n w false) (Some g) at behind
-  sets_at place m at behind =
-      ap (λ (o : Option ℤ). with_width (deeper m at) at k f (pos n) false o behind) (sym (ap (width_of f) is) ∙ width)
-      ∙ ap (λ (b : Bool). by_kind (deeper m at) at k f (pos n) w false b behind) packed
-      ∙ ap (λ (o : Option Glyph). with_glyph at k (pos n) w false o behind) glyph
+  sets_at : (place : Place) (m at : ℕ) (after : Course) → with_width (deeper m at) at k f (pos n) false (width_of f (pos n)) after ≡ Gives (Char k n w false) (Some g) at after
+  sets_at place m at after =
+      ap (λ (o : Option ℤ). with_width (deeper m at) at k f (pos n) false o after) (sym (ap (width_of f) is) ∙ width)
+      ∙ ap (λ (b : Bool). by_kind (deeper m at) at k f (pos n) w false b after) packed
+      ∙ ap (λ (o : Option Glyph). with_glyph at k (pos n) w false o after) glyph
 
   pub sets_plain : SetsPlain current (pos n) k w
   sets_plain = λ place m. record {

@@ -136,8 +136,8 @@ module _ (v : Doing) (undue : v.due ≡ None) (room : 0 < v.budget) (n at : ℕ)
 
     text_is : acts.text ≡ drop level.pos (text_in v.current level.code)
     text_is =
-        let front = ap (λ (p : ℕ). drop p acts.text) (sym acts.front) in
-        front ∙ sym (ap (λ (o : Option (List ℕ)). drop level.pos (unwrap_or o [])) acts.packet)
+        let prefix = ap (λ (p : ℕ). drop p acts.text) (sym acts.prefix) in
+        prefix ∙ sym (ap (λ (o : Option (List ℕ)). drop level.pos (unwrap_or o [])) acts.packet)
         ∙ ap (λ (x : Current). drop level.pos (text_in x level.code)) (sym acts.known)
 
     below : n - 1 ≡ MOST_DEEP - suc (depth rest)
@@ -146,11 +146,11 @@ module _ (v : Doing) (undue : v.due ≡ None) (room : 0 < v.budget) (n at : ℕ)
     inside : expand_list (expand_one (deeper (n - 1) at) (InPacket acts.key acts.font) at) (first_font acts.font) (commands_of acts.text) (leave level.gap at (others v.current))
         ≡ stack_left v.reading v.eop at (seen_current level.current) entered
     inside =
-        let behind = leave level.gap at (others v.current) in
-        ap (λ (m : ℕ). expand_list (expand_one (deeper m at) (InPacket acts.key acts.font) at) (first_font acts.font) (commands_of acts.text) behind) below
-        ∙ ap (λ (x : Current). expand_list (expand_one (deeper (MOST_DEEP - suc (depth rest)) at) (place_in v.reading x) at) (first_font acts.font) (commands_of acts.text) behind) (sym acts.known)
-        ∙ ap (λ (x : Current). expand_list (expand_one (deeper (MOST_DEEP - suc (depth rest)) at) (place_in v.reading v.current) at) x (commands_of acts.text) behind) (sym acts.first)
-        ∙ ap (λ (text : List ℕ). expand_list (expand_one (deeper (MOST_DEEP - suc (depth rest)) at) (place_in v.reading v.current) at) (seen_current level.current) (commands_of text) behind) text_is
+        let later = leave level.gap at (others v.current) in
+        ap (λ (m : ℕ). expand_list (expand_one (deeper m at) (InPacket acts.key acts.font) at) (first_font acts.font) (commands_of acts.text) later) below
+        ∙ ap (λ (x : Current). expand_list (expand_one (deeper (MOST_DEEP - suc (depth rest)) at) (place_in v.reading x) at) (first_font acts.font) (commands_of acts.text) later) (sym acts.known)
+        ∙ ap (λ (x : Current). expand_list (expand_one (deeper (MOST_DEEP - suc (depth rest)) at) (place_in v.reading v.current) at) x (commands_of acts.text) later) (sym acts.first)
+        ∙ ap (λ (text : List ℕ). expand_list (expand_one (deeper (MOST_DEEP - suc (depth rest)) at) (place_in v.reading v.current) at) (seen_current level.current) (commands_of text) later) text_is
 
     pub enter_step : GivesOne v (record v { at = at; budget = v.budget - 1; marked = false; current = seen_current level.current; stack = entered }) flat.Enter
     enter_step = record {
@@ -175,9 +175,9 @@ module _ (v : Doing) (undue : v.due ≡ None) (p : Packet) (outer : Stack) (insi
   unfolding course_left
   leaves room ended =
       let one = expand_one (deeper (MOST_DEEP - suc (depth outer)) v.at) (place_in v.reading p.outside) v.at in
-      let behind = stack_left v.reading v.eop v.at p.outside outer in
-      give_cut v.budget _ (due_left p.gap v.at behind) flat.Leave None v.at room
-      (ap (λ (commands : List DviCommand). expand_list one v.current commands (leave p.gap v.at behind)) ended ∙ leave_is p.gap v.at behind)
+      let later = stack_left v.reading v.eop v.at p.outside outer in
+      give_cut v.budget _ (due_left p.gap v.at later) flat.Leave None v.at room
+      (ap (λ (commands : List DviCommand). expand_list one v.current commands (leave p.gap v.at later)) ended ∙ leave_is p.gap v.at later)
 
   pub leave_step : 0 < v.budget → p.commands ≡ [] → GivesOne v (record v { budget = v.budget - 1; marked = false; due = p.gap; current = p.outside; stack = outer }) flat.Leave
   leave_step room ended = record {

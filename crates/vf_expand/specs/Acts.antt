@@ -70,9 +70,11 @@ pub record IsMark (part : Part) (current : course.Current) (f : FlatCommand) : T
   pub known : current ≡ course.Known key font
   pub char : f ≡ Char key code width put
   pub has : glyph_in (Some font) code ≡ Some glyph
-  pub gives : (at : ℕ) (others : course.Current → Course) → part current at others ≡ Gives f (Some glyph) at (others current)
+  pub gives : (at : ℕ) (others : course.Current → Course)
+      → part current at others ≡ Gives f (Some glyph) at (others current)
 
--- the front of a packet of the font that was found, where one packet fewer may then stand inside it
+-- the beginning of a packet of the font that was found, where one packet fewer may then stand
+-- inside it
 pub record IsEntry (n : ℕ) (part : Part) (current : course.Current) (level : Frame) : Type 0 where
   pub key : FontKey
   pub font : FontSeen
@@ -81,34 +83,48 @@ pub record IsEntry (n : ℕ) (part : Part) (current : course.Current) (level : F
   pub some : 0 < n
   pub packet : packet_of font level.code ≡ Some text
   pub program : IsProgram level.code text
-  pub front : level.pos ≡ 0
+  pub prefix : level.pos ≡ 0
   pub first : seen_current level.current ≡ first_font font
   pub gives : (at : ℕ) (others : course.Current → Course) → part current at others
-      ≡ plain flat.Enter at (expand_list (expand_one (deeper (n - 1) at) (InPacket key font) at) (first_font font) (commands_of text) (leave level.gap at (others current)))
+      ≡ plain flat.Enter at (expand_list (expand_one (deeper (n - 1) at) (InPacket key font) at)
+      (first_font font) (commands_of text) (leave level.gap at (others current)))
 
 -- any flat command but a character
 abbrev pub IsPlain : FlatCommand → Type 0
 IsPlain f = (k : FontKey) (c : ℕ) (width : ℤ) (put : Bool) → f ≡ Char k c width put → ⊥
 
--- an act is what a command gives, whatever stands after it, where so many packets may stand inside one another
+-- an act is what a command gives, whatever stands after it, where n packets may stand inside one
+-- another
 abbrev pub IsPart : ℕ → Part → course.Current → Act → Type 0
-IsPart n part current (Flat f) = (at : ℕ) (others : course.Current → Course) → part current at others ≡ plain (seen_flat f) at (others current)
+IsPart n part current (Flat f) =
+    (at : ℕ) (others : course.Current → Course) → part current at others ≡ plain (seen_flat f) at
+    (others current)
 IsPart n part current (Mark f) = IsMark part current (seen_flat f)
-IsPart n part current (Change key) = (at : ℕ) (others : course.Current → Course) → part current at others ≡ plain flat.Skip at (others (course.Chosen (arc_value key)))
+IsPart n part current (Change key) =
+    (at : ℕ) (others : course.Current → Course) → part current at others ≡ plain flat.Skip at
+    (others (course.Chosen (arc_value key)))
 IsPart n part current (Ask key) = (current ≡ course.Chosen (arc_value key))
-    × ((at : ℕ) (others : course.Current → Course) → part current at others ≡ Asks (arc_value key) at (λ d. part (course.Known (arc_value key) d) at others))
+    × ((at : ℕ) (others : course.Current → Course)
+    → part current at others ≡ Asks (arc_value key) at (λ d. part (course.Known (arc_value key) d)
+    at others))
 IsPart n part current (Enter level) = IsEntry n part current level
-IsPart n part current (Stop fault) = (at : ℕ) (others : course.Current → Course) → part current at others ≡ Stops (seen_fault fault) at
+IsPart n part current (Stop fault) =
+    (at : ℕ) (others : course.Current → Course) → part current at others ≡ Stops (seen_fault fault)
+    at
 
 abbrev pub Acts : Place → ℕ → course.Current → DviCommand → Act → Type 0
-Acts place n current c act = IsPart n (λ now at others. expand_one (deeper n at) place at now c others) current act
+Acts place n current c act =
+    IsPart n (λ now at others. expand_one (deeper n at) place at now c others) current act
 
 abbrev pub CharacterActs : Place → ℕ → course.Current → ℤ → Bool → Act → Type 0
-CharacterActs place n current c put act = IsPart n (λ now at others. character (deeper n at) place at now c put others) current act
+CharacterActs place n current c put act =
+    IsPart n (λ now at others. character (deeper n at) place at now c put others) current act
 
 -- a character of a virtual font that was found
 abbrev pub VirtualActs : ℕ → FontKey → FontSeen → ℤ → Option ℤ → Act → Type 0
-VirtualActs n k f c gap act = IsPart n (λ now at others. virtual (deeper n at) at k f c gap (others now)) (course.Known k (decoded.Font f)) act
+VirtualActs n k f c gap act =
+    IsPart n (λ now at others. virtual (deeper n at) at k f c gap (others now))
+    (course.Known k (decoded.Font f)) act
 
 -- a character of a font that was found, wherever it stands
 abbrev pub FoundActs : ℕ → FontKey → Decoded → ℤ → Bool → Act → Type 0
@@ -116,10 +132,13 @@ FoundActs n k d c put act = (place : Place) → CharacterActs place n (course.Kn
 
 -- a character that is set, wherever it stands, is one of a packed font with this key and this width
 abbrev pub SetsPlain : course.Current → ℤ → FontKey → ℤ → Type 0
-SetsPlain current c key width = (place : Place) (n : ℕ) → IsMark (λ now at others. character (deeper n at) place at now c false others) current (Char key (unsigned_abs c) width false)
+SetsPlain current c key width =
+    (place : Place) (n : ℕ) → IsMark (λ now at others. character (deeper n at)
+    place at now c false others) current (Char key (unsigned_abs c) width false)
 
 abbrev pub ChangeActs : Place → ℕ → course.Current → ℤ → Act → Type 0
-ChangeActs place n current number act = IsPart n (λ now at others. font_change place at number others) current act
+ChangeActs place n current number act =
+    IsPart n (λ now at others. font_change place at number others) current act
 
 -- a flat command may be handed to a pen, and a key to a decoder
 abbrev pub FitsAct : Act → Type 0

@@ -1,8 +1,9 @@
--- A page as flat commands and look-ups of fonts: Knuth, DVItype, "Translation to symbolic form"; Knuth, VFtoVP, "Virtual fonts"; and the
--- task of Breitenlohner's DVIcopy, "Terminating the page", "Interpreting DVI commands" and "Interpreting VF packets". By cases on the list
--- of the page's commands; the commands of a packet are expanded where its character stands.
--- What a page becomes depends on fonts, each from its look-up on. So it is seen as a course: what comes next, and after a look-up what
--- each font that may be found makes of the rest.
+-- A page as flat commands and look-ups of fonts: Knuth, DVItype, "Translation to symbolic form";
+-- Knuth, VFtoVP, "Virtual fonts"; and the task of Breitenlohner's DVIcopy, "Terminating the page",
+-- "Interpreting DVI commands" and "Interpreting VF packets". By cases on the list of the page's
+-- commands; the commands of a packet are expanded where its character stands. What a page becomes
+-- depends on fonts, each from its look-up on. So it is seen as a course: what comes next, and after
+-- a look-up what each font that may be found makes of the rest.
 use Rattle.std.specs.Prelude.{ℕ, zero, suc, ◌/◌, ℤ, pos, negsuc, Bool, true, false, List, [], ◌∷◌, Option, Some, None, unwrap_or}
 use Rattle.outside.specs.declared.keys.FontKey.{FontKey}
 use Rattle.fix_word.specs.Scale.{scale}
@@ -19,8 +20,9 @@ use Rattle.font_decode.specs.declared.decoded.Decoded.TheVariants as decoded
 use Rattle.vf_expand.specs.Faults.{PageFaultSeen}
 use Rattle.vf_expand.specs.Faults as fault
 
--- what comes: a flat command, that of a character with its glyph; a look-up of a key, with what each font makes of the rest; or the end.
--- Each has the position of the page's own command that it comes from; a page's end has that of its Eop
+-- what comes: a flat command, that of a character with its glyph; a look-up of a key, with what
+-- each font makes of the rest; or the end. Each has the position of the page's own command that it
+-- comes from; a page's end has that of its Eop
 pub data Course : Type 0 where
   Gives : FlatCommand → Option Glyph → ℕ → Course → Course
   Asks : FontKey → ℕ → (Decoded → Course) → Course
@@ -35,7 +37,8 @@ pub data Place : Type 0 where
   OnPage : Reading → Place
   InPacket : FontKey → FontSeen → Place
 
--- the current font: none, a key that was not looked up since it became current, or a key with what was found
+-- the current font: none, a key that was not looked up since it became current, or a key with what
+-- was found
 pub data Current : Type 0 where
   NoFont : Current
   Chosen : FontKey → Current
@@ -65,8 +68,10 @@ no_local k None n = fault.NoLocalFont k None
 no_local k (Some first) n = fault.NoLocalFont k (Some n)
 
 abbrev pub font_change : Place → ℕ → ℤ → (Current → Course) → Course
-font_change (OnPage reading) at n others = changed_to (font_table reading n) (fault.NoFont n) at others
-font_change (InPacket k f) at n others = changed_to (local_of f n) (no_local k (first_local_of f) n) at others
+font_change (OnPage reading) at n others =
+    changed_to (font_table reading n) (fault.NoFont n) at others
+font_change (InPacket k f) at n others =
+    changed_to (local_of f n) (no_local k (first_local_of f) n) at others
 
 -- the first local font is current as a packet begins, and none where there are no local fonts
 abbrev pub local_key : FontSeen → Option ℤ → Option FontKey
@@ -82,7 +87,8 @@ first_font f = chosen (local_key f (first_local_of f))
 
 -- ---- virtual characters
 
--- what the commands of a packet of a font become, before what comes after them; None where no packet may stand any deeper
+-- what the commands of a packet of a font become, before what comes after them; None where no
+-- packet may stand any deeper
 abbrev pub Deeper : Type 0
 Deeper = Option (FontKey → FontSeen → List DviCommand → Course → Course)
 
@@ -93,12 +99,14 @@ gap_of width false = Some width
 
 -- after a packet's commands
 abbrev pub leave : Option ℤ → ℕ → Course → Course
-leave None at behind = plain flat.Leave at behind
-leave (Some width) at behind = plain flat.Leave at (plain (flat.Advance width) at behind)
+leave None at after = plain flat.Leave at after
+leave (Some width) at after = plain flat.Leave at (plain (flat.Advance width) at after)
 
-abbrev pub packet : (FontKey → FontSeen → List DviCommand → Course → Course) → ℕ → FontKey → FontSeen → ℤ → Option ℤ → Option (List ℕ) → Course → Course
-packet inner at k f c gap None behind = Stops (fault.NoPacket k c) at
-packet inner at k f c gap (Some text) behind = plain flat.Enter at (inner k f (commands_of text) (leave gap at behind))
+abbrev pub packet : (FontKey → FontSeen → List DviCommand → Course → Course) → ℕ → FontKey
+    → FontSeen → ℤ → Option ℤ → Option (List ℕ) → Course → Course
+packet inner at k f c gap None after = Stops (fault.NoPacket k c) at
+packet inner at k f c gap (Some text) after =
+    plain flat.Enter at (inner k f (commands_of text) (leave gap at after))
 
 -- the code as a number from 0
 abbrev pub number_of : ℤ → ℕ
@@ -107,28 +115,32 @@ number_of (negsuc c) = 0
 
 -- too deep comes before a packet that isn't there
 abbrev pub virtual : Deeper → ℕ → FontKey → FontSeen → ℤ → Option ℤ → Course → Course
-virtual None at k f c gap behind = Stops (fault.Depth k c) at
-virtual (Some inner) at k f c gap behind = packet inner at k f c gap (packet_of f (number_of c)) behind
+virtual None at k f c gap after = Stops (fault.Depth k c) at
+virtual (Some inner) at k f c gap after =
+    packet inner at k f c gap (packet_of f (number_of c)) after
 
 -- ---- characters
 
 abbrev pub with_glyph : ℕ → FontKey → ℤ → ℤ → Bool → Option Glyph → Course → Course
-with_glyph at k c width put None behind = Stops (fault.NoGlyph k c) at
-with_glyph at k c width put (Some g) behind = Gives (flat.Char k (number_of c) width put) (Some g) at behind
+with_glyph at k c width put None after = Stops (fault.NoGlyph k c) at
+with_glyph at k c width put (Some g) after =
+    Gives (flat.Char k (number_of c) width put) (Some g) at after
 
 -- of a packed font, or of a virtual one
 abbrev pub by_kind : Deeper → ℕ → FontKey → FontSeen → ℤ → ℤ → Bool → Bool → Course → Course
-by_kind deeper at k f c width put false behind = with_glyph at k c width put (glyph_at f (number_of c)) behind
-by_kind deeper at k f c width put true behind = virtual deeper at k f c (gap_of width put) behind
+by_kind deeper at k f c width put false after =
+    with_glyph at k c width put (glyph_at f (number_of c)) after
+by_kind deeper at k f c width put true after = virtual deeper at k f c (gap_of width put) after
 
 abbrev pub with_width : Deeper → ℕ → FontKey → FontSeen → ℤ → Bool → Option ℤ → Course → Course
-with_width deeper at k f c put None behind = Stops (fault.NoCharacter k c) at
-with_width deeper at k f c put (Some width) behind = by_kind deeper at k f c width put (is_virtual_of f) behind
+with_width deeper at k f c put None after = Stops (fault.NoCharacter k c) at
+with_width deeper at k f c put (Some width) after =
+    by_kind deeper at k f c width put (is_virtual_of f) after
 
 -- a character of the font that was found
 abbrev pub found : Deeper → ℕ → FontKey → Decoded → ℤ → Bool → Course → Course
-found deeper at k (decoded.Fault f) c put behind = Stops (fault.Font k f) at
-found deeper at k (decoded.Font f) c put behind = with_width deeper at k f c put (width_of f c) behind
+found deeper at k (decoded.Fault f) c put after = Stops (fault.Font k f) at
+found deeper at k (decoded.Font f) c put after = with_width deeper at k f c put (width_of f c) after
 
 -- a character where no font is current; in a packet the font then has no local fonts
 abbrev pub no_font : Place → PageFaultSeen
@@ -138,7 +150,8 @@ no_font (InPacket k f) = fault.NoLocalFont k None
 -- the current font is looked up at the first character after its change, and there alone
 abbrev pub character : Deeper → Place → ℕ → Current → ℤ → Bool → (Current → Course) → Course
 character deeper place at NoFont c put others = Stops (no_font place) at
-character deeper place at (Chosen k) c put others = Asks k at (λ d. found deeper at k d c put (others (Known k d)))
+character deeper place at (Chosen k) c put others =
+    Asks k at (λ d. found deeper at k d c put (others (Known k d)))
 character deeper place at (Known k d) c put others = found deeper at k d c put (others (Known k d))
 
 -- ---- commands
@@ -148,14 +161,22 @@ abbrev pub expand_one : Deeper → Place → ℕ → Current → DviCommand → 
 expand_one deeper place at current (Set c) others = character deeper place at current c false others
 expand_one deeper place at current (Put c) others = character deeper place at current c true others
 expand_one deeper place at current (Font n) others = font_change place at n others
-expand_one deeper place at current (SetRule a b) others = plain (flat.Rule (dimension place a) (dimension place b) false) at (others current)
-expand_one deeper place at current (PutRule a b) others = plain (flat.Rule (dimension place a) (dimension place b) true) at (others current)
-expand_one deeper place at current (Right b) others = plain (flat.Right (dimension place b) (space current)) at (others current)
-expand_one deeper place at current (W b) others = plain (flat.W (dimension place b) (space current)) at (others current)
-expand_one deeper place at current (X b) others = plain (flat.X (dimension place b) (space current)) at (others current)
-expand_one deeper place at current (Down a) others = plain (flat.Down (dimension place a) (space current)) at (others current)
-expand_one deeper place at current (Y a) others = plain (flat.Y (dimension place a) (space current)) at (others current)
-expand_one deeper place at current (Z a) others = plain (flat.Z (dimension place a) (space current)) at (others current)
+expand_one deeper place at current (SetRule a b) others =
+    plain (flat.Rule (dimension place a) (dimension place b) false) at (others current)
+expand_one deeper place at current (PutRule a b) others =
+    plain (flat.Rule (dimension place a) (dimension place b) true) at (others current)
+expand_one deeper place at current (Right b) others =
+    plain (flat.Right (dimension place b) (space current)) at (others current)
+expand_one deeper place at current (W b) others =
+    plain (flat.W (dimension place b) (space current)) at (others current)
+expand_one deeper place at current (X b) others =
+    plain (flat.X (dimension place b) (space current)) at (others current)
+expand_one deeper place at current (Down a) others =
+    plain (flat.Down (dimension place a) (space current)) at (others current)
+expand_one deeper place at current (Y a) others =
+    plain (flat.Y (dimension place a) (space current)) at (others current)
+expand_one deeper place at current (Z a) others =
+    plain (flat.Z (dimension place a) (space current)) at (others current)
 expand_one deeper place at current W0 others = plain (flat.W0 (space current)) at (others current)
 expand_one deeper place at current X0 others = plain (flat.X0 (space current)) at (others current)
 expand_one deeper place at current Y0 others = plain (flat.Y0 (space current)) at (others current)
@@ -164,15 +185,21 @@ expand_one deeper place at current Push others = plain flat.Push at (others curr
 expand_one deeper place at current Pop others = plain flat.Pop at (others current)
 expand_one deeper place at current _ others = plain flat.Skip at (others current)
 
--- the commands of a packet, one after another, and what comes after them; the font that is then current is the packet's own
-abbrev pub expand_list : (Current → DviCommand → (Current → Course) → Course) → Current → List DviCommand → Course → Course
-expand_list one current [] behind = behind
-expand_list one current (c ∷ commands) behind = one current c (λ next. expand_list one next commands behind)
+-- the commands of a packet, one after another, and what comes after them; the font that is then
+-- current is the packet's own
+abbrev pub expand_list : (Current → DviCommand → (Current → Course) → Course) → Current
+    → List DviCommand → Course → Course
+expand_list one current [] after = after
+expand_list one current (c ∷ commands) after =
+    one current c (λ next. expand_list one next commands after)
 
--- where so many packets may still stand inside one another; all that a packet gives has the position of the page's own command
+-- where n packets may still stand inside one another; all that a packet gives has the position of
+-- the page's own command
 unfoldable pub deeper : ℕ → ℕ → Deeper
 deeper zero at = None
-deeper (suc n) at = Some (λ k f commands behind. expand_list (expand_one (deeper n at) (InPacket k f) at) (first_font f) commands behind)
+deeper (suc n) at =
+    Some (λ k f commands after. expand_list (expand_one (deeper n at) (InPacket k f) at)
+    (first_font f) commands after)
 
 abbrev pub MOST_DEEP : ℕ
 MOST_DEEP = 10
@@ -181,9 +208,10 @@ MOST_DEEP = 10
 abbrev pub page_from : Reading → ℕ → Current → List Placed → Course
 page_from reading eop current [] = Ends eop
 page_from reading eop current (p ∷ commands) =
-    expand_one (deeper MOST_DEEP p.at) (OnPage reading) p.at current p.command (λ next. page_from reading eop next commands)
+    expand_one (deeper MOST_DEEP p.at) (OnPage reading) p.at current p.command (λ next.
+    page_from reading eop next commands)
 
--- ---- at most so many flat commands: where no more may be given, only the end may stand
+-- ---- at most n flat commands: where no more may be given, only the end may stand
 
 abbrev pub cut : ℕ → Course → Course
 cut n (Ends at) = Ends at
@@ -200,4 +228,5 @@ MOST = 16777216
 -- ---- the page of a document with a number, from 0
 
 abbrev pub course_of : Reading → ℕ → Course
-course_of reading i = cut MOST (page_from reading (unwrap_or (eop_at i reading) 0) NoFont (page_commands i reading))
+course_of reading i =
+    cut MOST (page_from reading (unwrap_or (eop_at i reading) 0) NoFont (page_commands i reading))

@@ -1,4 +1,5 @@
--- A page that is being expanded, as its calls see it: what stands to be expanded, and what the last step was.
+-- A page that is being expanded, as its calls see it: what stands to be expanded, and what the last
+-- step was.
 use Rattle.std.specs.Prelude.{◌≡◌, ℕ, suc, ◌+◌, ◌-◌, ℤ, Bool, List, [], ◌∷◌, length, Option, Some, None, if◌then◌else◌}
 use Rattle.dvi_commands.specs.Spelling.{DviCommand}
 use Rattle.dvi_commands.specs.Reading.{Placed}
@@ -10,14 +11,15 @@ use Rattle.font_decode.specs.declared.decoded.Decoded.{Decoded}
 use Rattle.font_decode.specs.declared.decoded.Decoded.TheVariants as decoded
 use Rattle.vf_expand.specs.Course.{Course, Gives, Asks, Ends, Stops, plain, Place, OnPage, InPacket, Current, NoFont, Chosen, Known, MOST_DEEP, deeper, expand_one, expand_list, leave, page_from, cut}
 
--- a packet that is read: the font that is current outside it, which is its own, how far its character moves after it, and the commands
--- that are left
+-- a packet that is read: the font that is current outside it, which is its own, how far its
+-- character moves after it, and the commands that are left
 pub record Packet : Type 0 where
   pub outside : Current
   pub gap : Option ℤ
   pub commands : List DviCommand
 
--- what is read: the page's own commands that are left, and the packets inside one another, the innermost first
+-- what is read: the page's own commands that are left, and the packets inside one another, the
+-- innermost first
 pub record Stack : Type 0 where
   pub page : List Placed
   pub packets : List Packet
@@ -47,23 +49,26 @@ abbrev pub place_in : Reading → Current → Place
 place_in reading (Known k (decoded.Font f)) = InPacket k f
 place_in reading _ = OnPage reading
 
--- what is left of the packets and of the page, where the page's own command at a position is being expanded
+-- what is left of the packets and of the page, where the page's own command at a position is being
+-- expanded
 abbrev pub packets_left : Reading → ℕ → ℕ → List Placed → Current → List Packet → Course
 packets_left reading eop at commands current [] = page_from reading eop current commands
 packets_left reading eop at commands current (p ∷ outer) =
-    expand_list (expand_one (deeper (MOST_DEEP - suc (length outer)) at) (place_in reading p.outside) at) current p.commands
+    expand_list (expand_one (deeper (MOST_DEEP - suc (length outer)) at)
+    (place_in reading p.outside) at) current p.commands
     (leave p.gap at (packets_left reading eop at commands p.outside outer))
 
 abbrev pub stack_left : Reading → ℕ → ℕ → Current → Stack → Course
-stack_left reading eop at current stack = packets_left reading eop at stack.page current stack.packets
+stack_left reading eop at current stack =
+    packets_left reading eop at stack.page current stack.packets
 
 -- a motion that is still to come after a packet's end
 abbrev pub due_left : Option ℤ → ℕ → Course → Course
 due_left None at rest = rest
 due_left (Some width) at rest = plain (Advance width) at rest
 
--- `at` is the position of the last step, and `budget` how many flat commands may still be given. The last step gave a character where
--- it is marked
+-- `at` is the position of the last step, and `budget` how many flat commands may still be given.
+-- The last step gave a character where it is marked
 pub record Doing : Type 0 where
   pub reading : Reading
   pub eop : ℕ
@@ -76,7 +81,8 @@ pub record Doing : Type 0 where
 
 -- what is still to come
 unfoldable pub course_left : Reading → ℕ → ℕ → ℕ → Option ℤ → Current → Stack → Course
-course_left reading eop at budget due current stack = cut budget (due_left due at (stack_left reading eop at current stack))
+course_left reading eop at budget due current stack =
+    cut budget (due_left due at (stack_left reading eop at current stack))
 
 abbrev pub left : Doing → Course
 left v = course_left v.reading v.eop v.at v.budget v.due v.current v.stack

@@ -19,56 +19,79 @@ use Rattle.vf_expand.specs.PageLists.{AtEnd, AtFault, Fonts, before, full_list, 
 
 -- whatever the fonts are, the course of a page comes to its list
 abbrev pub CoursesAreLists : Type 0
-CoursesAreLists = (fonts : Fonts) (reading : Reading) (i : ℕ) → list_from fonts (course_of reading i) ≡ list_of fonts reading i
+CoursesAreLists =
+    (fonts : Fonts) (reading : Reading) (i : ℕ) → list_from fonts (course_of reading i)
+    ≡ list_of fonts reading i
 
 -- the fonts of a library
 abbrev pub AreFontsIn : library.Files → Units → Fonts → Type 0
 AreFontsIn l u fonts = (k : FontKey) → IsFontIn l u k (fonts k)
 
 abbrev pub LibrariesHaveFonts : Type 0
-LibrariesHaveFonts = (l : library.Files) (u : Units) → AreByteFiles l → (fonts : Fonts) × AreFontsIn l u fonts
+LibrariesHaveFonts =
+    (l : library.Files) (u : Units) → AreByteFiles l → (fonts : Fonts) × AreFontsIn l u fonts
 
--- members that are followed over a library are the first of the page's list, and what is left of the course is the rest of it
+-- members that are followed over a library are the first of the page's list, and what is left of
+-- the course is the rest of it
 abbrev pub MembersAreTheList : Type 0
-MembersAreTheList = (l : library.Files) (u : Units) (fonts : Fonts) (reading : Reading) (i : ℕ) (members : List Member) (to : Course) → AreFontsIn l u fonts
-    → Leads (IsFontIn l u) (course_of reading i) members to → list_of fonts reading i ≡ before members (list_from fonts to)
+MembersAreTheList =
+    (l : library.Files) (u : Units) (fonts : Fonts) (reading : Reading) (i : ℕ)
+    (members : List Member) (to : Course) → AreFontsIn l u fonts
+    → Leads (IsFontIn l u) (course_of reading i) members to
+    → list_of fonts reading i ≡ before members (list_from fonts to)
 
 -- so the look-ups of a page that was broken off are the first of the page's look-ups
 abbrev pub LooksAreThePages : Type 0
-LooksAreThePages = (l : library.Files) (u : Units) (fonts : Fonts) (reading : Reading) (i : ℕ) (members : List Member) (to : Course) → AreFontsIn l u fonts
+LooksAreThePages =
+    (l : library.Files) (u : Units) (fonts : Fonts) (reading : Reading) (i : ℕ)
+    (members : List Member) (to : Course) → AreFontsIn l u fonts
     → Leads (IsFontIn l u) (course_of reading i) members to
-    → looks_of (list_of fonts reading i).members ≡ looks_of members ++ looks_of (list_from fonts to).members
+    → looks_of (list_of fonts reading i).members ≡ looks_of members ++ looks_of
+    (list_from fonts to).members
 
 -- and a page can be followed to the end of its list
 abbrev pub ListsAreFollowed : Type 0
-ListsAreFollowed = (l : library.Files) (u : Units) (fonts : Fonts) (reading : Reading) (i : ℕ) → AreFontsIn l u fonts
-    → (to : Course) × Leads (IsFontIn l u) (course_of reading i) (list_of fonts reading i).members to
+ListsAreFollowed =
+    (l : library.Files) (u : Units) (fonts : Fonts) (reading : Reading) (i : ℕ)
+    → AreFontsIn l u fonts
+    → (to : Course) × Leads (IsFontIn l u) (course_of reading i)
+    (list_of fonts reading i).members to
     × (list_from fonts to ≡ no_more (list_of fonts reading i).ending)
 
 -- ---- worked pages
 
--- font 7, the character 65 set and put, a motion, font 7 again, and the character once more; each with its position, and Eop at 68
+-- font 7, the character 65 set and put, a motion, font 7 again, and the character once more; each
+-- with its position, and Eop at 68
 abbrev pub worked : List Placed
 worked =
-    placed 60 (Font (pos 7)) (178 ∷ []) ∷ placed 61 (Set (pos 65)) (65 ∷ []) ∷ placed 62 (Put (pos 65)) (133 ∷ 65 ∷ []) ∷ placed 64 (Right (pos 9)) (143 ∷ 9 ∷ [])
+    placed 60 (Font (pos 7)) (178 ∷ []) ∷ placed 61 (Set (pos 65))
+    (65 ∷ []) ∷ placed 62 (Put (pos 65)) (133 ∷ 65 ∷ []) ∷ placed 64 (Right (pos 9))
+    (143 ∷ 9 ∷ [])
     ∷ placed 66 (Font (pos 7)) (178 ∷ []) ∷ placed 67 (Set (pos 65)) (65 ∷ []) ∷ []
 
--- it looks its font up twice, and gives a flat command for each command; where five may be given it is too long at the second look-up
+-- it looks its font up twice, and gives a flat command for each command; where five may be given it
+-- is too long at the second look-up
 pub record IsWorked (fonts : Fonts) (reading : Reading) (k : FontKey) (g : Glyph) : Type 0 where
   pub whole : full_list fonts reading 68 NoFont worked ≡ record {
-    members = Flat flat.Skip None 60 ∷ Look k 61 ∷ Flat (flat.Char k 65 (pos 8) false) (Some g) 61 ∷ Flat (flat.Char k 65 (pos 8) true) (Some g) 62
-        ∷ Flat (flat.Right (pos 9) (pos (k.size / 6))) None 64 ∷ Flat flat.Skip None 66 ∷ Look k 67 ∷ Flat (flat.Char k 65 (pos 8) false) (Some g) 67 ∷ [];
+    members = Flat flat.Skip None 60 ∷ Look k 61 ∷ Flat (flat.Char k 65 (pos 8) false)
+        (Some g) 61 ∷ Flat (flat.Char k 65 (pos 8) true) (Some g) 62
+        ∷ Flat (flat.Right (pos 9) (pos (k.size / 6))) None 64 ∷ Flat flat.Skip None 66 ∷ Look k 67
+        ∷ Flat (flat.Char k 65 (pos 8) false) (Some g) 67 ∷ [];
     ending = AtEnd 68;
   }
-  pub cut : limited 5 (full_list fonts reading 68 NoFont worked).members (full_list fonts reading 68 NoFont worked).ending ≡ record {
-    members = Flat flat.Skip None 60 ∷ Look k 61 ∷ Flat (flat.Char k 65 (pos 8) false) (Some g) 61 ∷ Flat (flat.Char k 65 (pos 8) true) (Some g) 62
-        ∷ Flat (flat.Right (pos 9) (pos (k.size / 6))) None 64 ∷ Flat flat.Skip None 66 ∷ [];
-    ending = AtFault TooLong 67;
-  }
+  pub cut : limited 5 (full_list fonts reading 68 NoFont worked).members
+      (full_list fonts reading 68 NoFont worked).ending ≡ record {
+        members = Flat flat.Skip None 60 ∷ Look k 61 ∷ Flat (flat.Char k 65 (pos 8) false)
+            (Some g) 61 ∷ Flat (flat.Char k 65 (pos 8) true) (Some g) 62
+            ∷ Flat (flat.Right (pos 9) (pos (k.size / 6))) None 64 ∷ Flat flat.Skip None 66 ∷ [];
+        ending = AtFault TooLong 67;
+      }
 
 -- where font 7 has the key k, whose font has a width of 8 and a glyph for 65
 abbrev pub ThePageIsWorked : Type 0
-ThePageIsWorked = (fonts : Fonts) (reading : Reading) (k : FontKey) (f : FontSeen) (g : Glyph) → font_table reading (pos 7) ≡ Some k → fonts k ≡ decoded.Font f
+ThePageIsWorked =
+    (fonts : Fonts) (reading : Reading) (k : FontKey) (f : FontSeen) (g : Glyph)
+    → font_table reading (pos 7) ≡ Some k → fonts k ≡ decoded.Font f
     → width_of f (pos 65) ≡ Some (pos 8) → glyph_at f 65 ≡ Some g → IsWorked fonts reading k g
 
 -- ---- virtual characters
@@ -84,37 +107,49 @@ pub record HasPacket (f : FontSeen) (wide : ℤ) (text : List ℕ) (local : Font
 -- font 0, the character 65 set and put, and a motion; Eop at 85
 abbrev pub characters : List Placed
 characters =
-    placed 80 (Font (pos 0)) (171 ∷ []) ∷ placed 81 (Set (pos 65)) (65 ∷ []) ∷ placed 82 (Put (pos 65)) (133 ∷ 65 ∷ []) ∷ placed 83 (Right (pos 9)) (143 ∷ 9 ∷ []) ∷ []
+    placed 80 (Font (pos 0)) (171 ∷ []) ∷ placed 81 (Set (pos 65))
+    (65 ∷ []) ∷ placed 82 (Put (pos 65)) (133 ∷ 65 ∷ []) ∷ placed 83 (Right (pos 9))
+    (143 ∷ 9 ∷ []) ∷ []
 
--- its packet: the character 65 of the first local font, a motion right by a factor of -1/2^20 of the font's size, and a push and a pop
+-- its packet: the character 65 of the first local font, a motion right by a factor of -1/2^20 of
+-- the font's size, and a push and a pop
 abbrev pub a_packet : List ℕ
 a_packet = 65 ∷ 143 ∷ 255 ∷ 141 ∷ 142 ∷ []
 
--- what the packet gives, at a position: the local font is looked up once, and the motion is rounded down
+-- what the packet gives, at a position: the local font is looked up once, and the motion is rounded
+-- down
 abbrev pub packet_members : FontKey → Glyph → ℕ → List Member
 packet_members local g at =
-    Flat flat.Enter None at ∷ Look local at ∷ Flat (flat.Char local 65 (pos 3) false) (Some g) at ∷ Flat (flat.Right (negsuc 0) (pos (local.size / 6))) None at
+    Flat flat.Enter None at ∷ Look local at ∷ Flat (flat.Char local 65 (pos 3) false)
+    (Some g) at ∷ Flat (flat.Right (negsuc 0) (pos (local.size / 6))) None at
     ∷ Flat flat.Push None at ∷ Flat flat.Pop None at ∷ Flat flat.Leave None at ∷ []
 
--- the page's font is looked up once, and is current again after each packet; the character that is set moves by its own width after it
+-- the page's font is looked up once, and is current again after each packet; the character that is
+-- set moves by its own width after it
 abbrev pub ThePacketIsWorked : Type 0
-ThePacketIsWorked = (fonts : Fonts) (reading : Reading) (k local : FontKey) (f l : FontSeen) (g : Glyph) → font_table reading (pos 0) ≡ Some k → f.size ≡ 128
+ThePacketIsWorked =
+    (fonts : Fonts) (reading : Reading) (k local : FontKey) (f l : FontSeen) (g : Glyph)
+    → font_table reading (pos 0) ≡ Some k → f.size ≡ 128
     → fonts k ≡ decoded.Font f → HasPacket f (pos 6) a_packet local
     → fonts local ≡ decoded.Font l → width_of l (pos 65) ≡ Some (pos 3) → glyph_at l 65 ≡ Some g
     → full_list fonts reading 85 NoFont characters ≡ record {
-      members = (Flat flat.Skip None 80 ∷ Look k 81 ∷ packet_members local g 81) ++ (Flat (flat.Advance (pos 6)) None 81 ∷ packet_members local g 82)
+      members = (Flat flat.Skip None 80 ∷ Look k 81 ∷ packet_members local g 81)
+          ++ (Flat (flat.Advance (pos 6)) None 81 ∷ packet_members local g 82)
           ++ (Flat (flat.Right (pos 9) (pos (k.size / 6))) None 83 ∷ []);
       ending = AtEnd 85;
     }
 
--- so many packets, each of which stands in the one before it, look their font up and begin
+-- n packets, each of which stands in the one before it, look their font up and begin
 abbrev pub entered : FontKey → ℕ → ℕ → List Member
 entered k at zero = []
 entered k at (suc n) = Look k at ∷ Flat flat.Enter None at ∷ entered k at n
 
--- a font whose character sets itself: ten packets stand inside one another, and the next one is too deep
+-- a font whose character sets itself: ten packets stand inside one another, and the next one is too
+-- deep
 abbrev pub LoopsAreTooDeep : Type 0
-LoopsAreTooDeep = (fonts : Fonts) (reading : Reading) (k : FontKey) (f : FontSeen) → font_table reading (pos 0) ≡ Some k
+LoopsAreTooDeep =
+    (fonts : Fonts) (reading : Reading) (k : FontKey) (f : FontSeen)
+    → font_table reading (pos 0) ≡ Some k
     → fonts k ≡ decoded.Font f → HasPacket f (pos 8) (65 ∷ []) k
     → full_list fonts reading 85 NoFont characters ≡ record {
       members = Flat flat.Skip None 80 ∷ entered k 81 10 ++ (Look k 81 ∷ []);

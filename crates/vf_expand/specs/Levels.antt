@@ -1,5 +1,5 @@
--- The levels of an expansion: the page, and the packets inside one another. The levels outside the one that is read are a list, the
--- innermost first; the page is the last of all.
+-- The levels of an expansion: the page, and the packets inside one another. The levels outside the
+-- one that is read are a list, the innermost first; the page is the last of all.
 use Rattle.std.specs.Prelude.{◌≡◌, ℕ, ◌+◌, ◌≤◌, List, [], ◌∷◌, length, drop, unwrap_or, IfSome}
 use Rattle.outside.specs.declared.keys.FontKey.{FontKey}
 use Rattle.dvi_commands.specs.Spelling.{DviCommand}
@@ -23,9 +23,16 @@ text_in _ code = []
 
 -- a packet, by the current font outside it
 abbrev pub seen_packet : Current → Frame → Packet
-seen_packet outside f = record { outside = outside; gap = f.gap; commands = commands_of (drop f.pos (text_in outside f.code)) }
+seen_packet outside f =
+    record {
+      outside = outside;
+      gap = f.gap;
+      commands = commands_of (drop f.pos
+          (text_in outside f.code));
+    }
 
--- the page's commands that are left, by its bytes, the position of the first, the level that is read, and those outside it
+-- the page's commands that are left, by its bytes, the position of the first, the level that is
+-- read, and those outside it
 abbrev pub page_rest : List ℕ → ℕ → Frame → List Frame → List Placed
 page_rest bytes start level [] = placed_from (start + level.pos) (drop level.pos bytes)
 page_rest bytes start level (o ∷ outer) = page_rest bytes start o outer
@@ -36,7 +43,8 @@ seen_packets level [] = []
 seen_packets level (o ∷ outer) = seen_packet (seen_current o.current) level ∷ seen_packets o outer
 
 abbrev pub stack_of : List ℕ → ℕ → Frame → List Frame → Stack
-stack_of bytes start level outer = record { page = page_rest bytes start level outer; packets = seen_packets level outer }
+stack_of bytes start level outer =
+    record { page = page_rest bytes start level outer; packets = seen_packets level outer }
 
 -- a virtual font was found
 abbrev pub IsVirtual : Current → Type 0
@@ -71,7 +79,8 @@ pub record IsOnPage (bytes : List ℕ) (f : Frame) : Type 0 where
 
 -- the rest of a packet's commands
 abbrev pub IsSoundRest : ℕ → List ℕ → Type 0
-IsSoundRest code bytes = (depth : ℕ) × (commands : List DviCommand) × AreSoundFrom code depth commands bytes
+IsSoundRest code bytes =
+    (depth : ℕ) × (commands : List DviCommand) × AreSoundFrom code depth commands bytes
 
 -- the level stands in a packet of the font outside it
 pub record IsEntered (outside : Current) (f : Frame) : Type 0 where
@@ -85,4 +94,5 @@ pub record IsEntered (outside : Current) (f : Frame) : Type 0 where
 
 abbrev pub AreLevels : List ℕ → Frame → List Frame → Type 0
 AreLevels bytes level [] = IsOnPage bytes level
-AreLevels bytes level (o ∷ outer) = IsEntered (seen_current o.current) level × AreLevels bytes o outer
+AreLevels bytes level (o ∷ outer) =
+    IsEntered (seen_current o.current) level × AreLevels bytes o outer

@@ -6,7 +6,8 @@ use Rattle.pk_runs.specs.declared.glyph.Glyph.{Glyph}
 use Rattle.font_decode.specs.declared.decoded.Decoded.{Decoded}
 use Rattle.vf_expand.specs.Course.{Course, Gives, Asks}
 
--- a flat command, that of a character with its glyph, or a look-up; with the position of the page's command that it comes from
+-- a flat command, that of a character with its glyph, or a look-up; with the position of the page's
+-- command that it comes from
 pub data Member : Type 0 where
   Flat : FlatCommand → Option Glyph → ℕ → Member
   Look : FontKey → ℕ → Member
@@ -18,8 +19,11 @@ Finding = FontKey → Decoded → Type 0
 -- the members lead from a course to what is left of it, where each look-up finds a font
 abbrev pub Leads : Finding → Course → List Member → Course → Type 0
 Leads Finds from [] to = from ≡ to
-Leads Finds from (Flat f g at ∷ members) to = (rest : Course) × (from ≡ Gives f g at rest) × Leads Finds rest members to
-Leads Finds from (Look k at ∷ members) to = (rest : Decoded → Course) × (d : Decoded) × (from ≡ Asks k at rest) × Finds k d × Leads Finds (rest d) members to
+Leads Finds from (Flat f g at ∷ members) to =
+    (rest : Course) × (from ≡ Gives f g at rest) × Leads Finds rest members to
+Leads Finds from (Look k at ∷ members) to =
+    (rest : Decoded → Course) × (d : Decoded) × (from ≡ Asks k at rest) × Finds k d
+    × Leads Finds (rest d) members to
 
 -- the keys that were looked up
 abbrev pub looks_of : List Member → List FontKey

@@ -1,6 +1,7 @@
--- The whole list of a page, where it is given which font is found for each key: Knuth, DVItype, "Translation to symbolic form"; Knuth,
--- VFtoVP, "Virtual fonts"; and the task of Breitenlohner's DVIcopy, "Terminating the page", "Interpreting DVI commands" and "Interpreting
--- VF packets". By cases on the list of the page's commands; a packet's list stands where its character does.
+-- The whole list of a page, where it is given which font is found for each key: Knuth, DVItype,
+-- "Translation to symbolic form"; Knuth, VFtoVP, "Virtual fonts"; and the task of Breitenlohner's
+-- DVIcopy, "Terminating the page", "Interpreting DVI commands" and "Interpreting VF packets". By
+-- cases on the list of the page's commands; a packet's list stands where its character does.
 use Rattle.std.specs.Prelude.{ℕ, zero, suc, ℤ, Bool, true, false, List, [], ◌∷◌, ◌++◌, Option, Some, None, unwrap_or}
 use Rattle.outside.specs.declared.keys.FontKey.{FontKey}
 use Rattle.dvi_commands.specs.Spelling.{DviCommand, Set, Put, SetRule, PutRule, Push, Pop, Right, W0, W, X0, X, Down, Y0, Y, Z0, Z, Font}
@@ -74,12 +75,15 @@ leaving (Some width) at = Flat flat.Leave None at ∷ Flat (flat.Advance width) 
 
 -- the font that is current before a packet is so after it
 abbrev pub framed : ℕ → Current → Option ℤ → Outcome → Outcome
-framed at current gap (Goes members last) = Goes (Flat flat.Enter None at ∷ members ++ leaving gap at) current
+framed at current gap (Goes members last) =
+    Goes (Flat flat.Enter None at ∷ members ++ leaving gap at) current
 framed at current gap (Faults members f) = Faults (Flat flat.Enter None at ∷ members) f
 
-abbrev pub of_packet : (FontKey → FontSeen → List DviCommand → Outcome) → ℕ → FontKey → FontSeen → ℤ → Option ℤ → Option (List ℕ) → Outcome
+abbrev pub of_packet : (FontKey → FontSeen → List DviCommand → Outcome) → ℕ → FontKey → FontSeen → ℤ
+    → Option ℤ → Option (List ℕ) → Outcome
 of_packet inner at k f c gap None = Faults [] (fault.NoPacket k c)
-of_packet inner at k f c gap (Some text) = framed at (Known k (decoded.Font f)) gap (inner k f (commands_of text))
+of_packet inner at k f c gap (Some text) =
+    framed at (Known k (decoded.Font f)) gap (inner k f (commands_of text))
 
 -- too deep comes before a packet that isn't there
 abbrev pub of_virtual : Packets → ℕ → FontKey → FontSeen → ℤ → Option ℤ → Outcome
@@ -90,11 +94,13 @@ of_virtual (Some inner) at k f c gap = of_packet inner at k f c gap (packet_of f
 
 abbrev pub of_glyph : ℕ → FontKey → Decoded → ℤ → ℤ → Bool → Option Glyph → Outcome
 of_glyph at k d c width put None = Faults [] (fault.NoGlyph k c)
-of_glyph at k d c width put (Some g) = Goes (Flat (flat.Char k (number_of c) width put) (Some g) at ∷ []) (Known k d)
+of_glyph at k d c width put (Some g) =
+    Goes (Flat (flat.Char k (number_of c) width put) (Some g) at ∷ []) (Known k d)
 
 -- of a packed font, or of a virtual one
 abbrev pub of_kind : Packets → ℕ → FontKey → FontSeen → ℤ → ℤ → Bool → Bool → Outcome
-of_kind packets at k f c width put false = of_glyph at k (decoded.Font f) c width put (glyph_at f (number_of c))
+of_kind packets at k f c width put false =
+    of_glyph at k (decoded.Font f) c width put (glyph_at f (number_of c))
 of_kind packets at k f c width put true = of_virtual packets at k f c (gap_of width put)
 
 abbrev pub of_width : Packets → ℕ → FontKey → FontSeen → ℤ → Bool → Option ℤ → Outcome
@@ -109,7 +115,8 @@ of_found packets at k (decoded.Font f) c put = of_width packets at k f c put (wi
 -- a look-up stands before the first character after its font became current, and nowhere else
 abbrev pub of_character : Fonts → Packets → Place → ℕ → Current → ℤ → Bool → Outcome
 of_character fonts packets place at NoFont c put = Faults [] (no_font place)
-of_character fonts packets place at (Chosen k) c put = after (Look k at ∷ []) (of_found packets at k (fonts k) c put)
+of_character fonts packets place at (Chosen k) c put =
+    after (Look k at ∷ []) (of_found packets at k (fonts k) c put)
 of_character fonts packets place at (Known k d) c put = of_found packets at k d c put
 
 -- ---- commands
@@ -123,17 +130,27 @@ of_font (OnPage reading) at n = of_change at (fault.NoFont n) (font_table readin
 of_font (InPacket k f) at n = of_change at (no_local k (first_local_of f) n) (local_of f n)
 
 abbrev pub of_command : Fonts → Packets → Place → ℕ → Current → DviCommand → Outcome
-of_command fonts packets place at current (Set c) = of_character fonts packets place at current c false
-of_command fonts packets place at current (Put c) = of_character fonts packets place at current c true
+of_command fonts packets place at current (Set c) =
+    of_character fonts packets place at current c false
+of_command fonts packets place at current (Put c) =
+    of_character fonts packets place at current c true
 of_command fonts packets place at current (Font n) = of_font place at n
-of_command fonts packets place at current (SetRule a b) = plainly (flat.Rule (dimension place a) (dimension place b) false) at current
-of_command fonts packets place at current (PutRule a b) = plainly (flat.Rule (dimension place a) (dimension place b) true) at current
-of_command fonts packets place at current (Right b) = plainly (flat.Right (dimension place b) (space current)) at current
-of_command fonts packets place at current (W b) = plainly (flat.W (dimension place b) (space current)) at current
-of_command fonts packets place at current (X b) = plainly (flat.X (dimension place b) (space current)) at current
-of_command fonts packets place at current (Down a) = plainly (flat.Down (dimension place a) (space current)) at current
-of_command fonts packets place at current (Y a) = plainly (flat.Y (dimension place a) (space current)) at current
-of_command fonts packets place at current (Z a) = plainly (flat.Z (dimension place a) (space current)) at current
+of_command fonts packets place at current (SetRule a b) =
+    plainly (flat.Rule (dimension place a) (dimension place b) false) at current
+of_command fonts packets place at current (PutRule a b) =
+    plainly (flat.Rule (dimension place a) (dimension place b) true) at current
+of_command fonts packets place at current (Right b) =
+    plainly (flat.Right (dimension place b) (space current)) at current
+of_command fonts packets place at current (W b) =
+    plainly (flat.W (dimension place b) (space current)) at current
+of_command fonts packets place at current (X b) =
+    plainly (flat.X (dimension place b) (space current)) at current
+of_command fonts packets place at current (Down a) =
+    plainly (flat.Down (dimension place a) (space current)) at current
+of_command fonts packets place at current (Y a) =
+    plainly (flat.Y (dimension place a) (space current)) at current
+of_command fonts packets place at current (Z a) =
+    plainly (flat.Z (dimension place a) (space current)) at current
 of_command fonts packets place at current W0 = plainly (flat.W0 (space current)) at current
 of_command fonts packets place at current X0 = plainly (flat.X0 (space current)) at current
 of_command fonts packets place at current Y0 = plainly (flat.Y0 (space current)) at current
@@ -142,10 +159,13 @@ of_command fonts packets place at current Push = plainly flat.Push at current
 of_command fonts packets place at current Pop = plainly flat.Pop at current
 of_command fonts packets place at current _ = plainly flat.Skip at current
 
--- where so many packets may stand inside one another; all that a packet gives has the position of the page's own command
+-- where n packets may stand inside one another; all that a packet gives has the position of the
+-- page's own command
 unfoldable pub packets_in : Fonts → ℕ → ℕ → Packets
 packets_in fonts zero at = None
-packets_in fonts (suc n) at = Some (λ k f commands. of_list (of_command fonts (packets_in fonts n at) (InPacket k f) at) (first_font f) commands)
+packets_in fonts (suc n) at =
+    Some (λ k f commands. of_list (of_command fonts (packets_in fonts n at) (InPacket k f) at)
+    (first_font f) commands)
 
 -- ---- the commands of a page, one after another, with the position of its Eop
 
@@ -156,9 +176,10 @@ joined at (Faults members f) rest = record { members = members; ending = AtFault
 abbrev pub full_list : Fonts → Reading → ℕ → Current → List Placed → PageList
 full_list fonts reading eop current [] = no_more (AtEnd eop)
 full_list fonts reading eop current (p ∷ commands) =
-    joined p.at (of_command fonts (packets_in fonts MOST_DEEP p.at) (OnPage reading) p.at current p.command) (λ next. full_list fonts reading eop next commands)
+    joined p.at (of_command fonts (packets_in fonts MOST_DEEP p.at)
+    (OnPage reading) p.at current p.command) (λ next. full_list fonts reading eop next commands)
 
--- ---- at most so many flat commands, and the look-ups before them; where more comes, only the page's end may
+-- ---- at most n flat commands, and the look-ups before them; where more comes, only the page's end may
 
 abbrev pub place : Member → ℕ
 place (Flat f g at) = at
@@ -169,14 +190,17 @@ limited zero [] (AtEnd at) = no_more (AtEnd at)
 limited zero [] (AtFault f at) = no_more (AtFault fault.TooLong at)
 limited zero (m ∷ members) ending = no_more (AtFault fault.TooLong (place m))
 limited (suc n) [] ending = no_more ending
-limited (suc n) (Flat f g at ∷ members) ending = before (Flat f g at ∷ []) (limited n members ending)
-limited (suc n) (Look k at ∷ members) ending = before (Look k at ∷ []) (limited (suc n) members ending)
+limited (suc n) (Flat f g at ∷ members) ending =
+    before (Flat f g at ∷ []) (limited n members ending)
+limited (suc n) (Look k at ∷ members) ending =
+    before (Look k at ∷ []) (limited (suc n) members ending)
 
 -- ---- the list of the page of a document with a number, from 0
 
 abbrev pub list_of : Fonts → Reading → ℕ → PageList
 list_of fonts reading i =
-    let full = full_list fonts reading (unwrap_or (eop_at i reading) 0) NoFont (page_commands i reading) in
+    let full = full_list fonts reading (unwrap_or (eop_at i reading) 0) NoFont
+    (page_commands i reading) in
     limited MOST full.members full.ending
 
 -- ---- what is still to come, where the fonts are given

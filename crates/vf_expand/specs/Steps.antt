@@ -1,4 +1,4 @@
--- A step is what the course has next, and leaves what stands behind it.
+-- A step is what the course has next, and leaves what stands after it.
 use Rattle.std.specs.Prelude.{◌≡◌, ◌<◌, ◌≤◌, ℕ, ℤ, false, IsSome, None}
 use Rattle.std.specs.Arc.{arc_value}
 use Rattle.outside.specs.declared.keys.FontKey.{FontKey}
@@ -46,7 +46,9 @@ HasItsGlyph v f = Unit {0}
 
 -- a character that is set, of some font, and has a glyph
 abbrev pub GivesPlain : Doing → ℕ → ℤ → Doing → Type 0
-GivesPlain old code width new = (key : FontKey) × GivesOne old new (Char key code width false) × HasItsGlyph new (Char key code width false)
+GivesPlain old code width new =
+    (key : FontKey) × GivesOne old new (Char key code width false)
+    × HasItsGlyph new (Char key code width false)
 
 -- a flat command may be handed to a pen, and a key to a decoder
 abbrev pub Fits : Step → Doing → Type 0

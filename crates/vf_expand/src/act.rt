@@ -30,8 +30,8 @@ pub enum Source<'a> {
     Packet(&'a Arc<FontKey>, &'a Font),
 }
 
-/// What a command gives: a flat command, that of a character, a new current font, a look-up, the front
-/// of a packet, or a stop.
+/// What a command gives: a flat command, that of a character, a new current font, a look-up, the
+/// beginning of a packet, or a stop.
 #[derive(Drop)]
 pub enum Act {
     Flat(Flat),
@@ -58,7 +58,8 @@ fn dimension_of(source: Source, z: i32) -> i64
 // A font change in a packet to a number that no local font has.
 #[inline(never)]
 fn no_local(key: &Arc<FontKey>, font: &Font, number: i32) -> Result<PageFault, NoMemory>
-    ensures { IfOk result (λ fault. seen_fault fault ≡ no_local (arc_value key.now) (first_local_of font.now) number) }
+    ensures { IfOk result (λ fault. seen_fault fault ≡ no_local (arc_value key.now)
+        (first_local_of font.now) number) }
 {
     let key = Arc::try_clone(key)?;
     match font.first_local() {
@@ -75,7 +76,8 @@ fn change(
     current: &Current,
     number: i32,
 ) -> Result<Act, NoMemory>
-    ensures acts { IfOk result (λ act. (n : ℕ) → ChangeActs (seen_place source.entry) n (seen_current current.now) number act) }
+    ensures acts { IfOk result (λ act. (n : ℕ) → ChangeActs (seen_place source.entry) n
+        (seen_current current.now) number act) }
     ensures fits { IfOk result FitsAct }
 {
     match source {
@@ -98,7 +100,7 @@ fn rule(height: i64, width: i64, put: bool) -> Flat
     Flat::Rule { height, width, put }
 }
 
-/// What a command gives, where so many packets may stand inside one another.
+/// What a command gives, where n packets may stand inside one another.
 #[inline(always)]
 pub fn expanded(
     keys: &mut PageKeys,
@@ -109,7 +111,8 @@ pub fn expanded(
 ) -> Result<Act, NoMemory>
     requires key { HasKey (seen_current current.now) }
     requires dimensions { HasDimensions (seen_place source) (seen command.now) }
-    ensures acts { IfOk result (Acts (seen_place source.entry) room (seen_current current.now) (seen command.now)) }
+    ensures acts { IfOk result (Acts (seen_place source.entry) room (seen_current current.now)
+        (seen command.now)) }
     ensures fits { IfOk result FitsAct }
 {
     let space = space_of(current);

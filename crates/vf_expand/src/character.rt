@@ -35,7 +35,7 @@ fn first_current(keys: &mut PageKeys, font: &Font) -> Result<Current, NoMemory>
     }
 }
 
-// A character of a virtual font, where so many packets may stand inside one another.
+// A character of a virtual font, where n packets may stand inside one another.
 #[inline(never)]
 fn virtual_character(
     keys: &mut PageKeys,
@@ -155,7 +155,7 @@ pub fn plain_character(current: &Current, code: i32) -> Option<PlainCharacter>
     Some(PlainCharacter { key, width })
 }
 
-/// What a character gives, where so many packets may stand inside one another.
+/// What a character gives, where n packets may stand inside one another.
 #[inline(always)]
 pub fn character(
     keys: &mut PageKeys,
@@ -166,7 +166,8 @@ pub fn character(
     put: bool,
 ) -> Result<Act, NoMemory>
     requires { HasKey (seen_current current.now) }
-    ensures acts { IfOk result (CharacterActs (seen_place source.entry) room (seen_current current.now) code put) }
+    ensures acts { IfOk result (CharacterActs (seen_place source.entry) room
+        (seen_current current.now) code put) }
     ensures fits { IfOk result FitsAct }
 {
     match current {

@@ -8,7 +8,8 @@ use font_decode::Decoded;
 use outside::FontKey;
 use std::sync::Arc;
 
-/// The current font: none, one that was not looked up since it became current, or one with what was found.
+/// The current font: none, one that was not looked up since it became current, or one with what was
+/// found.
 #[derive(Drop)]
 pub enum Current {
     NoFont,

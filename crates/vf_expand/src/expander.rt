@@ -31,8 +31,8 @@ const MOST_DEEP: usize = 10;
 /// The last opcode that is a character by itself.
 const LAST_SMALL_CHARACTER: u8 = 127;
 
-/// A page that is being expanded. The level that is read is the page or a packet; a motion is due after
-/// the packet of a character that was set.
+/// A page that is being expanded. The level that is read is the page or a packet; a motion is due
+/// after the packet of a character that was set.
 #[derive(Drop)]
 pub struct Expander<'a> {
     index: &'a Index<'a>,
@@ -232,18 +232,20 @@ impl<'a> Expander<'a> {
     ///
     /// Each command of the page or of a packet gives one flat command; a nop, a special, a font
     /// definition and a font change give one that does nothing. A character of a virtual font gives
-    /// `Enter`, what the commands of its packet give, with their dimensions scaled to the font's size
-    /// and rounded down, `Leave`, and `Advance` by its width where it was set. A packet begins with the
-    /// first local font of its font. A font is asked for at the first character after the change to it,
-    /// and again until it is handed in; the page's font is still the one found after a packet.
+    /// `Enter`, what the commands of its packet give, with their dimensions scaled to the font's
+    /// size and rounded down, `Leave`, and `Advance` by its width where it was set. A packet begins
+    /// with the first local font of its font. A font is asked for at the first character after the
+    /// change to it, and again until it is handed in; the page's font is still the one found after
+    /// a packet.
     ///
-    /// The page stops at a change to a font that isn't defined; at a character where no font is current;
-    /// at one whose font has a fault, no width, no glyph or no packet for it, or whose packet would be
-    /// the eleventh inside one another; and, where 2^24 flat commands were given, in front of anything
-    /// but its end. `End` and `Stop` come again and again. Where memory is wanting nothing has changed.
+    /// The page stops at a change to a font that isn't defined; at a character where no font is
+    /// current; at one whose font has a fault, no width, no glyph or no packet for it, or whose
+    /// packet would be the eleventh inside one another; and, where 2^24 flat commands were given,
+    /// before anything but its end. `End` and `Stop` come again and again. Where memory runs out
+    /// nothing has changed.
     ///
-    /// Knuth, DVItype, "Translation to symbolic form"; VFtoVP, "Virtual fonts"; Breitenlohner, DVIcopy,
-    /// "Interpreting VF packets".
+    /// Knuth, DVItype, "Translation to symbolic form"; VFtoVP, "Virtual fonts"; Breitenlohner,
+    /// DVIcopy, "Interpreting VF packets".
     #[inline(always)]
     pub fn next(&mut self) -> Result<Step, NoMemory>
         ensures step { IfOk result (λ step. Steps self.old step self.new) }
@@ -256,8 +258,8 @@ impl<'a> Expander<'a> {
         }
     }
 
-    /// The next step, where it is a character of one byte that is set in a packed font, as most steps are:
-    /// it is given without its key. Else nothing has changed, and `next` gives the step.
+    /// The next step, where it is a character of one byte that is set in a packed font, as most
+    /// steps are: it is given without its key. Else nothing has changed, and `next` gives the step.
     #[inline(always)]
     pub fn next_plain(&mut self) -> Option<PlainStep>
         ensures given { IfSome result (λ plain. GivesPlain self.old plain.code plain.width self.new) }
@@ -270,8 +272,8 @@ impl<'a> Expander<'a> {
         }
     }
 
-    /// Hands in what was found for the key of the look-up that stands next. The place stays that of the
-    /// last step, which gave no character.
+    /// Hands in what was found for the key of the look-up that stands next. The place stays that of
+    /// the last step, which gave no character.
     pub fn answer(&mut self, font: Arc<Decoded>)
         requires { IsAtLook (left self.old) }
         ensures rest { left self.new ≡ answered (left self.old) (arc_value font) }
@@ -290,7 +292,8 @@ impl<'a> Expander<'a> {
     /// Where the last step gave a character, its font.
     #[inline(always)]
     pub fn font(&self) -> Option<&Arc<Decoded>>
-        ensures { MatchOption result (marked_font self.now ≡ None) (λ font. marked_font self.now ≡ Some (arc_value font.now)) }
+        ensures { MatchOption result (marked_font self.now ≡ None)
+            (λ font. marked_font self.now ≡ Some (arc_value font.now)) }
     {
         if !self.progress.marked {
             return None;
@@ -301,8 +304,8 @@ impl<'a> Expander<'a> {
         }
     }
 
-    /// The position, in the document, of the page's command that the last step comes from; before the
-    /// first step that of the page's first command, and at the page's end that of its Eop.
+    /// The position, in the document, of the page's command that the last step comes from; before
+    /// the first step that of the page's first command, and at the page's end that of its Eop.
     #[inline(always)]
     pub fn at(&self) -> usize
         ensures { result ≡ self.now.at }

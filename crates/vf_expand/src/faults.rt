@@ -4,8 +4,8 @@ use font_decode::FontFault;
 use outside::FontKey;
 use std::sync::Arc;
 
-/// Why a page has no bitmap. Keys are those of the font that is current, but for `NoLocalFont`; codes
-/// are those of the commands.
+/// Why a page has no bitmap. Keys are those of the font that is current, but for `NoLocalFont`;
+/// codes are those of the commands.
 #[derive(Drop)]
 pub enum PageFault {
     /// A font change to a number that the document nowhere defines.
@@ -18,8 +18,9 @@ pub enum PageFault {
     NoGlyph(Arc<FontKey>, i32),
     /// The virtual font has no packet for the code.
     NoPacket(Arc<FontKey>, i32),
-    /// In a packet of the virtual font with this key: a font change to a number that none of its local
-    /// fonts has, or, without a number, a font change or a character where it has no local fonts.
+    /// In a packet of the virtual font with this key: a font change to a number that none of its
+    /// local fonts has, or, without a number, a font change or a character where it has no local
+    /// fonts.
     NoLocalFont(Arc<FontKey>, Option<i32>),
     /// The character of a virtual font stands in ten packets inside one another.
     Depth(Arc<FontKey>, i32),

@@ -7,9 +7,9 @@ use std::alloc::{AllocError as NoMemory, Global};
 use std::marker::Model;
 use std::mem;
 
-/// The page, or a packet: the packet's code in the font that is current outside it, the place of the
-/// next command in its bytes, how far its character moves after it where it was set, and the font that
-/// is current in it.
+/// The page, or a packet: the packet's code in the font that is current outside it, the place of
+/// the next command in its bytes, how far its character moves after it where it was set, and the
+/// font that is current in it.
 #[derive(Drop)]
 pub struct Frame {
     pub code: u8,
@@ -60,7 +60,7 @@ impl Frames {
         self.frames.last()
     }
 
-    // One more, inside all others. Where memory is wanting it is handed back.
+    // One more, inside all others. Where memory runs out it is handed back.
     fn push(&mut self, frame: Frame) -> Result<(), Frame>
         ensures ok { OnOk result (self.new ≡ frame ∷ self.old) }
         ensures err { OnErr result (self.new ≡ self.old) }
@@ -72,8 +72,8 @@ impl Frames {
         }
     }
 
-    /// The level that is read, from `end` on, becomes one more inside all others, and `inner` is read.
-    /// Where memory is wanting nothing has changed.
+    /// The level that is read, from `end` on, becomes one more inside all others, and `inner` is
+    /// read. Where memory runs out nothing has changed.
     #[inline(never)]
     pub fn enter(&mut self, level: &mut Frame, inner: Frame, end: usize) -> Result<(), NoMemory>
         ensures level { OnOk result (level.new ≡ inner) }

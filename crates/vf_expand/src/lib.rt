@@ -1,7 +1,7 @@
-//! A page as flat commands: `Expander` takes the commands of a page, and of the packets of its virtual
-//! characters, one after another and gives each as a command of the pen. It asks for a font where its
-//! first character stands, and ends at the page's end or at its first fault. Packets inside one another
-//! are a list of at most ten levels; a packet's bytes are read where they stand.
+//! A page as flat commands: `Expander` takes the commands of a page, and of the packets of its
+//! virtual characters, one after another and gives each as a command of the pen. It asks for a font
+//! where its first character stands, and ends at the page's end or at its first fault. Packets
+//! inside one another are a list of at most ten levels; a packet's bytes are read where they stand.
 #![tactic(auto)]
 
 mod act;

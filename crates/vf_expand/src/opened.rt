@@ -15,8 +15,8 @@ use dvi_commands::Context;
 use font_decode::{Decoded, Font};
 use page_index::Index;
 
-/// The bytes of a level, what their commands stand in, and the position of the page's own command that
-/// is being expanded.
+/// The bytes of a level, what their commands stand in, and the position of the page's own command
+/// that is being expanded.
 #[derive(Clone, Copy)]
 pub struct Reading<'a> {
     pub text: &'a [u8],
@@ -40,7 +40,8 @@ fn packet_of(outside: &Frame, code: u8, at: usize) -> Reading
     requires { IsVirtual (seen_current outside.now.current) }
     ensures text { result.text.now ≡ text_in (seen_current outside.now.current) code }
     ensures context { result.context ≡ Context.Packet }
-    ensures place { (reading : document.Reading) → seen_place result.source ≡ place_in reading (seen_current outside.now.current) }
+    ensures place { (reading : document.Reading) → seen_place result.source ≡ place_in reading
+        (seen_current outside.now.current) }
     ensures at { result.at ≡ at }
 {
     let Current::Known(key, found) = &outside.current else {

@@ -4,8 +4,8 @@ ghost use Rattle.std.specs.Prelude.{◌≡◌, ◌<◌, ◌-◌, true, false};
 /// How many flat commands a page may have.
 const MOST: u32 = 16777216;
 
-/// How far a page was expanded: the last step comes from the page's own command at `at`, `budget` flat
-/// commands may still be given, and the last step gave a character where it is marked.
+/// How far a page was expanded: the last step comes from the page's own command at `at`, `budget`
+/// flat commands may still be given, and the last step gave a character where it is marked.
 #[derive(Clone, Copy)]
 pub struct Progress {
     pub at: usize,

@@ -73,8 +73,8 @@ cut_in_preamble bytes n h lt = by (cases_lt n 1) (cases_lt n 2) (cases_lt n 3)
       lt-ltb (length (take n bytes)) (preamble_size (take n bytes)) (omega (arith, len, comment_kept bytes n (omega (arith, three)), lt)),
     ) refl
 
-cut_behind_preamble : (bytes : List ℕ) (n : ℕ) → IsPreamble bytes → preamble_size bytes ≤ n → n ≤ length bytes → preamble_fault (take n bytes) ≡ None
-cut_behind_preamble bytes n h le inside =
+cut_after_preamble : (bytes : List ℕ) (n : ℕ) → IsPreamble bytes → preamble_size bytes ≤ n → n ≤ length bytes → preamble_fault (take n bytes) ≡ None
+cut_after_preamble bytes n h le inside =
     let len : length (take n bytes) ≡ n = length-take-le n bytes inside in
     rw (
       le-ltb (length (take n bytes)) 1 (omega (arith, len, le)),
@@ -126,21 +126,21 @@ cut_text (item ∷ before) n h le = by (λ within. cut_text before n h.0 within)
 pub cut_files_are_short : CutFilesAreShort
 cut_files_are_short bytes items n h le = by (cases_lt n (preamble_size bytes))
   where
-    front : IsPreamble bytes
-    front = preamble_of bytes h.begins
+    prefix : IsPreamble bytes
+    prefix = preamble_of bytes h.begins
 
     by : (n < preamble_size bytes) ⊎ (preamble_size bytes ≤ n) → IsFirstFault (take n bytes) Short
-    by (inl within) = rw (cut_in_preamble bytes n front within) refl
-    by (inr behind) =
+    by (inl within) = rw (cut_in_preamble bytes n prefix within) refl
+    by (inr after) =
         let size = preamble_size bytes in
         let m = n - size in
-        let all : n ≡ size + m = omega (arith, behind) in
+        let all : n ≡ size + m = omega (arith, after) in
         let short : m ≤ length (text_of items) = omega (arith, le, all) in
         let r = cut_text items m h.sound short in
         let room : length (drop size bytes) ≡ length (text_of items) + length (248 ∷ h.unused) = ap length h.whole ∙ length-append (text_of items) (248 ∷ h.unused) in
         let inside : n ≤ length bytes = omega (arith, room, length-drop size bytes, le) in
-        let size_kept : preamble_size (take n bytes) ≡ size = comment_kept bytes n (omega (arith, behind)) in
+        let size_kept : preamble_size (take n bytes) ≡ size = comment_kept bytes n (omega (arith, after)) in
         let text : drop (preamble_size (take n bytes)) (take n bytes) ≡ text_of r.items ++ r.rest =
         ap (λ k. drop k (take n bytes)) size_kept ∙ ap (λ k. drop size (take k bytes)) all ∙ drop-take size m bytes ∙ ap (take m) h.whole
         ∙ take-append-le m (text_of items) (248 ∷ h.unused) short ∙ r.parts in
-        rw (cut_behind_preamble bytes n front behind inside) (record { items = r.items; rest = r.rest; sound = r.sound; text = text; behind = inl (inl (r.cut, refl)) })
+        rw (cut_after_preamble bytes n prefix after inside) (record { items = r.items; rest = r.rest; sound = r.sound; text = text; after = inl (inl (r.cut, refl)) })

@@ -56,15 +56,15 @@ abbrev At : List LocalDef → ℤ → Option ℕ → Type 0
 At locals k None = local_with locals k ≡ None
 At locals k (Some i) = (i < length locals) × ((d : LocalDef) → local_with locals k ≡ Some (get_or locals i d))
 
-at_behind : (x : LocalDef) (locals : List LocalDef) (k : ℤ) (o : Option ℕ) → int_eq x.number k ≡ false → At locals k o → At (x ∷ locals) k (option_map suc o)
-at_behind x locals k None other h = ap (λ b. if b then Some x else local_with locals k) other ∙ h
-at_behind x locals k (Some i) other h = (omega (arith, h.0), λ d. ap (λ b. if b then Some x else local_with locals k) other ∙ h.1 d)
+at_after : (x : LocalDef) (locals : List LocalDef) (k : ℤ) (o : Option ℕ) → int_eq x.number k ≡ false → At locals k o → At (x ∷ locals) k (option_map suc o)
+at_after x locals k None other h = ap (λ b. if b then Some x else local_with locals k) other ∙ h
+at_after x locals k (Some i) other h = (omega (arith, h.0), λ d. ap (λ b. if b then Some x else local_with locals k) other ∙ h.1 d)
 
 pub place_tells : (locals : List LocalDef) (k : ℤ) → At locals k (place_of locals k)
 place_tells [] k = refl
 place_tells (x ∷ locals) k = elim (cases_Bool (int_eq x.number k)) [
   | inl same ↦ subst (At (x ∷ locals) k) (sym (ap (λ b. if b then Some 0 else option_map suc (place_of locals k)) same)) (omega arith, λ d. ap (λ b. if b then Some x else local_with locals k) same)
-  | inr other ↦ subst (At (x ∷ locals) k) (sym (ap (λ b. if b then Some 0 else option_map suc (place_of locals k)) other)) (at_behind x locals k (place_of locals k) other (place_tells locals k))
+  | inr other ↦ subst (At (x ∷ locals) k) (sym (ap (λ b. if b then Some 0 else option_map suc (place_of locals k)) other)) (at_after x locals k (place_of locals k) other (place_tells locals k))
 ]
 
 -- what is found by the entries
@@ -87,8 +87,8 @@ apart a b k other same = elim (cases_Bool (int_eq b k)) [
   | inr not ↦ not
 ]
 
-absent_behind : (x : LocalDef) (locals : List LocalDef) (k : ℤ) → local_with (x ∷ locals) k ≡ None → (int_eq x.number k ≡ false) × (local_with locals k ≡ None)
-absent_behind x locals k h = elim (cases_Bool (int_eq x.number k)) [
+absent_after : (x : LocalDef) (locals : List LocalDef) (k : ℤ) → local_with (x ∷ locals) k ≡ None → (int_eq x.number k ≡ false) × (local_with locals k ≡ None)
+absent_after x locals k h = elim (cases_Bool (int_eq x.number k)) [
   | inl same ↦ let found : local_with (x ∷ locals) k ≡ Some x = ap (λ b. if b then Some x else local_with locals k) same in absurd (cc)
   | inr other ↦ (other, sym (ap (λ b. if b then Some x else local_with locals k) other) ∙ h)
 ]
@@ -98,9 +98,9 @@ place_more : (locals : List LocalDef) (d : LocalDef) (k : ℤ) → local_with lo
 place_more [] d k none = refl
 place_more (x ∷ locals) d k none = elim (cases_Bool (int_eq x.number k)) [
   | inl same ↦
-      rw (same, apart x.number d.number k (absent_behind x locals d.number none).0 same) refl
+      rw (same, apart x.number d.number k (absent_after x locals d.number none).0 same) refl
   | inr other ↦
-      rw other (ap (option_map suc) (place_more locals d k (absent_behind x locals d.number none).1) ∙ map_cond (int_eq d.number k) (length locals) (place_of locals k))
+      rw other (ap (option_map suc) (place_more locals d k (absent_after x locals d.number none).1) ∙ map_cond (int_eq d.number k) (length locals) (place_of locals k))
 ]
 
 pub places_with : (locals : List LocalDef) (d : LocalDef) (old new : List (ℤ × ℕ)) → local_with locals d.number ≡ None → ArePlaces old locals

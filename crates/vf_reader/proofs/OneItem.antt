@@ -30,7 +30,7 @@ some_head op = elim (cases_Bool (nat_le op 241)) [
   ]
 ]
 
--- where the head is there the bytes behind it tell nothing more of the size
+-- where the head is there the bytes after it tell nothing more of the size
 told_by : (item more : List ℕ) (op : ℕ) → head_size op ≤ length item
     → by_kind op op (unsigned_at (item ++ more) 1 4) (slice_index (item ++ more) (op - 242 + 13) + slice_index (item ++ more) (op - 242 + 14))
     ≡ by_kind op op (unsigned_at item 1 4) (slice_index item (op - 242 + 13) + slice_index item (op - 242 + 14))

@@ -6,7 +6,7 @@ use Rattle.vf_reader.specs.Preamble.{preamble_fault}
 use Rattle.vf_reader.specs.Items.{IsCut, code_of, opcode, program_of, text_of}
 use Rattle.vf_reader.specs.Locals.{local_fault}
 use Rattle.vf_reader.specs.Fonts.{AreSound, IsItemSound, IsVfFile}
-use Rattle.vf_reader.specs.Faults.{IsFaultBehind, IsFaultOfItems, IsMisplaced, IsWholeFault}
+use Rattle.vf_reader.specs.Faults.{IsFaultAfter, IsFaultOfItems, IsMisplaced, IsWholeFault}
 use Rattle.vf_reader.specs.Laws.{FilesAreReadOneWay, FilesHaveNoFault, FirstFaultsAreOne}
 use Rattle.vf_reader.specs.declared.faults.VfFault.{VfFault}
 use Rattle.vf_reader.proofs.OneItem.{misplaced_high, no_item_begins_another, not_closing, not_cut, not_misplaced}
@@ -27,10 +27,10 @@ one_wrong before item f g (inl a) (inr b) = absurd (true≢false (sym a.0 ∙ b.
 one_wrong before item f g (inr a) (inl b) = absurd (true≢false (sym b.0 ∙ a.0))
 one_wrong before item f g (inr a) (inr b) = some_is (local_fault before item) f g a.1 b.1
 
--- ---- behind sound items
+-- ---- after sound items
 
 -- where a sound item follows there is no fault
-no_fault_there : (items : List (List ℕ)) (item more : List ℕ) (f : VfFault) → AreSound (item ∷ items) → IsFaultBehind items (item ++ more) f → ⊥
+no_fault_there : (items : List (List ℕ)) (item more : List ℕ) (f : VfFault) → AreSound (item ∷ items) → IsFaultAfter items (item ++ more) f → ⊥
 no_fault_there items item more f h (inl (inl cut)) = not_cut item more h.1 cut.0
 no_fault_there items item more f h (inl (inr misplaced)) = not_misplaced item more h.1 misplaced.0
 no_fault_there items item more f h (inr w) =
@@ -42,7 +42,7 @@ closing_is_placed : IsMisplaced 248 → ⊥
 closing_is_placed (inl same) = omega (arith, same)
 closing_is_placed (inr high) = omega (arith, high)
 
-no_fault_at_end : (items : List (List ℕ)) (unused : List ℕ) (f : VfFault) → IsFaultBehind items (248 ∷ unused) f → ⊥
+no_fault_at_end : (items : List (List ℕ)) (unused : List ℕ) (f : VfFault) → IsFaultAfter items (248 ∷ unused) f → ⊥
 no_fault_at_end items unused f (inl (inl cut)) = absurd (omega (arith, cut.0.0))
 no_fault_at_end items unused f (inl (inr misplaced)) = closing_is_placed misplaced.0
 no_fault_at_end items unused f (inr w) = not_closing w.item w.more unused w.is w.here
@@ -53,16 +53,16 @@ apart rest cut misplaced = by (opcode rest) cut.0 (misplaced_high (opcode rest) 
     by : (op : ℕ) → op ≤ 246 → 247 ≤ op → ⊥
     by op low high = omega arith
 
-one_behind : (items : List (List ℕ)) (rest : List ℕ) (f g : VfFault) → IsFaultBehind items rest f → IsFaultBehind items rest g → f ≡ g
-one_behind items rest f g (inl (inl a)) (inl (inl b)) = a.1 ∙ sym b.1
-one_behind items rest f g (inl (inl a)) (inl (inr b)) = absurd (apart rest a.0 b.0)
-one_behind items rest f g (inl (inr a)) (inl (inl b)) = absurd (apart rest b.0 a.0)
-one_behind items rest f g (inl (inr a)) (inl (inr b)) = a.1 ∙ sym b.1
-one_behind items rest f g (inl (inl a)) (inr w) = not_cut w.item w.more w.is (subst IsCut w.here a.0)
-one_behind items rest f g (inl (inr a)) (inr w) = not_misplaced w.item w.more w.is (subst (λ (r : List ℕ). IsMisplaced (opcode r)) w.here a.0)
-one_behind items rest f g (inr v) (inl (inl b)) = not_cut v.item v.more v.is (subst IsCut v.here b.0)
-one_behind items rest f g (inr v) (inl (inr b)) = not_misplaced v.item v.more v.is (subst (λ (r : List ℕ). IsMisplaced (opcode r)) v.here b.0)
-one_behind items rest f g (inr v) (inr w) =
+one_after : (items : List (List ℕ)) (rest : List ℕ) (f g : VfFault) → IsFaultAfter items rest f → IsFaultAfter items rest g → f ≡ g
+one_after items rest f g (inl (inl a)) (inl (inl b)) = a.1 ∙ sym b.1
+one_after items rest f g (inl (inl a)) (inl (inr b)) = absurd (apart rest a.0 b.0)
+one_after items rest f g (inl (inr a)) (inl (inl b)) = absurd (apart rest b.0 a.0)
+one_after items rest f g (inl (inr a)) (inl (inr b)) = a.1 ∙ sym b.1
+one_after items rest f g (inl (inl a)) (inr w) = not_cut w.item w.more w.is (subst IsCut w.here a.0)
+one_after items rest f g (inl (inr a)) (inr w) = not_misplaced w.item w.more w.is (subst (λ (r : List ℕ). IsMisplaced (opcode r)) w.here a.0)
+one_after items rest f g (inr v) (inl (inl b)) = not_cut v.item v.more v.is (subst IsCut v.here b.0)
+one_after items rest f g (inr v) (inl (inr b)) = not_misplaced v.item v.more v.is (subst (λ (r : List ℕ). IsMisplaced (opcode r)) v.here b.0)
+one_after items rest f g (inr v) (inr w) =
     let same : w.item ≡ v.item = (no_item_begins_another w.item v.item w.more v.more w.is v.is (sym w.here ∙ v.here)).0 in
     one_wrong items v.item f g v.wrong (subst (λ (p : List ℕ). IsWholeFault items p g) same w.wrong)
 
@@ -86,13 +86,13 @@ files_are_read_one_way bytes r s hr hs = by (items_agree r s (248 ∷ hr.unused)
         shorter [] eq = eq
         shorter (m ∷ newer) eq = let q = next_item s r newer m _ _ hr.sound eq (sym same) in not_closing q.0 q.1 hs.unused q.3.1 q.4
 
-no_fault : (d r : List (List ℕ)) (unused rest : List ℕ) (f : VfFault) → AreSound d → AreSound r → text_of d ++ 248 ∷ unused ≡ text_of r ++ rest → IsFaultBehind r rest f → ⊥
+no_fault : (d r : List (List ℕ)) (unused rest : List ℕ) (f : VfFault) → AreSound d → AreSound r → text_of d ++ 248 ∷ unused ≡ text_of r ++ rest → IsFaultAfter r rest f → ⊥
 no_fault d r unused rest f hd hr same e = by (items_agree d r (248 ∷ unused) rest hd hr same)
   where
     here : r ≡ d → ⊥
     here eq =
         let is : rest ≡ 248 ∷ unused = cancelled (text_of r) rest (248 ∷ unused) (sym same ∙ ap (λ t. text_of t ++ 248 ∷ unused) (sym eq)) in
-        no_fault_at_end r unused f (subst (λ (b : List ℕ). IsFaultBehind r b f) is e)
+        no_fault_at_end r unused f (subst (λ (b : List ℕ). IsFaultAfter r b f) is e)
 
     by : (Begins d r ⊎ Begins r d) → ⊥
     by (inl b) = longer b.0 b.1
@@ -106,41 +106,41 @@ no_fault d r unused rest f hd hr same e = by (items_agree d r (248 ∷ unused) r
         shorter [] eq = here (sym eq)
         shorter (m ∷ newer) eq =
             let q = next_item r d newer m rest (248 ∷ unused) hd eq (sym same) in
-            no_fault_there r q.0 q.1 f q.3 (subst (λ (b : List ℕ). IsFaultBehind r b f) q.4 e)
+            no_fault_there r q.0 q.1 f q.3 (subst (λ (b : List ℕ). IsFaultAfter r b f) q.4 e)
 
 -- by the fault of the preamble, or the items
 abbrev FaultBy : Option VfFault → List ℕ → VfFault → Type 0
 FaultBy o bytes f = MatchOption o (IsFaultOfItems bytes f) (λ found. f ≡ found)
 
 never_by : (o : Option VfFault) (bytes : List ℕ) (items : List (List ℕ)) (f : VfFault) → o ≡ None → IsVfFile bytes items → FaultBy o bytes f → ⊥
-never_by None bytes items f none h a = no_fault items a.items h.unused a.rest f h.sound a.sound (sym h.whole ∙ a.text) a.behind
+never_by None bytes items f none h a = no_fault items a.items h.unused a.rest f h.sound a.sound (sym h.whole ∙ a.text) a.after
 never_by (Some found) bytes items f none h a = cc
 
 pub files_have_no_fault : FilesHaveNoFault
 files_have_no_fault bytes items f h e = never_by (preamble_fault bytes) bytes items f h.begins h e
 
-one_fault : (r s : List (List ℕ)) (x y : List ℕ) (f g : VfFault) → AreSound r → AreSound s → text_of r ++ x ≡ text_of s ++ y → IsFaultBehind r x f → IsFaultBehind s y g → f ≡ g
+one_fault : (r s : List (List ℕ)) (x y : List ℕ) (f g : VfFault) → AreSound r → AreSound s → text_of r ++ x ≡ text_of s ++ y → IsFaultAfter r x f → IsFaultAfter s y g → f ≡ g
 one_fault r s x y f g hr hs same e h = by (items_agree r s x y hr hs same)
   where
     here : s ≡ r → f ≡ g
     here eq =
         let tail : x ≡ y = cancelled (text_of r) x y (same ∙ ap (λ t. text_of t ++ y) eq) in
-        one_behind r x f g e (subst (λ (t : List (List ℕ)). IsFaultBehind t x g) eq (subst (λ (b : List ℕ). IsFaultBehind s b g) (sym tail) h))
+        one_after r x f g e (subst (λ (t : List (List ℕ)). IsFaultAfter t x g) eq (subst (λ (b : List ℕ). IsFaultAfter s b g) (sym tail) h))
 
     by : (Begins r s ⊎ Begins s r) → f ≡ g
     by (inl b) = longer b.0 b.1
       where
         longer : (newer : List (List ℕ)) → s ≡ newer ++ r → f ≡ g
         longer [] eq = here eq
-        longer (m ∷ newer) eq = let q = next_item r s newer m x y hs eq same in absurd (no_fault_there r q.0 q.1 f q.3 (subst (λ (b : List ℕ). IsFaultBehind r b f) q.4 e))
+        longer (m ∷ newer) eq = let q = next_item r s newer m x y hs eq same in absurd (no_fault_there r q.0 q.1 f q.3 (subst (λ (b : List ℕ). IsFaultAfter r b f) q.4 e))
     by (inr b) = shorter b.0 b.1
       where
         shorter : (newer : List (List ℕ)) → r ≡ newer ++ s → f ≡ g
         shorter [] eq = here (sym eq)
-        shorter (m ∷ newer) eq = let q = next_item s r newer m y x hr eq (sym same) in absurd (no_fault_there s q.0 q.1 g q.3 (subst (λ (b : List ℕ). IsFaultBehind s b g) q.4 h))
+        shorter (m ∷ newer) eq = let q = next_item s r newer m y x hr eq (sym same) in absurd (no_fault_there s q.0 q.1 g q.3 (subst (λ (b : List ℕ). IsFaultAfter s b g) q.4 h))
 
 one_by : (o : Option VfFault) (bytes : List ℕ) (f g : VfFault) → FaultBy o bytes f → FaultBy o bytes g → f ≡ g
-one_by None bytes f g a b = one_fault a.items b.items a.rest b.rest f g a.sound b.sound (sym a.text ∙ b.text) a.behind b.behind
+one_by None bytes f g a b = one_fault a.items b.items a.rest b.rest f g a.sound b.sound (sym a.text ∙ b.text) a.after b.after
 one_by (Some found) bytes f g a b = a ∙ sym b
 
 pub first_faults_are_one : FirstFaultsAreOne

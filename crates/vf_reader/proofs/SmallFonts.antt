@@ -7,7 +7,7 @@ use Rattle.dvi_commands.specs.declared.command.CommandFault.TheVariants as comma
 use Rattle.vf_reader.specs.Items.{IsItem}
 use Rattle.vf_reader.specs.Fonts.{AreSound, IsItemSound, IsVfFile}
 use Rattle.vf_reader.specs.Faults.{IsFirstFault}
-use Rattle.vf_reader.specs.Rows.{bar, both, dot, file, other_dot, short}
+use Rattle.vf_reader.specs.Examples.{bar, both, dot, file, other_dot, short}
 use Rattle.vf_reader.specs.declared.faults.VfFault.TheVariants as fault
 use Rattle.vf_reader.proofs.Defined.{local_sound}
 
@@ -51,13 +51,13 @@ pub read : IsVfFile (file (dot ++ bar ++ both)) (both ∷ bar ∷ dot ∷ [])
 read = record { begins = refl; sound = sound; unused = 248 ∷ []; whole = refl }
 
 pub cut : IsFirstFault (take 57 (file (dot ++ bar ++ both))) fault.Short
-cut = record { items = both ∷ bar ∷ dot ∷ []; rest = []; sound = sound; text = refl; behind = inl (inl ((lit≤ tt, lit< tt), refl)) }
+cut = record { items = both ∷ bar ∷ dot ∷ []; rest = []; sound = sound; text = refl; after = inl (inl ((lit≤ tt, lit< tt), refl)) }
 
 pub preamble : IsFirstFault (slice_set (file []) 1 89) fault.Preamble
 preamble = refl
 
 pub misplaced : IsFirstFault (file (247 ∷ [])) (fault.Misplaced 247)
-misplaced = record { items = []; rest = 247 ∷ 248 ∷ 248 ∷ []; sound = tt; text = refl; behind = inl (inr (inl refl, refl)) }
+misplaced = record { items = []; rest = 247 ∷ 248 ∷ 248 ∷ []; sound = tt; text = refl; after = inl (inr (inl refl, refl)) }
 
 -- ---- single packets
 
@@ -67,7 +67,7 @@ command = record {
   rest = short 1 (140 ∷ 248 ∷ 248 ∷ []);
   sound = tt;
   text = refl;
-  behind = inr (record {
+  after = inr (record {
     item = short 1 (140 ∷ []);
     more = 248 ∷ 248 ∷ [];
     here = refl;
@@ -82,7 +82,7 @@ cut_motion = record {
   rest = short 1 (143 ∷ 248 ∷ 248 ∷ []);
   sound = tt;
   text = refl;
-  behind = inr (record {
+  after = inr (record {
     item = short 1 (143 ∷ []);
     more = 248 ∷ 248 ∷ [];
     here = refl;
@@ -97,12 +97,12 @@ pop = record {
   rest = short 1 (142 ∷ 248 ∷ 248 ∷ []);
   sound = tt;
   text = refl;
-  behind = inr (record {
+  after = inr (record {
     item = short 1 (142 ∷ []);
     more = 248 ∷ 248 ∷ [];
     here = refl;
     is = record { known = lit≤ tt; whole = refl };
-    wrong = inl (refl, ([], inr (inr (record { command = Pop; front = 142 ∷ []; rest = []; begins = record { whole = refl; spelled = (0, refl, refl); allowed = refl }; wrong = refl }))));
+    wrong = inl (refl, ([], inr (inr (record { command = Pop; prefix = 142 ∷ []; rest = []; begins = record { whole = refl; spelled = (0, refl, refl); allowed = refl }; wrong = refl }))));
   });
 }
 
@@ -112,7 +112,7 @@ push = record {
   rest = short 1 (141 ∷ 248 ∷ 248 ∷ []);
   sound = tt;
   text = refl;
-  behind = inr (record {
+  after = inr (record {
     item = short 1 (141 ∷ []);
     more = 248 ∷ 248 ∷ [];
     here = refl;
@@ -127,7 +127,7 @@ motion = record {
   rest = short 5 (146 ∷ 1 ∷ 0 ∷ 0 ∷ 0 ∷ 248 ∷ 248 ∷ []);
   sound = tt;
   text = refl;
-  behind = inr (record {
+  after = inr (record {
     item = short 5 (146 ∷ 1 ∷ 0 ∷ 0 ∷ 0 ∷ []);
     more = 248 ∷ 248 ∷ [];
     here = refl;
@@ -138,7 +138,7 @@ motion = record {
         [],
         inr (inr (record {
           command = Right (pos 16777216);
-          front = 146 ∷ 1 ∷ 0 ∷ 0 ∷ 0 ∷ [];
+          prefix = 146 ∷ 1 ∷ 0 ∷ 0 ∷ 0 ∷ [];
           rest = [];
           begins = record { whole = refl; spelled = (4, (lit≤ tt, lit≤ tt, lit< tt), refl); allowed = refl };
           wrong = refl;
@@ -156,5 +156,5 @@ other_font = record {
   rest = other_dot ++ 248 ∷ 248 ∷ [];
   sound = sound_dot;
   text = refl;
-  behind = inr (record { item = other_dot; more = 248 ∷ 248 ∷ []; here = refl; is = record { known = lit≤ tt; whole = refl }; wrong = inr (refl, refl) });
+  after = inr (record { item = other_dot; more = 248 ∷ 248 ∷ []; here = refl; is = record { known = lit≤ tt; whole = refl }; wrong = inr (refl, refl) });
 }

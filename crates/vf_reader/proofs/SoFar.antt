@@ -17,7 +17,8 @@ use Rattle.vf_reader.specs.declared.faults.VfStop.TheVariants.{Fault, NoMemory}
 use Rattle.vf_reader.specs.declared.locals.LocalDef.{LocalDef}
 use Rattle.vf_reader.proofs.Spans.{all_within, local_put, packets_are}
 
--- items were read up to the bytes that are left, which end the file; the tables have their packets and local fonts
+-- items were read up to the bytes that are left, which end the file; the tables have their packets
+-- and local fonts
 pub record IsReadTo (bytes rest : List ℕ) (spans : Spans) (locals : List LocalDef) : Type 0 where
   pub items : List (List ℕ)
   pub begins : preamble_fault bytes ≡ None
@@ -102,7 +103,7 @@ item_first bytes before item rest spans locals f h here whole wrong = rw h.begin
   rest = before;
   sound = h.sound;
   text = h.text;
-  behind = inr (record { item = item; more = rest; here = here; is = whole; wrong = wrong });
+  after = inr (record { item = item; more = rest; here = here; is = whole; wrong = wrong });
 })
 
 pub item_stop : (bytes before item rest : List ℕ) (spans : Spans) (locals : List LocalDef) (stop : VfStop) (h : IsReadTo bytes before spans locals) → before ≡ item ++ rest → IsItem item
@@ -112,7 +113,7 @@ item_stop bytes before item rest spans locals NoMemory h here whole wrong = tt
 
 -- no item follows
 pub next_first : (bytes rest : List ℕ) (spans : Spans) (locals : List LocalDef) (f : VfFault) → IsReadTo bytes rest spans locals → IsItemFault rest f → IsFirstFault bytes f
-next_first bytes rest spans locals f h wrong = rw h.begins (record { items = h.items; rest = rest; sound = h.sound; text = h.text; behind = inl wrong })
+next_first bytes rest spans locals f h wrong = rw h.begins (record { items = h.items; rest = rest; sound = h.sound; text = h.text; after = inl wrong })
 
 -- the closing command follows
 pub file_read : (bytes rest unused : List ℕ) (spans : Spans) (locals : List LocalDef) (font : Virtual) (h : IsReadTo bytes rest spans locals) → rest ≡ 248 ∷ unused → font.bytes ≡ bytes → font.spans ≡ spans

@@ -9,24 +9,24 @@ use Rattle.dvi_commands.specs.Refusal.{refusal}
 use Rattle.dvi_commands.specs.Reading.{Begins}
 use Rattle.dvi_commands.specs.declared.command.Context.TheVariants as context
 use Rattle.dvi_commands.specs.declared.command.CommandFault.{CommandFault}
-use Rattle.dvi_commands.proofs.FieldNumbers.{bytes_before, bytes_behind}
+use Rattle.dvi_commands.proofs.FieldNumbers.{bytes_before, bytes_after}
 use Rattle.dvi_commands.proofs.Refusals.{spelled_some}
 use Rattle.dvi_commands.proofs.Unrefused.{unrefused_is_spelled}
 use Rattle.vf_reader.specs.Preamble.{preamble_fault, preamble_size}
 use Rattle.vf_reader.specs.Items.{IsItem, code_of, head_size, is_packet, item_size, opcode, program_of, text_of, told_size}
-use Rattle.vf_reader.specs.Programs.{AreCommandsOf, AreSoundFrom, IsFaultBehindCommands, IsProgramFault, command_fault, depth_behind}
+use Rattle.vf_reader.specs.Programs.{AreCommandsOf, AreSoundFrom, IsFaultAfterCommands, IsProgramFault, command_fault, open_after}
 use Rattle.vf_reader.specs.Locals.{local_fault}
 use Rattle.vf_reader.specs.Fonts.{AreSound, IsItemSound, IsVfFile}
-use Rattle.vf_reader.specs.Faults.{IsFaultBehind, IsFaultOfItems, IsFirstFault, IsWholeFault}
+use Rattle.vf_reader.specs.Faults.{IsFaultAfter, IsFaultOfItems, IsFirstFault, IsWholeFault}
 use Rattle.vf_reader.specs.Laws.{FilesAreReadOrHaveAFault}
 use Rattle.vf_reader.specs.declared.faults.VfFault.{VfFault}
 use Rattle.vf_reader.specs.declared.faults.VfFault.TheVariants.{Misplaced, Packet, Short, Unbalanced}
 use Rattle.vf_reader.proofs.Defined.{local_sound}
 use Rattle.vf_reader.proofs.OneItem.{same_size, some_head}
 
-rest_are : (front rest : List ℕ) → AreBytes (front ++ rest) → AreBytes rest
+rest_are : (prefix rest : List ℕ) → AreBytes (prefix ++ rest) → AreBytes rest
 rest_are [] rest h = h
-rest_are (b ∷ front) rest h = rest_are front rest h.1
+rest_are (b ∷ prefix) rest h = rest_are prefix rest h.1
 
 -- ---- the commands of a packet
 
@@ -34,35 +34,35 @@ abbrev IsRead : ℕ → ℕ → List ℕ → Type 0
 IsRead code depth bytes = (commands : List DviCommand) × AreSoundFrom code depth commands bytes
 
 abbrev IsFaulty : ℕ → ℕ → List ℕ → Type 0
-IsFaulty code depth bytes = (f : VfFault) × (commands : List DviCommand) × IsFaultBehindCommands code depth commands bytes f
+IsFaulty code depth bytes = (f : VfFault) × (commands : List DviCommand) × IsFaultAfterCommands code depth commands bytes f
 
 at_end : (code depth : ℕ) → IsRead code depth [] ⊎ IsFaulty code depth []
 at_end code zero = inl ([], (refl, refl))
 at_end code (suc depth) = inr (Unbalanced code, [], inl (refl, omega arith, refl))
 
-shorter : (c : DviCommand) (front rest bytes : List ℕ) (fuel : ℕ) → Begins context.Packet c front rest bytes → length bytes < suc fuel → length rest < fuel
-shorter c front rest bytes fuel h short = omega (arith, ap length h.whole, length-append front rest, spelled_some c front h.spelled, short)
+shorter : (c : DviCommand) (prefix rest bytes : List ℕ) (fuel : ℕ) → Begins context.Packet c prefix rest bytes → length bytes < suc fuel → length rest < fuel
+shorter c prefix rest bytes fuel h short = omega (arith, ap length h.whole, length-append prefix rest, spelled_some c prefix h.spelled, short)
 
-one_more : (code depth : ℕ) (bytes : List ℕ) (c : DviCommand) (front rest : List ℕ) → Begins context.Packet c front rest bytes → command_fault code depth c ≡ None
-    → IsRead code (depth_behind depth c) rest ⊎ IsFaulty code (depth_behind depth c) rest → IsRead code depth bytes ⊎ IsFaulty code depth bytes
-one_more code depth bytes c front rest h right (inl r) = inl (c ∷ r.0, (front, rest, h, right, r.1))
-one_more code depth bytes c front rest h right (inr r) = inr (r.0, c ∷ r.1, (front, rest, h, right, r.2))
+one_more : (code depth : ℕ) (bytes : List ℕ) (c : DviCommand) (prefix rest : List ℕ) → Begins context.Packet c prefix rest bytes → command_fault code depth c ≡ None
+    → IsRead code (open_after depth c) rest ⊎ IsFaulty code (open_after depth c) rest → IsRead code depth bytes ⊎ IsFaulty code depth bytes
+one_more code depth bytes c prefix rest h right (inl r) = inl (c ∷ r.0, (prefix, rest, h, right, r.1))
+one_more code depth bytes c prefix rest h right (inr r) = inr (r.0, c ∷ r.1, (prefix, rest, h, right, r.2))
 
 program_end : (fuel code depth : ℕ) (bytes : List ℕ) → AreBytes bytes → length bytes < fuel → IsRead code depth bytes ⊎ IsFaulty code depth bytes
 program_end zero code depth bytes few short = absurd (omega (arith, short))
 program_end (suc fuel) code depth [] few short = at_end code depth
 program_end (suc fuel) code depth (b ∷ bytes) few short = by (λ d rest some less. program_end fuel code d rest some less) (refusal context.Packet (b ∷ bytes)) refl
   where
-    behind : ((d : ℕ) (rest : List ℕ) → AreBytes rest → length rest < fuel → IsRead code d rest ⊎ IsFaulty code d rest) → (c : DviCommand) (front rest : List ℕ) → Begins context.Packet c front rest (b ∷ bytes)
+    after : ((d : ℕ) (rest : List ℕ) → AreBytes rest → length rest < fuel → IsRead code d rest ⊎ IsFaulty code d rest) → (c : DviCommand) (prefix rest : List ℕ) → Begins context.Packet c prefix rest (b ∷ bytes)
         → (o : Option VfFault) → command_fault code depth c ≡ o → IsRead code depth (b ∷ bytes) ⊎ IsFaulty code depth (b ∷ bytes)
-    behind onward c front rest h None right =
-        one_more code depth (b ∷ bytes) c front rest h right
-        (onward (depth_behind depth c) rest (rest_are front rest (subst AreBytes h.whole few)) (shorter c front rest (b ∷ bytes) fuel h short))
-    behind onward c front rest h (Some f) wrong = inr (f, [], inr (inr (record { command = c; front = front; rest = rest; begins = h; wrong = wrong })))
+    after onward c prefix rest h None right =
+        one_more code depth (b ∷ bytes) c prefix rest h right
+        (onward (open_after depth c) rest (rest_are prefix rest (subst AreBytes h.whole few)) (shorter c prefix rest (b ∷ bytes) fuel h short))
+    after onward c prefix rest h (Some f) wrong = inr (f, [], inr (inr (record { command = c; prefix = prefix; rest = rest; begins = h; wrong = wrong })))
 
     by : ((d : ℕ) (rest : List ℕ) → AreBytes rest → length rest < fuel → IsRead code d rest ⊎ IsFaulty code d rest) → (o : Option CommandFault) → refusal context.Packet (b ∷ bytes) ≡ o
         → IsRead code depth (b ∷ bytes) ⊎ IsFaulty code depth (b ∷ bytes)
-    by onward None e = let r = unrefused_is_spelled context.Packet (b ∷ bytes) few e in behind onward r.0 r.1 r.2 r.3 (command_fault code depth r.0) refl
+    by onward None e = let r = unrefused_is_spelled context.Packet (b ∷ bytes) few e in after onward r.0 r.1 r.2 r.3 (command_fault code depth r.0) refl
     by onward (Some found) e = inr (Packet code found, [], inr (inl (omega arith, found, e, refl)))
 
 program_then : (code : ℕ) (bytes : List ℕ) → AreBytes bytes → ((commands : List DviCommand) × AreCommandsOf code bytes commands) ⊎ ((f : VfFault) × IsProgramFault code bytes f)
@@ -71,7 +71,7 @@ program_then code bytes few = elim (program_end (suc (length bytes)) code 0 byte
 -- ---- a whole item
 
 packet_then : (before : List (List ℕ)) (item : List ℕ) → AreBytes item → is_packet item ≡ true → IsItemSound before item ⊎ ((f : VfFault) × IsWholeFault before item f)
-packet_then before item few kind = elim (program_then (code_of item) (program_of item) (bytes_behind (head_size (opcode item)) item few)) [
+packet_then before item few kind = elim (program_then (code_of item) (program_of item) (bytes_after (head_size (opcode item)) item few)) [
   | inl good ↦ inl (record { packet = λ _. good; local = λ other. absurd (true≢false (sym kind ∙ other)) })
   | inr bad ↦ inr (bad.0, inl (kind, bad.1))
 ]
@@ -89,7 +89,7 @@ item_then before item few = elim (cases_Bool (is_packet item)) [
   | inr kind ↦ local_then before item kind
 ]
 
--- ---- what stands behind sound items
+-- ---- what stands after sound items
 
 abbrev IsEnd : List ℕ → Type 0
 IsEnd rest = (unused : List ℕ) × (rest ≡ 248 ∷ unused)
@@ -98,7 +98,7 @@ abbrev IsMore : List (List ℕ) → List ℕ → Type 0
 IsMore items rest = (item : List ℕ) × (more : List ℕ) × (rest ≡ item ++ more) × AreSound (item ∷ items) × (1 ≤ length item)
 
 abbrev IsWrong : List (List ℕ) → List ℕ → Type 0
-IsWrong items rest = (f : VfFault) × IsFaultBehind items rest f
+IsWrong items rest = (f : VfFault) × IsFaultAfter items rest f
 
 closing : (rest : List ℕ) → opcode rest ≡ 248 → IsEnd rest
 closing [] e = absurd (omega (arith, e))
@@ -170,7 +170,7 @@ items_end (suc fuel) bytes items rest begins few sound text short = elim (next_t
         items_end fuel bytes (m.0 ∷ items) m.1 begins (rest_are m.0 m.1 (subst AreBytes m.2 few)) m.3
         (text ∙ ap (λ t. text_of items ++ t) m.2 ∙ sym (append_assoc (text_of items) m.0 m.1))
         (omega (arith, short, ap length m.2, length-append m.0 m.1, m.4))
-    | inr wrong ↦ inr (wrong.0, record { items = items; rest = rest; sound = sound; text = text; behind = wrong.1 })
+    | inr wrong ↦ inr (wrong.0, record { items = items; rest = rest; sound = sound; text = text; after = wrong.1 })
   ]
 ]
 
@@ -178,7 +178,7 @@ pub files_are_read_or_have_a_fault : FilesAreReadOrHaveAFault
 files_are_read_or_have_a_fault bytes few = by (preamble_fault bytes) refl
   where
     by : (o : Option VfFault) → preamble_fault bytes ≡ o → ((items : List (List ℕ)) × IsVfFile bytes items) ⊎ ((f : VfFault) × IsFirstFault bytes f)
-    by None e = elim (items_end (suc (length (drop (preamble_size bytes) bytes))) bytes [] (drop (preamble_size bytes) bytes) e (bytes_behind (preamble_size bytes) bytes few) tt refl (omega arith)) [
+    by None e = elim (items_end (suc (length (drop (preamble_size bytes) bytes))) bytes [] (drop (preamble_size bytes) bytes) e (bytes_after (preamble_size bytes) bytes few) tt refl (omega arith)) [
       | inl file ↦ inl file
       | inr f ↦ inr (f.0, subst (λ (o : Option VfFault). MatchOption o (IsFaultOfItems bytes f.0) (λ found. f.0 ≡ found)) (sym e) f.1)
     ]

@@ -9,15 +9,17 @@ use Rattle.vf_reader.specs.Fonts.{AreSound}
 use Rattle.vf_reader.specs.declared.faults.VfFault.{VfFault}
 use Rattle.vf_reader.specs.declared.faults.VfFault.TheVariants.{Short, Misplaced}
 
--- the opcodes that may not stand behind the preamble
+-- the opcodes that may not stand after the preamble
 abbrev pub IsMisplaced : ℕ → Type 0
 IsMisplaced op = (op ≡ 247) ⊎ (249 ≤ op)
 
 -- no whole item stands here, nor the closing command
 abbrev pub IsItemFault : List ℕ → VfFault → Type 0
-IsItemFault rest f = (IsCut rest × (f ≡ Short)) ⊎ (IsMisplaced (opcode rest) × (f ≡ Misplaced (opcode rest)))
+IsItemFault rest f =
+    (IsCut rest × (f ≡ Short)) ⊎ (IsMisplaced (opcode rest) × (f ≡ Misplaced (opcode rest)))
 
--- what is wrong with a whole item behind these items: with the commands of a packet, or with the definition of a local font
+-- what is wrong with a whole item after these items: with the commands of a packet, or with the
+-- definition of a local font
 abbrev pub IsWholeFault : List (List ℕ) → List ℕ → VfFault → Type 0
 IsWholeFault before item f =
     (IsTrue (is_packet item) × IsProgramFault (code_of item) (program_of item) f)
@@ -31,18 +33,19 @@ pub record IsFaultOfItem (before : List (List ℕ)) (rest : List ℕ) (f : VfFau
   pub is : IsItem item
   pub wrong : IsWholeFault before item f
 
--- what is wrong behind sound items, where these bytes stand
-abbrev pub IsFaultBehind : List (List ℕ) → List ℕ → VfFault → Type 0
-IsFaultBehind items rest f = IsItemFault rest f ⊎ IsFaultOfItem items rest f
+-- what is wrong after sound items, where these bytes stand
+abbrev pub IsFaultAfter : List (List ℕ) → List ℕ → VfFault → Type 0
+IsFaultAfter items rest f = IsItemFault rest f ⊎ IsFaultOfItem items rest f
 
--- sound items behind the preamble, and the fault behind them
+-- sound items after the preamble, and the fault after them
 pub record IsFaultOfItems (bytes : List ℕ) (f : VfFault) : Type 0 where
   pub items : List (List ℕ)
   pub rest : List ℕ
   pub sound : AreSound items
   pub text : drop (preamble_size bytes) bytes ≡ text_of items ++ rest
-  pub behind : IsFaultBehind items rest f
+  pub after : IsFaultAfter items rest f
 
 -- the first fault of the bytes
 abbrev pub IsFirstFault : List ℕ → VfFault → Type 0
-IsFirstFault bytes f = MatchOption (preamble_fault bytes) (IsFaultOfItems bytes f) (λ found. f ≡ found)
+IsFirstFault bytes f =
+    MatchOption (preamble_fault bytes) (IsFaultOfItems bytes f) (λ found. f ≡ found)

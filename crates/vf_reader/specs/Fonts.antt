@@ -12,9 +12,10 @@ use Rattle.vf_reader.specs.declared.packet_table.Span.{Span}
 
 -- ---- the file
 
--- nothing is wrong with a whole item behind these items
+-- nothing is wrong with a whole item after these items
 pub record IsItemSound (before : List (List ℕ)) (item : List ℕ) : Type 0 where
-  pub packet : IsTrue (is_packet item) → (commands : List DviCommand) × AreCommandsOf (code_of item) (program_of item) commands
+  pub packet : IsTrue (is_packet item) → (commands : List DviCommand) × AreCommandsOf (code_of item)
+      (program_of item) commands
   pub local : IsFalse (is_packet item) → local_fault before item ≡ None
 
 -- each item is whole and sound
@@ -22,7 +23,7 @@ abbrev pub AreSound : List (List ℕ) → Type 0
 AreSound [] = Unit {0}
 AreSound (item ∷ before) = AreSound before × IsItem item × IsItemSound before item
 
--- the bytes are a VF file with these items; what stands behind the closing command isn't looked at
+-- the bytes are a VF file with these items; what stands after the closing command isn't looked at
 pub record IsVfFile (bytes : List ℕ) (items : List (List ℕ)) : Type 0 where
   pub begins : preamble_fault bytes ≡ None
   pub sound : AreSound items
@@ -34,17 +35,20 @@ pub record IsVfFile (bytes : List ℕ) (items : List (List ℕ)) : Type 0 where
 -- the commands of the last packet of a code
 abbrev pub program_with : List (List ℕ) → ℕ → Option (List ℕ)
 program_with [] c = None
-program_with (item ∷ before) c = if is_packet item && code_of item == c then Some (program_of item) else program_with before c
+program_with (item ∷ before) c =
+    if is_packet item && code_of item == c then Some (program_of item) else program_with before c
 
 -- ---- what is kept of it
 
--- where the packets of the codes from 0 to 255 stand, by their places, and those of others by their codes
+-- where the packets of the codes from 0 to 255 stand, by their places, and those of others by their
+-- codes
 pub record Spans : Type 0 where
   pub plain : List (Option Span)
   pub others : List (ℕ × Span)
 
 abbrev pub span_of : Spans → ℕ → Option Span
-span_of spans c = if nat_lt c 256 then get_or spans.plain c None else lookup (λ k. c == k) spans.others
+span_of spans c =
+    if nat_lt c 256 then get_or spans.plain c None else lookup (λ k. c == k) spans.others
 
 -- the file's bytes, where its packets stand in them, and the local fonts
 pub record Virtual : Type 0 where

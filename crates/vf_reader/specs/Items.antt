@@ -1,4 +1,5 @@
--- The items of a VF file, each as its bytes: Knuth, VFtoVP, "Virtual fonts". Items that were read are a list with the last one first.
+-- The items of a VF file, each as its bytes: Knuth, VFtoVP, "Virtual fonts". Items that were read
+-- are a list with the last one first.
 use Rattle.std.specs.Prelude.{◌≡◌, ℕ, ◌+◌, ◌-◌, ◌<◌, ◌≤◌, Bool, List, [], ◌∷◌, ◌++◌, length, drop, nat_le, if◌then◌else◌, slice_index}
 use Rattle.big_endian.specs.Fields.{unsigned_at}
 use Rattle.dvi_commands.specs.Spelling.{Definition}
@@ -16,9 +17,10 @@ is_packet bytes = nat_le (opcode bytes) 242
 abbrev pub by_kind : {A : Type 0} → ℕ → A → A → A → A
 by_kind op short long local = if nat_le op 241 then short else if nat_le op 242 then long else local
 
--- a short packet begins with the opcode, a code of one byte and a width of three; a long one with the opcode, the length, the code and
--- the width of four bytes each; a local font is defined as a font of a DVI file, by a number of one to four bytes, a checksum, two sizes
--- and the lengths of the area and of the name
+-- a short packet begins with the opcode, a code of one byte and a width of three; a long one with
+-- the opcode, the length, the code and the width of four bytes each; a local font is defined as a
+-- font of a DVI file, by a number of one to four bytes, a checksum, two sizes and the lengths of
+-- the area and of the name
 abbrev pub head_size : ℕ → ℕ
 head_size op = by_kind op 5 13 (op - 242 + 15)
 
@@ -55,6 +57,7 @@ code_of bytes = if nat_le (opcode bytes) 241 then slice_index bytes 1 else unsig
 abbrev pub program_of : List ℕ → List ℕ
 program_of bytes = drop (head_size (opcode bytes)) bytes
 
--- the definition of a local font, whose sizes are fix_words: the size as a factor of the font's, the design size in points
+-- the definition of a local font, whose sizes are fix_words: the size as a factor of the font's,
+-- the design size in points
 abbrev pub definition_of : List ℕ → Definition
 definition_of bytes = definition_in (opcode bytes - 242) (drop 1 bytes)

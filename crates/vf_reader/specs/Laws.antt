@@ -12,21 +12,29 @@ use Rattle.vf_reader.specs.declared.faults.VfFault.TheVariants.{Short}
 abbrev pub NoItemBeginsAnother : Type 0
 NoItemBeginsAnother = (a b x y : List ℕ) → IsItem a → IsItem b → a ++ x ≡ b ++ y → (a ≡ b) × (x ≡ y)
 
--- a VF file has one list of items, and so one packet at most for a code, and one list of local fonts
+-- a VF file has one list of items, and so one packet at most for a code, and one list of local
+-- fonts
 abbrev pub FilesAreReadOneWay : Type 0
-FilesAreReadOneWay = (bytes : List ℕ) (items others : List (List ℕ)) → IsVfFile bytes items → IsVfFile bytes others → items ≡ others
+FilesAreReadOneWay =
+    (bytes : List ℕ) (items others : List (List ℕ)) → IsVfFile bytes items → IsVfFile bytes others
+    → items ≡ others
 
 -- a VF file has no fault
 abbrev pub FilesHaveNoFault : Type 0
-FilesHaveNoFault = (bytes : List ℕ) (items : List (List ℕ)) (f : VfFault) → IsVfFile bytes items → IsFirstFault bytes f → ⊥
+FilesHaveNoFault =
+    (bytes : List ℕ) (items : List (List ℕ)) (f : VfFault) → IsVfFile bytes items
+    → IsFirstFault bytes f → ⊥
 
 -- bytes have one first fault at most
 abbrev pub FirstFaultsAreOne : Type 0
-FirstFaultsAreOne = (bytes : List ℕ) (f g : VfFault) → IsFirstFault bytes f → IsFirstFault bytes g → f ≡ g
+FirstFaultsAreOne =
+    (bytes : List ℕ) (f g : VfFault) → IsFirstFault bytes f → IsFirstFault bytes g → f ≡ g
 
 -- bytes are a VF file or have a first fault
 abbrev pub FilesAreReadOrHaveAFault : Type 0
-FilesAreReadOrHaveAFault = (bytes : List ℕ) → AreBytes bytes → ((items : List (List ℕ)) × IsVfFile bytes items) ⊎ ((f : VfFault) × IsFirstFault bytes f)
+FilesAreReadOrHaveAFault =
+    (bytes : List ℕ) → AreBytes bytes → ((items : List (List ℕ)) × IsVfFile bytes items) ⊎
+    ((f : VfFault) × IsFirstFault bytes f)
 
 -- the place of the closing command
 abbrev pub closing_at : List ℕ → List (List ℕ) → ℕ
@@ -34,4 +42,6 @@ closing_at bytes items = preamble_size bytes + length (text_of items)
 
 -- a VF file is too short at each cut before its closing command
 abbrev pub CutFilesAreShort : Type 0
-CutFilesAreShort = (bytes : List ℕ) (items : List (List ℕ)) (n : ℕ) → IsVfFile bytes items → n ≤ closing_at bytes items → IsFirstFault (take n bytes) Short
+CutFilesAreShort =
+    (bytes : List ℕ) (items : List (List ℕ)) (n : ℕ) → IsVfFile bytes items
+    → n ≤ closing_at bytes items → IsFirstFault (take n bytes) Short

@@ -8,4 +8,4 @@ pub mod Faults
 pub mod Stops
 pub mod Walked
 pub mod Laws
-pub mod Rows
+pub mod Examples

@@ -31,13 +31,13 @@ abbrev pub is_pop : DviCommand → Bool
 is_pop Pop = true
 is_pop _ = false
 
--- how many pushes are open behind a command, where so many were before it
-abbrev pub depth_behind : ℕ → DviCommand → ℕ
-depth_behind depth Push = suc depth
-depth_behind depth Pop = depth - 1
-depth_behind depth _ = depth
+-- how many pushes are open after a command, where n were before it
+abbrev pub open_after : ℕ → DviCommand → ℕ
+open_after depth Push = suc depth
+open_after depth Pop = depth - 1
+open_after depth _ = depth
 
--- what is wrong with a command in the packet of a code, where so many pushes are open
+-- what is wrong with a command in the packet of a code, where n pushes are open
 abbrev pub command_fault : ℕ → ℕ → DviCommand → Option VfFault
 command_fault code depth c =
     if not (list_all is_dimension (dimensions c)) then Some (Dimension code)
@@ -46,12 +46,14 @@ command_fault code depth c =
 
 -- ---- all commands
 
--- the bytes are these commands, one after another, with nothing wrong, and each push has its pop; so many pushes are open before them
+-- the bytes are these commands, one after another, with nothing wrong, and each push has its pop; n
+-- pushes are open before them
 abbrev pub AreSoundFrom : ℕ → ℕ → List DviCommand → List ℕ → Type 0
 AreSoundFrom code depth [] bytes = (bytes ≡ []) × (depth ≡ 0)
 AreSoundFrom code depth (c ∷ commands) bytes =
-    (front : List ℕ) × (rest : List ℕ) × Begins context.Packet c front rest bytes × (command_fault code depth c ≡ None)
-    × AreSoundFrom code (depth_behind depth c) commands rest
+    (prefix : List ℕ) × (rest : List ℕ) × Begins context.Packet c prefix rest bytes
+    × (command_fault code depth c ≡ None)
+    × AreSoundFrom code (open_after depth c) commands rest
 
 -- a packet of a code has these commands
 abbrev pub AreCommandsOf : ℕ → List ℕ → List DviCommand → Type 0
@@ -63,26 +65,31 @@ IsLeftOpen code depth bytes f = (bytes ≡ []) × (0 < depth) × (f ≡ Unbalanc
 
 -- no command can be read
 abbrev pub IsUnread : ℕ → List ℕ → VfFault → Type 0
-IsUnread code bytes f = (0 < length bytes) × (found : CommandFault) × (refusal context.Packet bytes ≡ Some found) × (f ≡ Packet code found)
+IsUnread code bytes f =
+    (0 < length bytes) × (found : CommandFault) × (refusal context.Packet bytes ≡ Some found)
+    × (f ≡ Packet code found)
 
 -- a command is read, and something is wrong with it
 pub record IsWrongCommand (code depth : ℕ) (bytes : List ℕ) (f : VfFault) : Type 0 where
   pub command : DviCommand
-  pub front : List ℕ
+  pub prefix : List ℕ
   pub rest : List ℕ
-  pub begins : Begins context.Packet command front rest bytes
+  pub begins : Begins context.Packet command prefix rest bytes
   pub wrong : command_fault code depth command ≡ Some f
 
 abbrev pub IsFaultHere : ℕ → ℕ → List ℕ → VfFault → Type 0
-IsFaultHere code depth bytes f = IsLeftOpen code depth bytes f ⊎ (IsUnread code bytes f ⊎ IsWrongCommand code depth bytes f)
+IsFaultHere code depth bytes f =
+    IsLeftOpen code depth bytes f ⊎ (IsUnread code bytes f ⊎ IsWrongCommand code depth bytes f)
 
--- the bytes begin with these commands, with nothing wrong, and the fault is behind them
-abbrev pub IsFaultBehindCommands : ℕ → ℕ → List DviCommand → List ℕ → VfFault → Type 0
-IsFaultBehindCommands code depth [] bytes f = IsFaultHere code depth bytes f
-IsFaultBehindCommands code depth (c ∷ commands) bytes f =
-    (front : List ℕ) × (rest : List ℕ) × Begins context.Packet c front rest bytes × (command_fault code depth c ≡ None)
-    × IsFaultBehindCommands code (depth_behind depth c) commands rest f
+-- the bytes begin with these commands, with nothing wrong, and the fault is after them
+abbrev pub IsFaultAfterCommands : ℕ → ℕ → List DviCommand → List ℕ → VfFault → Type 0
+IsFaultAfterCommands code depth [] bytes f = IsFaultHere code depth bytes f
+IsFaultAfterCommands code depth (c ∷ commands) bytes f =
+    (prefix : List ℕ) × (rest : List ℕ) × Begins context.Packet c prefix rest bytes
+    × (command_fault code depth c ≡ None)
+    × IsFaultAfterCommands code (open_after depth c) commands rest f
 
 -- the first fault of a packet's commands
 abbrev pub IsProgramFault : ℕ → List ℕ → VfFault → Type 0
-IsProgramFault code bytes f = (commands : List DviCommand) × IsFaultBehindCommands code 0 commands bytes f
+IsProgramFault code bytes f =
+    (commands : List DviCommand) × IsFaultAfterCommands code 0 commands bytes f

@@ -3,7 +3,7 @@ use Rattle.std.specs.Prelude.{◌≡◌, ℕ, ◌≤◌, List, length, Option, S
 use Rattle.vf_reader.specs.Fonts.{Spans, program_with, span_of, text_at}
 use Rattle.vf_reader.specs.declared.packet_table.Span.{Span}
 
--- a span stands within so many bytes
+-- a span stands within n bytes
 abbrev pub IsWithin : ℕ → Span → Type 0
 IsWithin most s = (s.start ≤ s.end) × (s.end ≤ most)
 
@@ -14,7 +14,8 @@ AreWithin most spans = (c : ℕ) (s : Span) → span_of spans c ≡ Some s → I
 -- the bytes of a packet stand at a span, or there is neither
 abbrev pub IsSpanOf : List ℕ → Option (List ℕ) → Option Span → Type 0
 IsSpanOf bytes None o = o ≡ None
-IsSpanOf bytes (Some program) o = (s : Span) × (o ≡ Some s) × IsWithin (length bytes) s × (text_at bytes s ≡ program)
+IsSpanOf bytes (Some program) o =
+    (s : Span) × (o ≡ Some s) × IsWithin (length bytes) s × (text_at bytes s ≡ program)
 
 -- the spans of the items' packets
 abbrev pub AreSpansOf : List ℕ → List (List ℕ) → Spans → Type 0

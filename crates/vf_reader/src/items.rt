@@ -10,7 +10,7 @@ use crate::opcodes::POST;
 use sizes::item_size;
 use std::marker::Model;
 
-/// The items that are still to be read, seen as their bytes and those behind them.
+/// The items that are still to be read, seen as their bytes and those after them.
 #[derive(Drop)]
 pub struct Items<'a> {
     rest: &'a [u8],

@@ -4,6 +4,7 @@
 //! out as a part of them.
 #![tactic(auto)]
 
+pub mod examples;
 mod faults;
 mod font;
 mod items;
@@ -15,7 +16,6 @@ mod packet_table;
 mod preamble;
 mod program;
 mod read;
-pub mod rows;
 
 pub use faults::{VfFault, VfStop};
 pub use font::VfFont;

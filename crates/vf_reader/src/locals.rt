@@ -15,7 +15,7 @@ use dvi_commands::FontDef;
 use outside::FontName;
 use std::alloc::{AllocError as NoMemory, Global};
 
-/// The definition of a font that packets use, by its number. The name has the area in front, of
+/// The definition of a font that packets use, by its number. The name begins with the area, of
 /// which `area` is the length. `factor` is the size as a part of the virtual font's size, and
 /// `points` the design size in points, both fix_words.
 #[derive(Debug, Drop, PartialEq, Eq)]
@@ -30,7 +30,7 @@ pub struct LocalDef {
 // A factor is below this fix_word.
 const FACTORS: i32 = 16_777_216;
 
-// The number that so many bytes from a place on spell, unsigned.
+// The number that n bytes from a place on spell, unsigned.
 fn unsigned_at(bytes: &[u8], at: usize, n: usize) -> u32
     requires some { 1 ≤ n }
     requires few { n ≤ 4 }

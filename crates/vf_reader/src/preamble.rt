@@ -9,8 +9,8 @@ use byte_cursor::Cursor;
 // The bytes of the checksum and the design size, which are passed over.
 const NUMBERS: usize = 8;
 
-/// What stands behind the preamble, or what is wrong with it, judged from the left.
-pub fn behind_preamble(bytes: &[u8]) -> Result<&[u8], VfFault>
+/// What stands after the preamble, or what is wrong with it, judged from the left.
+pub fn after_preamble(bytes: &[u8]) -> Result<&[u8], VfFault>
     ensures rest { IfOk result (λ rest. rest.now ≡ drop (preamble_size bytes.now) bytes.now) }
     ensures right { OnOk result (preamble_fault bytes.now ≡ None) }
     ensures fault { IfErr result (λ fault. preamble_fault bytes.now ≡ Some fault) }

@@ -2,7 +2,7 @@
 ghost use Rattle.std.specs.Prelude.{◌≡◌, ◌+◌, ◌<◌, ◌^◌, List, IfErr, IfOk, OnOk, None, Some};
 ghost use Rattle.std.specs.List.{list_all};
 ghost use Rattle.dvi_commands.specs.Spelling.{DviCommand, seen};
-ghost use Rattle.vf_reader.specs.Programs.{AreCommandsOf, IsProgramFault, command_fault, dimensions, is_dimension as is_dimension_of, depth_behind};
+ghost use Rattle.vf_reader.specs.Programs.{AreCommandsOf, IsProgramFault, command_fault, dimensions, is_dimension as is_dimension_of, open_after};
 
 use crate::VfFault;
 use dvi_commands::{Command, Context, read_command};
@@ -35,11 +35,11 @@ fn are_dimensions_right(command: &Command) -> bool
     }
 }
 
-// How many pushes are open behind a command of a character's packet. `Dimension` where a dimension
+// How many pushes are open after a command of a character's packet. `Dimension` where a dimension
 // is out of range, `Unbalanced` at a pop where no push is open.
 fn depth_after(code: u32, depth: usize, command: &Command) -> Result<usize, VfFault>
     requires { depth + 1 < 2 ^ 64 }
-    ensures depth { IfOk result (λ after. after ≡ depth_behind depth (seen command.now)) }
+    ensures depth { IfOk result (λ after. after ≡ open_after depth (seen command.now)) }
     ensures right { OnOk result (command_fault code depth (seen command.now) ≡ None) }
     ensures fault { IfErr result (λ f. command_fault code depth (seen command.now) ≡ Some f) }
 {
@@ -63,9 +63,9 @@ pub fn judge(code: u32, bytes: &[u8]) -> Result<(), VfFault>
     let mut depth = 0;
     while at < bytes.len() {
         match read_command(bytes, at, Context::Packet) {
-            Ok((command, behind)) => {
+            Ok((command, after)) => {
                 depth = depth_after(code, depth, &command)?;
-                at = behind;
+                at = after;
             }
             Err(fault) => return Err(VfFault::Packet(code, fault)),
         }

@@ -14,7 +14,7 @@ use crate::local_table::LocalTable;
 use crate::locals::{definition, fault_of, local};
 use crate::opcodes::LONG_PACKET;
 use crate::packet_table::{PacketTable, Span};
-use crate::preamble::behind_preamble;
+use crate::preamble::after_preamble;
 use crate::program::judge;
 use crate::{VfFont, VfStop};
 use big_endian::unsigned;
@@ -22,7 +22,7 @@ use std::alloc::Global;
 
 impl VfFont {
     /// Reads the packets and the local fonts of a VF file, or tells its first fault. What stands
-    /// behind the closing command 248 isn't looked at.
+    /// after the closing command 248 isn't looked at.
     ///
     /// Want of memory apart, the font comes exactly where the bytes are a VF file, and a fault
     /// exactly where it is their first.
@@ -44,7 +44,7 @@ impl VfFont {
             IsVfFile bytes.now items × IsFontOf items font) }
         ensures fault { IfErr result (λ stop. IfFault stop (IsFirstFault bytes.now)) }
     {
-        let mut items = Items::new(behind_preamble(bytes)?);
+        let mut items = Items::new(after_preamble(bytes)?);
         let mut packets = PacketTable::empty(alloc)?;
         let mut locals = LocalTable::new(alloc);
         while let Some(item) = items.next()? {
@@ -101,7 +101,7 @@ fn add_packet(packets: &mut PacketTable, packet: &[u8], end: usize) -> Result<()
     Ok(())
 }
 
-// Judges the definition of a local font behind others, and adds it unless its number is there.
+// Judges the definition of a local font after others, and adds it unless its number is there.
 fn with_local(alloc: Global, locals: LocalTable, item: &[u8]) -> Result<LocalTable, VfStop>
     requires item { IsItem item.now }
     requires kind { IsFalse (is_packet item.now) }

@@ -114,7 +114,7 @@ fn the_last_packet_of_a_code(rt: HostRuntime) -> Result<(), Fail> {
     Ok(())
 }
 
-// A file without items, and one with what isn't looked at behind the first closing command.
+// A file without items, and one with what isn't looked at after the first closing command.
 #[test]
 fn empty_files(rt: HostRuntime) -> Result<(), Fail> {
     for items in [[0xf8, 0xf8], [0xf8, 0xf7]] {

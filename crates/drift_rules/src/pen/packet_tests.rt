@@ -3,8 +3,9 @@ use super::*;
 use crate::faults::PenFault;
 use pixel_round::Scale;
 
-// At h = 3 and hh = 2 with w = 3, where a character of 3 units is virtual: w is 0 in its packet, after
-// it all is as before, and over the character hh grows by 2 dots, 3 units being one and a half.
+// At h = 3 and hh = 2 with w = 3, where a character of 3 units is virtual: w is 0 in its packet,
+// after it all is as before, and over the character hh grows by 2 dots, 3 units being one and a
+// half.
 #[test]
 fn a_packet_gives_back_the_place(rt: HostRuntime) -> Result<(), Scale> {
     let mut pen = Pen::new(rt.alloc(), half_a_dot()?);

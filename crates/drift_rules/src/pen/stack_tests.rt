@@ -3,9 +3,10 @@ use super::*;
 use crate::faults::PenFault;
 use pixel_round::Scale;
 
-// At h = 6 the rounded column is 3, and motions of 1, 3, 1 and 1 units in a font of a wide space have led to column 5. At v = 14
-// the rounded row is 7, and 5, 7, 1 and 1 units have led to row 9. A pop gives back both, with w, x, y and z, after motions that
-// changed all eight, and w moves on from there as it was: by 1 to h = 7, and to column 6.
+// At h = 6 the rounded column is 3, and motions of 1, 3, 1 and 1 units in a font of a wide space
+// have led to column 5. At v = 14 the rounded row is 7, and 5, 7, 1 and 1 units have led to row 9.
+// A pop gives back both, with w, x, y and z, after motions that changed all eight, and w moves on
+// from there as it was: by 1 to h = 7, and to column 6.
 #[test]
 fn pop_gives_back_all_eight(rt: HostRuntime) -> Result<(), Scale> {
     let mut pen = Pen::new(rt.alloc(), half_a_dot()?);
@@ -62,7 +63,8 @@ fn pop_gives_back_all_eight(rt: HostRuntime) -> Result<(), Scale> {
     Ok(())
 }
 
-// 1000 places are saved, each two units to the right of the one before, and no more. They come back last first, and then none is left.
+// 1000 places are saved, each two units to the right of the one before, and no more. They come back
+// last first, and then none is left.
 #[test]
 fn saves_a_thousand_places(rt: HostRuntime) -> Result<(), Scale> {
     let mut pen = Pen::new(rt.alloc(), half_a_dot()?);

@@ -15,8 +15,9 @@ pub(super) fn half_a_dot() -> Result<Conv, Scale> {
     })
 }
 
-// With a space of 2, two motions right by 1 lead to h = 2 and hh = 2. From there a motion of 2 or more, or of -8 or less, is rounded
-// anew; a smaller one adds its own rounding, which the drift rule holds within two dots.
+// With a space of 2, two motions right by 1 lead to h = 2 and hh = 2. From there a motion of 2 or
+// more, or of -8 or less, is rounded anew; a smaller one adds its own rounding, which the drift
+// rule holds within two dots.
 #[test]
 fn moves_right_and_left(rt: HostRuntime) -> Result<(), Scale> {
     let conv = half_a_dot()?;
@@ -54,8 +55,9 @@ fn moves_down_and_up(rt: HostRuntime) -> Result<(), Scale> {
     Ok(())
 }
 
-// Each motion by 1 is rounded up to a dot, and the sixth is held where 6 units are 3 dots: at 5, and not at 6. To the left and up
-// the same holds. Each rule of 2 by 2 units is one dot, where it is put: in its row the motion down comes after it.
+// Each motion by 1 is rounded up to a dot, and the sixth is held where 6 units are 3 dots: at 5,
+// and not at 6. To the left and up the same holds. Each rule of 2 by 2 units is one dot, where it
+// is put: in its row the motion down comes after it.
 #[test]
 fn drifts_by_two_dots_at_most(rt: HostRuntime) -> Result<(), Scale> {
     let mut right_down = Pen::new(rt.alloc(), half_a_dot()?);
@@ -95,8 +97,9 @@ fn drifts_by_two_dots_at_most(rt: HostRuntime) -> Result<(), Scale> {
     Ok(())
 }
 
-// A rule of height 4 and width 6 has 2 rows and 3 columns, up from the present place. Where it is set, h grows by 6 and hh by 3; a
-// width of -3 is -1.5 dots, of which hh takes -1, and nothing is marked.
+// A rule of height 4 and width 6 has 2 rows and 3 columns, up from the present place. Where it is
+// set, h grows by 6 and hh by 3; a width of -3 is -1.5 dots, of which hh takes -1, and nothing is
+// marked.
 #[test]
 fn sets_rules(rt: HostRuntime) -> Result<(), Scale> {
     let mut pen = Pen::new(rt.alloc(), half_a_dot()?);
@@ -149,8 +152,8 @@ fn sets_rules(rt: HostRuntime) -> Result<(), Scale> {
     Ok(())
 }
 
-// Two characters of width 6, that is 3 dots. One that is put is marked and moves nothing; one that is set is marked where it stands,
-// and h grows by 6 and hh by 3.
+// Two characters of width 6, that is 3 dots. One that is put is marked and moves nothing; one that
+// is set is marked where it stands, and h grows by 6 and hh by 3.
 #[test]
 fn puts_and_sets_a_character(rt: HostRuntime) -> Result<(), Fail> {
     let alloc = rt.alloc();
@@ -187,7 +190,8 @@ fn puts_and_sets_a_character(rt: HostRuntime) -> Result<(), Fail> {
     Ok(())
 }
 
-// Each of w, x, y and z is moved by again. At a space of 0 a motion by 0 sets hh to h rounded, that is 3 to 2 dots, and vv to v.
+// Each of w, x, y and z is moved by again. At a space of 0 a motion by 0 sets hh to h rounded, that
+// is 3 to 2 dots, and vv to v.
 #[test]
 fn moves_again(rt: HostRuntime) -> Result<(), Scale> {
     let mut pen = Pen::new(rt.alloc(), half_a_dot()?);

@@ -1,4 +1,4 @@
-//! Places behind plain commands, worked out by hand.
+//! Places after plain commands, worked out by hand.
 
 use super::*;
 

@@ -150,7 +150,7 @@ fn reads_the_worked_motions(rt: HostRuntime) {
 }
 
 #[test]
-fn goes_on_behind_a_command(rt: HostRuntime) {
+fn goes_on_after_a_command(rt: HostRuntime) {
     let bytes = [0x8f, 0xff, 0x93];
     let (first, place) = command_at(&bytes, 0, Context::Page);
     let left = Command::Right(-1);

@@ -18,7 +18,8 @@ pub(super) fn append_rule(
     height: i32,
     width: i32,
 ) -> Result<(), NoMemory>
-    ensures appended { OnOk result (out.new.items ≡ out.old.items ++ (opcode ∷ quad height ++ quad width)) }
+    ensures appended { OnOk result (out.new.items ≡ out.old.items ++
+        (opcode ∷ quad height ++ quad width)) }
     ensures unchanged { OnErr result (out.new.items ≡ out.old.items) }
     ensures height { IsSigned 4 height }
     ensures width { IsSigned 4 width }
@@ -27,7 +28,8 @@ pub(super) fn append_rule(
 }
 
 pub(super) fn append_bop(out: &mut Vec<u8>, counts: &[i32; 10], back: i32) -> Result<(), NoMemory>
-    ensures appended { OnOk result (out.new.items ≡ out.old.items ++ shortest_spelling (Bop counts.now back)) }
+    ensures appended { OnOk result (out.new.items ≡ out.old.items ++ shortest_spelling
+        (Bop counts.now back)) }
     ensures unchanged { OnErr result (out.new.items ≡ out.old.items) }
     ensures spelled { Spells (Bop counts.now back) (shortest_spelling (Bop counts.now back)) }
 {
@@ -52,7 +54,8 @@ pub(super) fn append_bop(out: &mut Vec<u8>, counts: &[i32; 10], back: i32) -> Re
 
 pub(super) fn append_special(out: &mut Vec<u8>, text: &[u8]) -> Result<(), NoMemory>
     requires { length text.now ≤ LONGEST_SPECIAL }
-    ensures appended { OnOk result (out.new.items ≡ out.old.items ++ shortest_spelling (Special text.now)) }
+    ensures appended { OnOk result (out.new.items ≡ out.old.items ++ shortest_spelling
+        (Special text.now)) }
     ensures unchanged { OnErr result (out.new.items ≡ out.old.items) }
     ensures spelled { Spells (Special text.now) (shortest_spelling (Special text.now)) }
 {
@@ -67,9 +70,11 @@ pub(super) fn append_special(out: &mut Vec<u8>, text: &[u8]) -> Result<(), NoMem
 pub(super) fn append_definition(out: &mut Vec<u8>, definition: &FontDef) -> Result<(), NoMemory>
     requires area { IsAreaInName (Define (seen_definition definition.now)) }
     requires rest { IsRestShort (Define (seen_definition definition.now)) }
-    ensures appended { OnOk result (out.new.items ≡ out.old.items ++ shortest_spelling (Define (seen_definition definition.now))) }
+    ensures appended { OnOk result (out.new.items ≡ out.old.items ++ shortest_spelling
+        (Define (seen_definition definition.now))) }
     ensures unchanged { OnErr result (out.new.items ≡ out.old.items) }
-    ensures spelled { Spells (Define (seen_definition definition.now)) (shortest_spelling (Define (seen_definition definition.now))) }
+    ensures spelled { Spells (Define (seen_definition definition.now))
+        (shortest_spelling (Define (seen_definition definition.now))) }
 {
     let area = definition.area;
     let rest = definition.name.len() - area as usize;
@@ -95,7 +100,8 @@ pub(super) fn append_preamble(
     text: &[u8],
 ) -> Result<(), NoMemory>
     requires { length text.now ≤ 255 }
-    ensures appended { OnOk result (out.new.items ≡ out.old.items ++ (247 ∷ id ∷ flat_map quad numbers.now ++ length text.now ∷ text.now)) }
+    ensures appended { OnOk result (out.new.items ≡ out.old.items ++
+        (247 ∷ id ∷ flat_map quad numbers.now ++ length text.now ∷ text.now)) }
     ensures unchanged { OnErr result (out.new.items ≡ out.old.items) }
     ensures fits { AllByRecursion (IsSigned 4) numbers.now }
     ensures id { id < 256 }
@@ -119,7 +125,9 @@ pub(super) fn append_post(
     deepest: u16,
     pages: u16,
 ) -> Result<(), NoMemory>
-    ensures appended { OnOk result (out.new.items ≡ out.old.items ++ (248 ∷ flat_map quad numbers.now ++ number_bytes 2 (pos deepest) ++ number_bytes 2 (pos pages))) }
+    ensures appended { OnOk result (out.new.items ≡ out.old.items ++
+        (248 ∷ flat_map quad numbers.now ++ number_bytes 2 (pos deepest)
+        ++ number_bytes 2 (pos pages))) }
     ensures unchanged { OnErr result (out.new.items ≡ out.old.items) }
     ensures fits { AllByRecursion (IsSigned 4) numbers.now }
     ensures deepest { deepest < 2 ^ 16 }

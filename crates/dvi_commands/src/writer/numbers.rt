@@ -60,11 +60,12 @@ pub(super) fn append_opcode(out: &mut Vec<u8>, opcode: u8) -> Result<(), NoMemor
     append(out, &[&[opcode]])
 }
 
-/// Appends the opcode of a motion, which stands as far behind another as the number has bytes, and the
-/// number.
+/// Appends the opcode of a motion, which stands as far after another as the number has bytes, and
+/// the number.
 pub(super) fn append_motion(out: &mut Vec<u8>, before: u8, by: i32) -> Result<(), NoMemory>
     requires { before ≤ 251 }
-    ensures appended { OnOk result (out.new.items ≡ out.old.items ++ with_number before (least_motion_width by) by) }
+    ensures appended { OnOk result (out.new.items ≡ out.old.items ++ with_number before
+        (least_motion_width by) by) }
     ensures unchanged { OnErr result (out.new.items ≡ out.old.items) }
     ensures fits { IsMotion (least_motion_width by) by }
 {
@@ -75,11 +76,12 @@ pub(super) fn append_motion(out: &mut Vec<u8>, before: u8, by: i32) -> Result<()
     )
 }
 
-/// Appends the opcode of a character or a font, which stands as far behind another as the number has
+/// Appends the opcode of a character or a font, which stands as far after another as the number has
 /// bytes, and the number.
 pub(super) fn append_number(out: &mut Vec<u8>, before: u8, number: i32) -> Result<(), NoMemory>
     requires { before ≤ 251 }
-    ensures appended { OnOk result (out.new.items ≡ out.old.items ++ with_number before (least_number_width number) number) }
+    ensures appended { OnOk result (out.new.items ≡ out.old.items ++ with_number before
+        (least_number_width number) number) }
     ensures unchanged { OnErr result (out.new.items ≡ out.old.items) }
     ensures fits { IsNumber (least_number_width number) number }
 {

@@ -17,7 +17,7 @@ fn total_length(parts: &[&[u8]]) -> usize
     total
 }
 
-/// Appends all the parts, or none where memory is wanting: the room for all is made at once.
+/// Appends all the parts, or none where memory runs out: the room for all is made at once.
 pub(super) fn append(out: &mut Vec<u8>, parts: &[&[u8]]) -> Result<(), NoMemory>
     requires { length (joined parts.now) < 2 ^ 64 }
     ensures appended { OnOk result (out.new.items ≡ out.old.items ++ joined parts.now) }

@@ -1,4 +1,4 @@
-//! Shortest spellings, worked out by hand, written behind other bytes and read back.
+//! Shortest spellings, worked out by hand, written after other bytes and read back.
 
 ghost use Rattle.dvi_commands.specs.Spelling.{seen};
 ghost use Rattle.dvi_commands.specs.Writing.{IsAreaInName, IsRestShort, IsSpecialShort, IsTextShort};

@@ -30,7 +30,7 @@ pub fn told(alloc: Global, history: &[Entry]) -> Result<Vec<u8>, Fail> {
     Ok(letters)
 }
 
-// The calls of a run over two pages, with a cache of so many fonts.
+// The calls of a run over two pages, with a cache of n fonts.
 fn calls<R: Threads + Wait + Sync>(rt: &R, alloc: Global, cache: u32) -> Result<Vec<u8>, Fail>
     requires { (1 ≤ cache) × (cache ≤ 256) }
 {

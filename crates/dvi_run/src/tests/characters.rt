@@ -51,8 +51,8 @@ fn ends_at_a_font_without_files(rt: HostRuntime) -> Result<(), Fail> {
 #[test]
 fn holds_the_drift_of_small_motions(rt: HostRuntime) -> Result<(), Fail> {
     let alloc = rt.alloc();
-    // A sixth of the size is 2, so that each motion right by 1 adds a dot: hh = 1, 2, 3, 4, 5 and then 5,
-    // as h = 6 is 3 dots.
+    // A sixth of the size is 2, so that each motion right by 1 adds a dot: hh = 1, 2, 3, 4, 5 and
+    // then 5, as h = 6 is 3 dots.
     let mut page = Vec::from_slice(alloc, &[0xab])?;
     for _ in 0..6 {
         page.extend_from_slice(&[0x8f, 1, 0x89, 0, 0, 0, 2, 0, 0, 0, 2])?;

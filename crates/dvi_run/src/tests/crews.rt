@@ -42,7 +42,7 @@ pub struct Came {
     pub loads: u64,
 }
 
-// So many workers over these files, of whose loads some fail.
+// n workers over these files, of whose loads some fail.
 fn some_workers(
     alloc: Global,
     library: &Arc<Library>,
@@ -62,7 +62,7 @@ fn some_workers(
     Ok(workers)
 }
 
-/// So many workers over these files, whose loads of font `bar` fail.
+/// n workers over these files, whose loads of font `bar` fail.
 pub fn picky_workers(
     alloc: Global,
     library: &Arc<Library>,
@@ -74,8 +74,8 @@ pub fn picky_workers(
 {
     let mut workers = Vec::new(alloc);
     for _k in 0..count as usize {
-        let front = FontName::new(alloc, b"bar")?;
-        let source = PickyFonts::new(Arc::try_clone(library)?, front);
+        let prefix = FontName::new(alloc, b"bar")?;
+        let source = PickyFonts::new(Arc::try_clone(library)?, prefix);
         let worker = Worker::new(alloc, source);
         workers.push(worker)?;
     }
@@ -153,7 +153,7 @@ pub fn run_by<R: Threads + Wait + Sync, F: FontSource + Send>(
     })
 }
 
-/// A run over the files of fonts `dot` and `bar` by so many workers.
+/// A run over the files of fonts `dot` and `bar` by n workers.
 pub fn run_of<R: Threads + Wait + Sync>(
     rt: &R,
     alloc: Global,

@@ -239,7 +239,7 @@ fn looks_of(alloc: Global, history: &[Entry], seat: u32) -> Result<Vec<u8>, Fail
     Ok(letters)
 }
 
-// The first letters of the fonts that so many pages look up.
+// The first letters of the fonts that n pages look up.
 fn looks_for(alloc: Global, pages: usize) -> Result<Vec<u8>, Fail> {
     let mut letters = Vec::new(alloc);
     for _ in 0..pages {
@@ -248,7 +248,8 @@ fn looks_for(alloc: Global, pages: usize) -> Result<Vec<u8>, Fail> {
     Ok(letters)
 }
 
-// The files of `duo` stand here under the name `pair`: the machine knows a font by its first letter.
+// The files of `duo` stand here under the name `pair`: the machine knows a font by its first
+// letter.
 #[test]
 fn two_workers_make_the_calls_of_the_machine(rt: HostRuntime) -> Result<(), Fail> {
     let alloc = rt.alloc();

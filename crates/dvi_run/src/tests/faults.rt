@@ -14,7 +14,8 @@ use std::test::Fail;
 use std::thread::Threads;
 use vf_expand::PageFault;
 
-/// Definitions of font -1: of size 128 and design size 128 with the name `a`, and others in its place.
+/// Definitions of font -1: of size 128 and design size 128 with the name `a`, and others in its
+/// place.
 macro_rules! font {
     ($size:literal, $design:literal, $letter:literal) => {
         [
@@ -49,7 +50,8 @@ fn tells_where_a_document_is_cut_off(rt: HostRuntime) -> Result<(), Fail> {
     Ok(())
 }
 
-// Whether the put rule's document with some bytes changed from a place on is refused with this line.
+// Whether the put rule's document with some bytes changed from a place on is refused with this
+// line.
 fn is_refused_with<R: Threads + Wait + Sync>(
     rt: &R,
     alloc: Global,

@@ -16,7 +16,7 @@ pub static DOT_TFM: [u8; 56] = [
 ];
 
 /// The preamble of a PK file.
-static PK_FRONT: [u8; 19] = [
+static PK_PREFIX: [u8; 19] = [
     0xf7, 0x59, 0, 0, 0xa0, 0, 0, 0, 0, 0, 0, 0, 4, 0x26, 0xae, 0, 4, 0x26, 0xae,
 ];
 
@@ -28,9 +28,9 @@ pub static CORNER_PK: [u8; 17] = [
     0xe0, 10, 0x41, 1, 0, 0, 4, 4, 4, 2, 2, 0xff, 0xff, 0xf5, 0xf6, 0xf6, 0xf6,
 ];
 
-/// A PK file: its preamble, and what stands behind it.
+/// A PK file: its preamble, and what stands after it.
 pub fn packed(alloc: Global, rest: &[u8]) -> Result<Vec<u8>, Fail> {
-    let mut bytes = Vec::from_slice(alloc, &PK_FRONT)?;
+    let mut bytes = Vec::from_slice(alloc, &PK_PREFIX)?;
     bytes.extend_from_slice(rest)?;
     Ok(bytes)
 }

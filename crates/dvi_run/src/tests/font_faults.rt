@@ -17,8 +17,8 @@ const SHEET: Sheet = Sheet {
     top: 1,
 };
 
-// Whether a page with a character of a font, with these sizes and files, ends the run with status 4 and
-// this line.
+// Whether a page with a character of a font, with these sizes and files, ends the run with status 4
+// and this line.
 fn fails<R: Threads + Wait + Sync>(
     rt: &R,
     alloc: Global,
@@ -180,7 +180,8 @@ fn wrong_pk_files(rt: HostRuntime) -> Result<(), Fail> {
             &[0xa8, 9, 0x41, 1, 0, 0, 4, 2, 1, 0, 0, 0x30, 0xf5],
             b"dvipbm: page 1 at 80: font dot 128 128: pk runs 65 overrun\n",
         ),
-        // A repeat count of 1, a run of 1, and a repeat count of 1; a repeat count of 2 where there are 2 rows.
+        // A repeat count of 1, a run of 1, and a repeat count of 1; a repeat count of 2 where there
+        // are 2 rows.
         (
             &[0xa8, 10, 0x41, 1, 0, 0, 4, 2, 4, 0, 0, 0xf1, 0xf1, 0xf5],
             b"dvipbm: page 1 at 80: font dot 128 128: pk runs 65 second repeat 0\n",

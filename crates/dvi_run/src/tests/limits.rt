@@ -16,14 +16,14 @@ const SMALL: Sheet = Sheet {
     top: 0,
 };
 
-// A document of one page with so many nops, the first of which stands at 60.
+// A document of one page with n nops, the first of which stands at 60.
 fn idle(alloc: Global, count: usize) -> Result<Vec<u8>, Fail> {
     let page = vec![in alloc; 0x8a_u8; count]?;
     document(alloc, &[], &[&page])
 }
 
 #[test]
-fn ends_a_page_behind_the_most_commands(rt: HostRuntime) -> Result<(), Fail> {
+fn ends_a_page_after_the_most_commands(rt: HostRuntime) -> Result<(), Fail> {
     let alloc = rt.alloc();
     let full = idle(alloc, MOST)?;
     let source = no_fonts(alloc)?;

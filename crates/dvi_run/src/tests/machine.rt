@@ -1,4 +1,5 @@
-//! A machine of its own for the calls of a cache, that knows fonts by the first letters of their names.
+//! A machine of its own for the calls of a cache, that knows fonts by the first letters of their
+//! names.
 
 use cache_core::{Act, Entry};
 use outside::FontKey;

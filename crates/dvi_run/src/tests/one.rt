@@ -15,7 +15,8 @@ use std::thread::Threads;
 // One worker, with this source.
 fn one_worker<F: FontSource>(alloc: Global, source: F) -> Result<Vec<Worker<F>>, Fail>
     ensures count { IfOk result (λ workers. length workers.items ≡ 1) }
-    ensures unused { IfOk result (λ workers. (k : ℕ) (d : _) → k < 1 → IsUnused (slice_index_or workers.items k d)) }
+    ensures unused { IfOk result (λ workers. (k : ℕ) (d : _) → k < 1 → IsUnused
+        (slice_index_or workers.items k d)) }
 {
     let mut workers = Vec::new(alloc);
     let worker = Worker::new(alloc, source);
@@ -32,7 +33,8 @@ pub fn are_idle<F: FontSource>(workers: &[Worker<F>]) -> bool {
     idle
 }
 
-/// The status of a run over one worker with this source, which has neither a seat nor a result then.
+/// The status of a run over one worker with this source, which has neither a seat nor a result
+/// then.
 pub fn run_alone<R: Threads + Wait + Sync, I: Input, F: FontSource + Send, O: Output, N: Output>(
     rt: &R,
     alloc: Global,

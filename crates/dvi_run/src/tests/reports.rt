@@ -63,7 +63,7 @@ struct Came {
     notes: Vec<u8>,
 }
 
-// The settings of one worker with a cache of so many fonts on a sheet of 16 by 8 dots.
+// The settings of one worker with a cache of n fonts on a sheet of 16 by 8 dots.
 fn asks(cache: u32, trace: bool, summary: bool) -> Settings
     requires { (1 ≤ cache) × (cache ≤ 256) }
     ensures allowed { AreSettings result }

@@ -27,7 +27,7 @@ struct Came {
     loads: u64,
 }
 
-// So many workers without files, of which each of the first loads fails.
+// n workers without files, of which each of the first loads fails.
 fn failing_workers(alloc: Global, count: u32) -> Result<Vec<Worker<MemFonts>>, Fail>
     ensures count { IfOk result (λ workers. length workers.items ≡ count) }
     ensures unused { IfOk result (λ workers. (k : ℕ) (d : _) → k < count
@@ -59,7 +59,7 @@ fn are_unasked(workers: &[Worker<MemFonts>]) -> bool {
         .all(|worker| matches!(worker.source.asked(), Some([])))
 }
 
-// A run with these arguments where there are so many workers.
+// A run with these arguments where there are n workers.
 fn run_of<R: Threads + Wait + Sync>(
     rt: &R,
     alloc: Global,
@@ -108,7 +108,7 @@ fn run_of<R: Threads + Wait + Sync>(
     })
 }
 
-// How many pixels of each page are black, where the text of a page is so many bytes long, of which
+// How many pixels of each page are black, where the text of a page is n bytes long, of which
 // the first ones are its head.
 fn blacks(alloc: Global, text: &[u8], head: usize, size: usize) -> Result<Vec<u32>, Fail>
     requires { 1 ≤ size }

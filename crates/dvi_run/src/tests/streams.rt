@@ -62,11 +62,11 @@ fn tells_what_failed(rt: HostRuntime) -> Result<(), Fail> {
 }
 
 #[test]
-fn leaves_a_front_of_the_page_that_failed(rt: HostRuntime) -> Result<(), Fail> {
+fn leaves_a_prefix_of_the_page_that_failed(rt: HostRuntime) -> Result<(), Fail> {
     let alloc = rt.alloc();
     let bytes = document(alloc, &[], &[&PUT_RULE[60..69], &[], &[0x8e]])?;
-    // A page goes out in 17 writes, pieces of at most 65,536 bytes: 205 rows of 319 bytes each, of which
-    // the first has the head of 13 bytes in front, and the last 20 rows.
+    // A page goes out in 17 writes, pieces of at most 65,536 bytes: 205 rows of 319 bytes each, of
+    // which the first has the head of 13 bytes before it, and the last 20 rows.
     let mut text = page_text(alloc, &PUT_RULE_DOTS)?;
     text.extend_from_slice(b"P4\n2550 3300\n")?;
     text.extend_from_slice(&vec![in alloc; 0u8; 205 * 319]?)?;

@@ -90,8 +90,8 @@ fn ends_a_font_that_sets_itself_at_another_size(rt: HostRuntime) -> Result<(), F
 fn ends_at_sizes_out_of_range(rt: HostRuntime) -> Result<(), Fail> {
     let alloc = rt.alloc();
     let vf = virtual_file(alloc, &DUO_VF)?;
-    // The size of `duo`, where in its file four bytes are changed, and to which number: at 17 stands
-    // the size factor of `dot`, at 21 its design size in points.
+    // The size of `duo`, where in its file four bytes are changed, and to which number: at 17
+    // stands the size factor of `dot`, at 21 its design size in points.
     let sizes: [(u32, usize, u32, &str); 5] = [
         (128, 17, 8191, "page 1 at 80: font duo 128 128: size"),
         // 1 unit, which is two dots to the inch.
@@ -212,7 +212,7 @@ fn ends_at_a_character_that_is_not_there(rt: HostRuntime) -> Result<(), Fail> {
     Ok(())
 }
 
-// So many pushes, then these commands, and as many pops.
+// n pushes, then these commands, and as many pops.
 fn nested(alloc: Global, depth: usize, inner: &[u8]) -> Result<Vec<u8>, Fail> {
     let mut bytes = vec![in alloc; 0x8d_u8; depth]?;
     bytes.extend_from_slice(inner)?;
@@ -222,7 +222,7 @@ fn nested(alloc: Global, depth: usize, inner: &[u8]) -> Result<Vec<u8>, Fail> {
     Ok(bytes)
 }
 
-// A page that sets a character of font 0 after so many pushes.
+// A page that sets a character of font 0 after n pushes.
 fn pushed(alloc: Global, depth: usize, code: u8) -> Result<Vec<u8>, Fail> {
     let mut page = Vec::from_slice(alloc, &[0xab])?;
     page.extend_from_slice(&nested(alloc, depth, &[code])?)?;

@@ -80,7 +80,7 @@ pub fn expected(alloc: Global, status: u8, written: &[u8], line: &str) -> Result
     })
 }
 
-// So many workers over these files. These loads of the first one fail.
+// n workers over these files. These loads of the first one fail.
 fn some_workers(
     alloc: Global,
     library: &Arc<Library>,

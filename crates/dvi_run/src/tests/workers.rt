@@ -136,8 +136,8 @@ fn the_first_page_without_a_bitmap_ends_the_run(rt: HostRuntime) -> Result<(), F
     Ok(())
 }
 
-// Each source fails at the font of the third page, which is after the second one, whose character is
-// missing.
+// Each source fails at the font of the third page, which is after the second one, whose character
+// is missing.
 #[test]
 fn a_failed_source_after_a_fault_decides_nothing(rt: HostRuntime) -> Result<(), Fail> {
     let alloc = rt.alloc();

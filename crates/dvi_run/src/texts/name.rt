@@ -48,7 +48,8 @@ impl Name {
         more: &'static [u8],
         last: Option<i64>,
     ) -> Name
-        ensures { name_text result ≡ text.now ++ number_text (Some number) ++ more.now ++ number_text last }
+        ensures { name_text result ≡ text.now ++ number_text (Some number) ++ more.now
+            ++ number_text last }
     {
         Name {
             text,

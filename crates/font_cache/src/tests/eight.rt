@@ -1,4 +1,5 @@
-//! Eight threads over a cache of three fonts and ten keys that differ in size alone. Each notes what it was told.
+//! Eight threads over a cache of three fonts and ten keys that differ in size alone. Each notes
+//! what it was told.
 ghost use Rattle.std.specs.Prelude.{◌≡◌, ◌+◌, ◌^◌, ◌<◌, ◌≤◌, [], All, IfOk, IfSome, None};
 ghost use Rattle.std.specs.Option.{option_map};
 ghost use Rattle.std.specs.Arc.{arc_value};
@@ -22,7 +23,7 @@ const SEATS: u32 = 8;
 
 const KEYS: u32 = 10;
 
-// A seat, and what it was told; None where memory was wanting or the threads did not meet.
+// A seat, and what it was told; None where memory ran out or the threads did not meet.
 #[derive(Drop)]
 struct Caller {
     seat: CacheSeat<Sized>,
@@ -62,7 +63,8 @@ fn look_up<R: Wait>(
     ensures lock { seat.new.lock ≡ seat.old.lock }
     ensures idle { seat.new.view.stage ≡ Idle }
     ensures drawn { seat.new.view.drawn ≡ seat.old.view.drawn + 1 }
-    ensures claim { IfOk result (λ told. open_claim (own seat.new.view.number seat.new.view.seen) ≡ option_map arc_value told.1) }
+    ensures claim { IfOk result (λ told. open_claim (own seat.new.view.number seat.new.view.seen)
+        ≡ option_map arc_value told.1) }
 {
     let claimed = Arc::try_clone(key);
     match cache.look(rt, seat, key)? {
@@ -85,11 +87,13 @@ fn end_claim<R: Wait>(
     requires lock { seat.old.lock ≡ cache.now }
     requires idle { seat.old.view.stage ≡ Idle }
     requires room { seat.old.view.drawn < 2 ^ 48 }
-    requires claim { open_claim (own seat.old.view.number seat.old.view.seen) ≡ Some (arc_value key.now) }
+    requires claim { open_claim (own seat.old.view.number seat.old.view.seen)
+        ≡ Some (arc_value key.now) }
     ensures lock { seat.new.lock ≡ seat.old.lock }
     ensures idle { seat.new.view.stage ≡ Idle }
     ensures drawn { seat.new.view.drawn ≤ seat.old.view.drawn + 1 }
-    ensures free { IfOk result (λ _. open_claim (own seat.new.view.number seat.new.view.seen) ≡ None) }
+    ensures free { IfOk result (λ _. open_claim (own seat.new.view.number seat.new.view.seen)
+        ≡ None) }
 {
     if !fills {
         cache.release(rt, seat, key);
@@ -109,7 +113,7 @@ fn end_claim<R: Wait>(
     }
 }
 
-// So many calls of one seat: where it holds a claim it ends it, and else it looks some key up. A claim in
+// n calls of one seat: where it holds a claim it ends it, and else it looks some key up. A claim in
 // eight is released.
 fn calls<R: Wait>(
     rt: &R,
@@ -160,9 +164,13 @@ fn eight_callers(
     requires lock { first.old.lock ≡ cache.now }
     requires first { (first.old.view.number ≡ 0) × (first.old.view.made ≡ 1) }
     ensures lock { first.new.lock ≡ first.old.lock }
-    ensures first { (first.new.view.number ≡ 0) × (first.new.view.stage ≡ first.old.view.stage) × (first.new.view.joined ≡ first.old.view.joined) }
+    ensures first { (first.new.view.number ≡ 0) × (first.new.view.stage ≡ first.old.view.stage)
+        × (first.new.view.joined ≡ first.old.view.joined) }
     ensures made { IfSome result (λ _. first.new.view.made ≡ 9) }
-    ensures callers { IfSome result (λ callers. All (λ c. (c.seat.lock ≡ cache.now) × (c.seat.view.stage ≡ Idle) × (c.seat.view.drawn ≡ 0) × (open_claim (own c.seat.view.number c.seat.view.seen) ≡ None)) callers.items) }
+    ensures callers { IfSome result
+        (λ callers. All (λ c. (c.seat.lock ≡ cache.now) × (c.seat.view.stage ≡ Idle) ×
+        (c.seat.view.drawn ≡ 0) × (open_claim (own c.seat.view.number c.seat.view.seen) ≡ None))
+        callers.items) }
 {
     let mut callers = Vec::new(alloc);
     for _i in 0..SEATS {
@@ -172,7 +180,7 @@ fn eight_callers(
     Some(callers)
 }
 
-// Each caller makes so many calls in a thread of its own, once all threads have met.
+// Each caller makes n calls in a thread of its own, once all threads have met.
 fn all_calls<R: Threads + Wait + Sync>(
     rt: &R,
     alloc: Global,
@@ -181,7 +189,9 @@ fn all_calls<R: Threads + Wait + Sync>(
     callers: &mut [Caller],
     count: u32,
 )
-    requires { All (λ c. (c.seat.lock ≡ cache.now) × (c.seat.view.stage ≡ Idle) × (c.seat.view.drawn ≡ 0) × (open_claim (own c.seat.view.number c.seat.view.seen) ≡ None)) callers.old }
+    requires { All (λ c. (c.seat.lock ≡ cache.now) × (c.seat.view.stage ≡ Idle) ×
+        (c.seat.view.drawn ≡ 0) × (open_claim (own c.seat.view.number c.seat.view.seen) ≡ None))
+        callers.old }
     ensures { All (λ c. (c.seat.lock ≡ cache.now) × (c.seat.view.stage ≡ Idle)) callers.new }
 {
     let gate = AtomicU32::new(0);
@@ -190,8 +200,11 @@ fn all_calls<R: Threads + Wait + Sync>(
         callers,
         8,
         &|_, caller: &mut Caller|
-            requires { (caller.old.seat.lock ≡ cache.now) × (caller.old.seat.view.stage ≡ Idle) × (caller.old.seat.view.drawn ≡ 0) × (open_claim (own caller.old.seat.view.number caller.old.seat.view.seen) ≡ None) }
-            ensures { (caller.new.seat.lock ≡ cache.entry.now) × (caller.new.seat.view.stage ≡ Idle) }
+            requires { (caller.old.seat.lock ≡ cache.now) × (caller.old.seat.view.stage ≡ Idle)
+                × (caller.old.seat.view.drawn ≡ 0)
+                × (open_claim (own caller.old.seat.view.number caller.old.seat.view.seen) ≡ None) }
+            ensures { (caller.new.seat.lock ≡ cache.entry.now)
+                × (caller.new.seat.view.stage ≡ Idle) }
         {
             if meet(&gate, SEATS) {
                 caller.notes = calls(rt, alloc, cache, &mut caller.seat, keys, count);
@@ -208,8 +221,10 @@ fn join_all(
     mut callers: Vec<Caller>,
 ) -> Option<Vec<Vec<Note>>>
     requires lock { first.old.lock ≡ cache.now }
-    requires first { (first.old.view.number ≡ 0) × (first.old.view.stage ≡ Idle) × (first.old.view.made ≡ 9) }
-    requires callers { All (λ c. (c.seat.lock ≡ cache.now) × (c.seat.view.stage ≡ Idle)) callers.items }
+    requires first { (first.old.view.number ≡ 0) × (first.old.view.stage ≡ Idle)
+        × (first.old.view.made ≡ 9) }
+    requires callers { All (λ c. (c.seat.lock ≡ cache.now) × (c.seat.view.stage ≡ Idle))
+        callers.items }
     ensures lock { first.new.lock ≡ first.old.lock }
     ensures first { (first.new.view.number ≡ 0) × (first.new.view.stage ≡ Idle) }
     ensures joined { IfSome result (λ _. AllJoined first.new.view) }
@@ -252,7 +267,8 @@ fn told(entry: &Entry) -> (u32, char, u32) {
     }
 }
 
-// The next thing that the seat was told. The lists are of the last seat first, and each of its last call first.
+// The next thing that the seat was told. The lists are of the last seat first, and each of its last
+// call first.
 fn next_note(left: &mut [Vec<Note>], seat: u32) -> Option<Note> {
     let place = SEATS.checked_sub(seat)?;
     left.get_mut(place as usize)?.pop()
@@ -270,7 +286,7 @@ fn follows(walk: &mut Walk, left: &mut [Vec<Note>], entry: &Entry) -> bool {
 fn eight_threads_over_three_fonts(rt: HostRuntime) -> Result<(), Fail> {
     let count = 2000;
     let (entries, mut left) = eight(&rt, rt.alloc(), count).ok_or(
-        "memory was wanting, or the threads did not meet",
+        "memory ran out, or the threads did not meet",
     )?;
     assert_eq!(rt; entries.len(), 16_000);
     for notes in left.iter_mut() {

@@ -1,4 +1,5 @@
-//! The machine of a cache of three fonts once more, in few words, for tests alone: it judges a history from outside.
+//! The machine of a cache of three fonts once more, in few words, for tests alone: it judges a
+//! history from outside.
 use std::alloc::Global;
 use std::test::Fail;
 
@@ -23,7 +24,8 @@ impl Note {
     }
 }
 
-// The fonts that are there, newest first, each a key and the font's number; and the claims, each a seat and a key.
+// The fonts that are there, newest first, each a key and the font's number; and the claims, each a
+// seat and a key.
 #[derive(Drop)]
 pub(crate) struct Walk {
     fonts: Vec<(u32, u32)>,
@@ -105,7 +107,8 @@ impl Walk {
     }
 }
 
-// Seat 1 claims key 5, or brings in four fonts where one leaves: the newest three are then 8, 5 and 7.
+// Seat 1 claims key 5, or brings in four fonts where one leaves: the newest three are then 8, 5 and
+// 7.
 fn one_claim() -> [Note; 1] {
     [Note::new(5, 'c', 0, 0)]
 }

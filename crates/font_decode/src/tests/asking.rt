@@ -7,7 +7,8 @@ use outside::{FileName, FontKey, Library, LoadStop, MemFonts};
 use std::sync::Arc;
 use std::test::Fail;
 
-// A source of the TFM file of `dot` and of this file, of which the load with this number, from 1, fails.
+// A source of the TFM file of `dot` and of this file, of which the load with this number, from 1,
+// fails.
 fn source(rt: &HostRuntime, file: &[u8], fails: u64) -> Result<MemFonts, Fail> {
     let mut library = Library::new(rt.alloc());
     library.add(FileName::new(rt.alloc(), b"dot.tfm")?, Vec::new(rt.alloc()))?;
@@ -16,7 +17,7 @@ fn source(rt: &HostRuntime, file: &[u8], fails: u64) -> Result<MemFonts, Fail> {
     Ok(MemFonts::new(Arc::new(rt.alloc(), library)?, fails))
 }
 
-// The names that a source was asked for, each with a space behind it.
+// The names that a source was asked for, each with a space after it.
 fn text(rt: &HostRuntime, source: &MemFonts) -> Result<Vec<u8>, Fail> {
     let mut text = Vec::new(rt.alloc());
     for name in source.asked().ok_or("no names")? {

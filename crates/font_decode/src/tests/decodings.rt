@@ -80,7 +80,7 @@ fn width(rt: &HostRuntime, size: u32, tfm: &[u8], code: i32) -> Result<Option<i6
     }
 }
 
-// A file of so many bytes, each of them 0.
+// A file of n bytes, each of them 0.
 fn zeros(rt: &HostRuntime, length: usize) -> Result<Vec<u8>, Fail> {
     Ok(vec![in rt.alloc(); 0u8; length]?)
 }

@@ -10,8 +10,8 @@ use std::sync::Arc;
 use std::test::Fail;
 use vf_reader::VfFault;
 
-// Local font 0 is `dot` and 1 is `bar`, both at the font's own size and at 128 units by their design;
-// the letter 65 is that letter of `dot` and that of `bar`.
+// Local font 0 is `dot` and 1 is `bar`, both at the font's own size and at 128 units by their
+// design; the letter 65 is that letter of `dot` and that of `bar`.
 const DUO_VF: [u8; 60] = [
     0xf7, 0xca, 0x00, 0x00, 0x00, 0x00, 0x00, 0x00, 0xa0, 0x00, 0x00, 0xf3, 0x00, 0x00, 0x00, 0x00,
     0x00, 0x00, 0x10, 0x00, 0x00, 0x00, 0xf6, 0xae, 0x7d, 0x00, 0x03, 0x64, 0x6f, 0x74, 0xf3, 0x01,
@@ -46,8 +46,8 @@ fn fields(key: Option<&Arc<FontKey>>) -> Option<(&[u8], u8, u32, u32)> {
     Some((key.name.bytes(), key.area, key.size, key.design))
 }
 
-// What is wrong with `duo` at a size where `dot` has this factor and this design size in points, both
-// fix_words.
+// What is wrong with `duo` at a size where `dot` has this factor and this design size in points,
+// both fix_words.
 fn resized(rt: &HostRuntime, size: u32, factor: u32, points: u32) -> Result<Option<FontFault>, Fail>
     requires { (1 ≤ size) × (size < 2 ^ 27) }
 {

@@ -35,7 +35,7 @@ impl Gather {
         self.failed = result.is_err();
     }
 
-    // Writes what is held where there is no room for so many bytes behind it.
+    // Writes what is held where there is no room for n bytes after it.
     fn make_room<O: Output>(&mut self, out: &mut O, size: usize)
         ensures gathers { (start : Option (List ℕ)) (before : ℕ) (text : List ℕ)
             → Gathers start before self.old (O.written out.old) (O.faults out.old) text
@@ -47,7 +47,7 @@ impl Gather {
         }
     }
 
-    /// Puts the bytes behind what was put before. More bytes than are gathered for one write go to
+    /// Puts the bytes after what was put before. More bytes than are gathered for one write go to
     /// the output at once, uncopied.
     pub fn put<O: Output>(&mut self, out: &mut O, bytes: &[u8])
         ensures { (start : Option (List ℕ)) (before : ℕ) (text longer : List ℕ)
@@ -70,7 +70,7 @@ impl Gather {
     }
 
     /// Writes what is still held. `Failed` where a write failed, now or at an earlier `put`: then a
-    /// front of the text was written, and not all of it.
+    /// prefix of the text was written, and not all of it.
     pub fn finish<O: Output>(mut self, out: &mut O) -> Result<(), Failed>
         ensures { (start : Option (List ℕ)) (before : ℕ) (text : List ℕ)
             → Gathers start before self (O.written out.old) (O.faults out.old) text

@@ -33,8 +33,8 @@ pub fn over_plain<R: Wait>(rt: &R, alloc: Global, bytes: &[u8]) -> Result<(Outco
     Ok((outcome_of(alloc, drawn)?, loads))
 }
 
-// The first page of a document over the desk with a cache of one font, and the calls of its seat, where
-// these loads fail.
+// The first page of a document over the desk with a cache of one font, and the calls of its seat,
+// where these loads fail.
 fn over_solo<R: Wait>(
     rt: &R,
     alloc: Global,
@@ -59,8 +59,8 @@ fn over_solo<R: Wait>(
     Ok((outcome_of(alloc, drawn)?, letters(alloc, &calls)?))
 }
 
-// Five characters, each four dots on from the one before, the third and fourth at one place. Font 0 is
-// made current twice.
+// Five characters, each four dots on from the one before, the third and fourth at one place. Font 0
+// is made current twice.
 fn five(alloc: Global) -> Result<Vec<u8>, Fail> {
     let mut bytes = Vec::new(alloc);
     begin(alloc, &mut bytes)?;

@@ -18,7 +18,8 @@ static PK: [u8; 32] = [
     0xe0, 9, 65, 1, 0, 0, 4, 2, 2, 0, 1, 0xf0, 0xf5,
 ];
 
-/// Fonts `dot` and `bar`, which are alike, and `gap`, without a glyph. The loads with these numbers fail.
+/// Fonts `dot` and `bar`, which are alike, and `gap`, without a glyph. The loads with these numbers
+/// fail.
 pub fn fonts(alloc: Global, fails: &[u64]) -> Result<MemFonts, Fail> {
     let mut library = Library::new(alloc);
     let mut gap = Vec::from_slice(alloc, &PK[..19])?;

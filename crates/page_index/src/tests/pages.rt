@@ -30,7 +30,8 @@ fn one_page(rt: HostRuntime) -> Result<(), Fail> {
     Ok(())
 }
 
-// Font 0, character 65 set and 66 put, font 7 by one byte, character 128 set by one byte, and 65 again.
+// Font 0, character 65 set and 66 put, font 7 by one byte, character 128 set by one byte, and 65
+// again.
 const CHARACTERS: [u8; 9] = [0xab, 0x41, 0x85, 0x42, 0xeb, 7, 0x80, 0x80, 0x41];
 
 #[test]

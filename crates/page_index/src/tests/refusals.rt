@@ -47,7 +47,7 @@ fn a_preamble_is_judged_field_by_field(rt: HostRuntime) {
         with_byte(alloc, 10, 0xff),
         Some(DocFault::Preamble { at: 10 })
     );
-    // A field that is there is judged before what is wanting behind it.
+    // A field that is there is judged before what is missing after it.
     assert_eq!(rt; fault_of(alloc, &[0]), Some(DocFault::Preamble { at: 0 }));
     assert_eq!(rt;
         fault_of(alloc, &[0xf7, 2, 0, 0, 0, 0]),
@@ -65,7 +65,7 @@ fn a_unit_has_at_most_512_dots(rt: HostRuntime) {
     let mut bytes = ONE_PAGE;
     bytes[2..14].copy_from_slice(&[0x7f, 0xff, 0xff, 0xff, 0, 0, 0, 1, 0, 0, 0x03, 0xe8]);
     assert_eq!(rt; fault_of(alloc, &bytes), Some(DocFault::Scale { at: 2 }));
-    // Judged before the text: the file may end behind mag.
+    // Judged before the text: the file may end after mag.
     assert_eq!(rt;
         fault_of(alloc, &bytes[..14]),
         Some(DocFault::Scale { at: 2 })
@@ -74,7 +74,8 @@ fn a_unit_has_at_most_512_dots(rt: HostRuntime) {
         fault_of(alloc, &bytes[..13]),
         Some(DocFault::Truncated { at: 13 })
     );
-    // num = 254 * 512 * 10^6 / (300 * 10^3) would be 433493.3: with den 1 and mag 1000 it is the limit.
+    // num = 254 * 512 * 10^6 / (300 * 10^3) would be 433493.3: with den 1 and mag 1000 it is the
+    // limit.
     bytes[2..14].copy_from_slice(&[0, 0x06, 0x9d, 0x55, 0, 0, 0, 1, 0, 0, 0x03, 0xe8]);
     assert_eq!(rt;
         fault_of(alloc, &bytes),
@@ -195,7 +196,8 @@ fn the_trailer_is_judged_field_by_field(rt: HostRuntime) {
     );
     let mut bytes = ONE_PAGE;
     bytes[103] = 0x45;
-    // The pointer is judged before the identifier, which is wanting, and a wrong byte before the end.
+    // The pointer is judged before the identifier, which is missing, and a wrong byte before the
+    // end.
     assert_eq!(rt;
         fault_of(alloc, &bytes[..104]),
         Some(DocFault::Trailer { at: 100 })

@@ -12,8 +12,8 @@ use std::sync::atomic::{AtomicU32, Ordering};
 use std::test::Fail;
 use std::thread;
 
-// A source that holds its first load until the other's has begun, and fails it where that takes more
-// than 1,000,000,000 turns.
+// A source that holds its first load until the other's has begun, and fails it where that takes
+// more than 1,000,000,000 turns.
 #[derive(Drop)]
 struct Meeting {
     library: Arc<Library>,

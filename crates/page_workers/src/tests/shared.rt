@@ -19,8 +19,8 @@ struct Begun {
     thin: AtomicU32,
 }
 
-// A source that holds the load of `dot.tfm` until loads of `bar.tfm` and `thin.tfm` began, and fails
-// it where that takes more than 1,000,000,000 turns.
+// A source that holds the load of `dot.tfm` until loads of `bar.tfm` and `thin.tfm` began, and
+// fails it where that takes more than 1,000,000,000 turns.
 #[derive(Drop)]
 struct Holding {
     library: Arc<Library>,

@@ -1,6 +1,6 @@
 //! How long an item is.
 ghost use Rattle.std.specs.Prelude.{◌≡◌, ◌≤◌, ◌<◌, ◌+◌, IfErr, IfOk, OnOk, length};
-ghost use Rattle.byte_cursor.specs.Cursor.{behind, left};
+ghost use Rattle.byte_cursor.specs.Cursor.{after, left};
 ghost use Rattle.pk_packets.specs.Faults.{IsItemFault};
 ghost use Rattle.pk_packets.specs.Items.{code_size, count_size, item_size, opcode, told_size};
 ghost use Rattle.pk_packets.specs.declared.faults.PkFault.TheVariants as fault;
@@ -27,12 +27,12 @@ pub fn item_size(rest: &[u8]) -> Result<usize, PkFault>
     Ok(cursor.at())
 }
 
-// How many bytes follow behind the head of an item, of which the opcode was read.
+// How many bytes follow after the head of an item, of which the opcode was read.
 fn told_size(cursor: &mut Cursor, op: u8) -> Result<usize, PkFault>
     requires place { cursor.old.at ≡ 1 }
     requires opcode { op ≡ opcode cursor.old.bytes }
     ensures told { IfOk result (λ told. told ≡ told_size cursor.old.bytes) }
-    ensures moved { OnOk result (cursor.new ≡ behind cursor.old (count_size op + code_size op)) }
+    ensures moved { OnOk result (cursor.new ≡ after cursor.old (count_size op + code_size op)) }
     ensures short { IfErr result (λ f. f ≡ fault.Short) }
     ensures cut { IfErr result (λ _. left cursor.old < count_size op + code_size op) }
 {
@@ -51,7 +51,7 @@ fn packet_length(cursor: &mut Cursor, flag: u8) -> Result<usize, PkFault>
     requires opcode { flag ≡ opcode cursor.old.bytes }
     requires packet { flag < 240 }
     ensures told { IfOk result (λ told. told ≡ told_size cursor.old.bytes) }
-    ensures moved { OnOk result (cursor.new ≡ behind cursor.old (count_size flag + code_size flag)) }
+    ensures moved { OnOk result (cursor.new ≡ after cursor.old (count_size flag + code_size flag)) }
     ensures short { IfErr result (λ f. f ≡ fault.Short) }
     ensures cut { IfErr result (λ _. left cursor.old < count_size flag + code_size flag) }
 {

@@ -18,7 +18,8 @@ pub fn next_item(
     repeated: bool,
 ) -> Result<Reading, RunFault>
     requires { dyn_f ≤ 13 }
-    ensures { MatchResult result (IsItemRead dyn_f nybbles.old nybbles.new repeated) (CantRead dyn_f nybbles.old row repeated) }
+    ensures { MatchResult result (IsItemRead dyn_f nybbles.old nybbles.new repeated)
+        (CantRead dyn_f nybbles.old row repeated) }
 {
     let Some(first) = nybbles.next() else {
         return Err(RunFault::Short);

@@ -4,7 +4,8 @@ use crate::{Raster, RunStop, raster};
 use std::alloc::Global;
 use std::test::Fail;
 
-// A row of numbers by a dyn_f: runs end at these columns, the first black, the next white, a third black.
+// A row of numbers by a dyn_f: runs end at these columns, the first black, the next white, a third
+// black.
 #[derive(Clone, Copy)]
 struct Spelled {
     dyn_f: u8,
@@ -44,10 +45,10 @@ fn make_row(dyn_f: u8, bytes: [u8; 4], ends: [u32; 3], width: u32) -> Spelled {
     }
 }
 
-// With d for dyn_f the largest number of one nybble is d. Two nybbles begin with d + 1, 0, which is d + 1,
-// and end with 13, 15, which is (13 - d) * 16 + d. The least long number, 0, 1, 0, is one more. Here these
-// four numbers stand one after another. Without numbers of one nybble (d = 0) there are three, and
-// without numbers of two nybbles (d = 13) there are two.
+// With d for dyn_f the largest number of one nybble is d. Two nybbles begin with d + 1, 0, which is
+// d + 1, and end with 13, 15, which is (13 - d) * 16 + d. The least long number, 0, 1, 0, is one
+// more. Here these four numbers stand one after another. Without numbers of one nybble (d = 0)
+// there are three, and without numbers of two nybbles (d = 13) there are two.
 #[test]
 fn each_dyn_f(rt: HostRuntime) -> Result<(), Fail> {
     let table = [

@@ -12,7 +12,7 @@ const PREAMBLE: [u8; 19] = [
     0xf7, 0x59, 0, 0, 0xa0, 0, 0, 0, 0, 0, 0, 0, 0x04, 0x26, 0xae, 0, 0x04, 0x26, 0xae,
 ];
 
-// A glyph of so many columns and rows from the bytes of a plain bitmap.
+// A glyph of n columns and rows from the bytes of a plain bitmap.
 fn plain(
     alloc: Global,
     bytes: &[u8],

@@ -16,7 +16,7 @@ fn count(bytes: &[u8], k: usize) -> usize
     big_endian::unsigned(&bytes[at..at + 2]) as usize
 }
 
-// The words of the seven tables behind the widths.
+// The words of the seven tables after the widths.
 fn others(bytes: &[u8]) -> usize
     requires { 24 ≤ length bytes.now }
     ensures number { result ≡ others bytes.now }
@@ -31,7 +31,7 @@ fn others(bytes: &[u8]) -> usize
         + count(bytes, 11)
 }
 
-// The counts at the front.
+// The counts at the beginning.
 fn counts(bytes: &[u8]) -> Counts
     requires { 24 ≤ length bytes.now }
     ensures { AreCountsOf result bytes.now }

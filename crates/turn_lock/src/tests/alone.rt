@@ -8,7 +8,7 @@ use std::alloc::Global;
 use std::sync::Wait;
 use std::test::Fail;
 
-// So many turns. Says whether each found the lock free, and left it so with nobody asleep.
+// n turns. Says whether each found the lock free, and left it so with nobody asleep.
 fn turns_alone<R: Wait>(rt: &R, lock: &TurnLock<Diary>, seat: &mut Seat<Diary>, count: u64) -> bool
     requires lock { seat.old.lock ≡ lock.now }
     requires idle { seat.old.view.stage ≡ Idle }

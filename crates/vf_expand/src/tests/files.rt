@@ -119,7 +119,7 @@ fn add_over(
 ) -> Result<(), Fail> {
     let define: &[u8] = &[0xf3, 0, 0, 0, 0, 0, 0, 16, 0, 0, 0, 0xf6, 0xae, 0x7d, 0];
     let length = [u8::try_from(local.len()).unwrap_or(0)];
-    let front = [u8::try_from(packet.len()).unwrap_or(0), 65, 1, 0, 0];
+    let prefix = [u8::try_from(packet.len()).unwrap_or(0), 65, 1, 0, 0];
     let end: &[u8] = &[0xf8];
     add(
         alloc,
@@ -130,7 +130,7 @@ fn add_over(
             define,
             &length,
             local.as_bytes(),
-            &front,
+            &prefix,
             packet,
             end,
         ],

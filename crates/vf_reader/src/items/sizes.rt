@@ -1,6 +1,6 @@
 //! How long an item is.
 ghost use Rattle.std.specs.Prelude.{◌≡◌, ◌≤◌, ◌<◌, ◌+◌, ◌≢◌, IfErr, IfOk, OnOk, length};
-ghost use Rattle.byte_cursor.specs.Cursor.{behind, left};
+ghost use Rattle.byte_cursor.specs.Cursor.{after, left};
 ghost use Rattle.vf_reader.specs.Faults.{IsItemFault};
 ghost use Rattle.vf_reader.specs.Items.{head_size, item_size, opcode, told_size};
 ghost use Rattle.vf_reader.specs.declared.faults.VfFault.TheVariants as fault;
@@ -27,7 +27,7 @@ pub fn item_size(rest: &[u8]) -> Result<usize, VfFault>
     Ok(cursor.at())
 }
 
-// How many bytes follow behind the head of an item, of which the opcode was read.
+// How many bytes follow after the head of an item, of which the opcode was read.
 fn told_size(cursor: &mut Cursor, op: u8) -> Result<usize, VfFault>
     requires place { cursor.old.at ≡ 1 }
     requires opcode { op ≡ opcode cursor.old.bytes }
@@ -50,7 +50,7 @@ fn told_size(cursor: &mut Cursor, op: u8) -> Result<usize, VfFault>
     local_name_size(cursor, op)
 }
 
-// The length of a local font's name with its area, behind the other fields of the definition.
+// The length of a local font's name with its area, after the other fields of the definition.
 fn local_name_size(cursor: &mut Cursor, op: u8) -> Result<usize, VfFault>
     requires place { cursor.old.at ≡ 1 }
     requires opcode { op ≡ opcode cursor.old.bytes }

@@ -83,7 +83,7 @@ fn definitions_of_local_fonts(rt: HostRuntime) -> Result<(), Fail> {
     Ok(())
 }
 
-// The file is looked at from the front: the preamble, a packet, an opcode, and the end.
+// The file is looked at from the beginning: the preamble, a packet, an opcode, and the end.
 #[test]
 fn the_first_fault(rt: HostRuntime) {
     assert_eq!(rt;

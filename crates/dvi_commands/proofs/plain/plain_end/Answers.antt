@@ -5,9 +5,9 @@ use Rattle.dvi_commands.proofs.plain.plain_end.Goals as goal
 use Rattle.dvi_commands.proofs.plain.plain_end.Goals.{then-length-eq0-via-then-length-eq0, then-length-eq0-via-else-length-eq0+then-bytes-at}
 
 pub returns-then-length-eq0-clause-other : goal.returns-then-length-eq0-clause-other
-returns-then-length-eq0-clause-other c _ command front rest begins =
+returns-then-length-eq0-clause-other c _ command prefix rest begins =
     let few = are_bytes c.args.bytes.now (λ k. omega (arith, c.type_inv.bytes k)) in
-    let no_command = none_plain c.args.bytes.now c.args.at c.plain_length-length.result few (omega arith) c.plain_length-length.ensures command front rest in
+    let no_command = none_plain c.args.bytes.now c.args.at c.plain_length-length.result few (omega arith) c.plain_length-length.ensures command prefix rest in
     elim c.then-length-eq0.branch [
       | then-length-eq0-via-then-length-eq0 w ↦ no_command (inl w.if-length-eq0.true) begins
       | then-length-eq0-via-else-length-eq0+then-bytes-at w ↦ no_command (inr w.if-bytes-at.true) begins

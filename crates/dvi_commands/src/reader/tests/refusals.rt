@@ -18,8 +18,8 @@ fn is_among(opcode: u8, stretches: &Stretches) -> bool {
     false
 }
 
-/// Whether each opcode is refused in the context where it may not stand, and read where it may: with
-/// fields of zeros every command is whole.
+/// Whether each opcode is refused in the context where it may not stand, and read where it may:
+/// with fields of zeros every command is whole.
 fn are_judged(context: Context, stretches: &Stretches) -> bool {
     let mut bytes = [0; 45];
     for opcode in 0..=255 {

@@ -2,7 +2,7 @@ use Rattle.std.proofs.Common.{◌<◌, arith}
 use Rattle.page_index.specs.Document.{pages_begun}
 use Rattle.page_index.specs.Pages.{eop_at}
 use Rattle.dvi_run.specs.Laws.{OneReading}
-use Rattle.dvi_run.proofs.OneRun.{fronts, good_alike, is_there, one_run, refused_alike}
+use Rattle.dvi_run.proofs.OneRun.{prefixes, good_alike, is_there, one_run, refused_alike}
 use Rattle.dvi_run.proofs.laws.runs.Goals as goal
 
 pub returns-clause-reading : goal.returns-clause-reading
@@ -13,8 +13,8 @@ returns-clause-values c =
     let reading : OneReading = λ g bytes r s v w a b. c.documents.ensures.one_reading g.res bytes r s a.document b.document in
     one_run c.values.ensures.one reading
 
-pub returns-clause-fronts : goal.returns-clause-fronts
-returns-clause-fronts c = fronts
+pub returns-clause-prefixes : goal.returns-clause-prefixes
+returns-clause-prefixes c = prefixes
 
 pub returns-clause-no_fault : goal.returns-clause-no_fault
 returns-clause-no_fault c = λ g bytes reading values fault run first. c.documents.ensures.no_fault g.res bytes reading fault run.document first

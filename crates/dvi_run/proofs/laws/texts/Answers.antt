@@ -1,4 +1,4 @@
-use Rattle.dvi_run.proofs.Fronts.{faults_end_the_run, runs_end, runs_of_good_pages}
+use Rattle.dvi_run.proofs.Prefixes.{faults_end_the_run, runs_end, runs_of_good_pages}
 use Rattle.dvi_run.proofs.laws.texts.Goals as goal
 
 pub returns-clause-good : goal.returns-clause-good

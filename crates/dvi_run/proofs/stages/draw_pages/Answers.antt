@@ -5,7 +5,7 @@ use Rattle.cache_core.specs.Views.{calls_of}
 use Rattle.dvi_run.specs.Endings.{seen_ending}
 use Rattle.dvi_run.specs.Pages.{Given}
 use Rattle.dvi_run.specs.Together.{DrewPages}
-use Rattle.dvi_run.proofs.Together.{front_few, front_fresh, front_seatless, front_some, of_front, one_history, one_of, rest_of_front}
+use Rattle.dvi_run.proofs.Together.{prefix_few, prefix_fresh, prefix_seatless, prefix_some, of_prefix, one_history, one_of, rest_of_prefix}
 use Rattle.dvi_run.proofs.stages.draw_pages.Goals as goal
 
 pub draw_at_once-requires : goal.draw_at_once-requires
@@ -15,7 +15,7 @@ draw_at_once-requires g c κs within =
     let ws = c.args.workers.now in
     let there : n ≤ length ws = q.1.0 in
     let long : length (take n ws) ≡ n = length-take-le n ws there in
-    (search rules fits 100000 depth 60, (search rules fits 100000 depth 60, (search rules fits 100000 depth 60, (search rules fits 100000 depth 60, (search rules fits 100000 depth 60, (front_some n ws there q.0.workers.0, (front_few n ws there q.0.workers.1, (search rules, (search rules, (search rules, (q.1.1.1.0, (front_fresh g.F.FontSource.library g.told n ws there q.1.1.0, front_seatless g.F.FontSource.library g.told n ws there q.1.1.0))))))))))))
+    (search rules fits 100000 depth 60, (search rules fits 100000 depth 60, (search rules fits 100000 depth 60, (search rules fits 100000 depth 60, (search rules fits 100000 depth 60, (prefix_some n ws there q.0.workers.0, (prefix_few n ws there q.0.workers.1, (search rules, (search rules, (search rules, (q.1.1.1.0, (prefix_fresh g.F.FontSource.library g.told n ws there q.1.1.0, prefix_seatless g.F.FontSource.library g.told n ws there q.1.1.0))))))))))))
 
 pub returns-clause-drew : goal.returns-clause-drew
 returns-clause-drew g c =
@@ -24,8 +24,8 @@ returns-clause-drew g c =
     let ws = c.args.workers.now in
     let there : n ≤ length ws = q.1.0 in
     let long : length (take n ws) ≡ n = length-take-le n ws there in
-    let front = c.draw_at_once.new.workers in
-    let many : length front ≡ n = (let same : length front ≡ length (take n ws) = search rules in same ∙ long) in
+    let prefix = c.draw_at_once.new.workers in
+    let many : length prefix ≡ n = (let same : length prefix ≡ length (take n ws) = search rules in same ∙ long) in
     let library = g.F.FontSource.library in
     let faults = g.F.FontSource.faults in
     let loads = g.F.FontSource.loads in
@@ -41,18 +41,18 @@ returns-clause-drew g c =
     let history = calls_of c.draw_at_once.new.history.items in
     let done = c.draw_at_once.ensures in
     let given : Given = record { library = g.told; res = c.args.index.now.res; sheet = sheet } in
-    let drew : DrewPages library faults loads given counted reading cache (length (take n ws)) old new P e tally history (take n ws) front =
+    let drew : DrewPages library faults loads given counted reading cache (length (take n ws)) old new P e tally history (take n ws) prefix =
     record {
       ends = done.ends;
       failed = done.cause;
       shares = done.shares;
-      one = one_history library faults loads given (length (take n ws)) cache old new P reading done.ends.0 e history (take n ws) front done.ends.2 done.legal done.made done.first done.few_claims done.workers (λ k lt. one_of (take n ws) k lt);
+      one = one_history library faults loads given (length (take n ws)) cache old new P reading done.ends.0 e history (take n ws) prefix done.ends.2 done.legal done.made done.first done.few_claims done.workers (λ k lt. one_of (take n ws) k lt);
       ran = done.workers;
     } in
-    let all : DrewPages library faults loads given counted reading cache n old new P e tally history (take n ws) front =
-    subst (λ (m : ℕ). DrewPages library faults loads given counted reading cache m old new P e tally history (take n ws) front) long drew in
-    subst (λ (r : ℕ). DrewPages library faults loads (record { library = g.told; res = r; sheet = sheet }) counted reading cache n old new P e tally history ws (front ++ drop n ws)) q.1.1.1.1
-    (of_front library faults loads given counted reading cache old new P e tally history n ws front (drop n ws) many all)
+    let all : DrewPages library faults loads given counted reading cache n old new P e tally history (take n ws) prefix =
+    subst (λ (m : ℕ). DrewPages library faults loads given counted reading cache m old new P e tally history (take n ws) prefix) long drew in
+    subst (λ (r : ℕ). DrewPages library faults loads (record { library = g.told; res = r; sheet = sheet }) counted reading cache n old new P e tally history ws (prefix ++ drop n ws)) q.1.1.1.1
+    (of_prefix library faults loads given counted reading cache old new P e tally history n ws prefix (drop n ws) many all)
 
 pub returns-clause-rest : goal.returns-clause-rest
 returns-clause-rest g c =
@@ -61,6 +61,6 @@ returns-clause-rest g c =
     let ws = c.args.workers.now in
     let there : n ≤ length ws = q.1.0 in
     let long : length (take n ws) ≡ n = length-take-le n ws there in
-    let front = c.draw_at_once.new.workers in
-    let many : length front ≡ n = (let same : length front ≡ length (take n ws) = search rules in same ∙ long) in
-    rest_of_front n ws front many
+    let prefix = c.draw_at_once.new.workers in
+    let many : length prefix ≡ n = (let same : length prefix ≡ length (take n ws) = search rules in same ∙ long) in
+    rest_of_prefix n ws prefix many

@@ -6,7 +6,7 @@ use Rattle.font_decode.specs.Fonts.{key_with}
 use Rattle.font_decode.specs.Locals.{are_local_sizes, local_key}
 use Rattle.font_decode.proofs.locals.local_keys.Given as goal
 
--- the keys of the local fonts behind the next one
+-- the keys of the local fonts after the next one
 abbrev pub invariant-loop-local : goal.invariant-loop-local
 invariant-loop-local l = record {
   right : IsTrue (are_local_sizes l.units l.size (reverse (map (λ d. d.now) l.yielded)));

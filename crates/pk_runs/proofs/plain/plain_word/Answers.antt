@@ -10,4 +10,4 @@ pub loop-x-preserved : goal.loop-x-preserved
 loop-x-preserved c = plain_word_byte (pixel c.args.bytes.now) c.args.place c.loop-x.x _ c.loop-x.word c.byte_pixels-word.result c.byte_pixels-word.ensures c.loop-x.invariant
 
 pub returns : goal.returns
-returns c = plain_word_cut (pixel c.args.bytes.now) c.args.place c.args.w c.loop-x.x c.loop-x.word c.front.result (omega (arith, c.loop-x-test.false)) c.front.ensures c.loop-x.invariant
+returns c = plain_word_cut (pixel c.args.bytes.now) c.args.place c.args.w c.loop-x.x c.loop-x.word c.prefix.result (omega (arith, c.loop-x-test.false)) c.prefix.ensures c.loop-x.invariant

@@ -41,7 +41,7 @@ returns-clause-acts c =
       some = some;
       packet = there.1;
       program = there.2;
-      front = refl;
+      prefix = refl;
       first = c.in_ok-first_current.ensures.first;
       gives = λ at others. has_packet at (arc_value c.args.key.now) c.args.font.now c.args.code c.args.gap _ c.args.room there.0 some own;
     }

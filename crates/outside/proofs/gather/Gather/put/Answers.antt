@@ -8,7 +8,7 @@ use Rattle.outside.proofs.gather.Gather.put.Goals as goal
 nothing_held : (used size : ℕ) → (used + size ≤ 65536) ⊎ (used ≡ 0) → 65536 - used < size → used ≡ 0
 nothing_held used size h lt = grind arith
 
--- bytes are copied behind those that are held
+-- bytes are copied after those that are held
 placed : (piece bytes copied : List ℕ) (used : ℕ) → used + length bytes ≤ length piece → copied ≡ bytes
     → take (used + length bytes) (put_mid used (used + length bytes - used) piece copied) ≡ take used piece ++ bytes
 placed piece bytes copied used fits is = grind (arith, common_steps)

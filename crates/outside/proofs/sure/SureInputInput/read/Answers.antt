@@ -7,6 +7,6 @@ returns-clause-bytes c =
     let xs = c.args.self.now.bytes.items in
     let at = c.args.self.now.at in
     let same = c.deref.ensures.value in (
-      taken xs _ c.copy_front-n.new.buf at c.copy_front-n.result same c.copy_front-n.ensures.copied,
-      λ none room. all_taken xs _ at (length c.args.buf.now) _ c.copy_front-n.result same c.args.self.now.inside c.requires c.copy_front-n.ensures.count none room,
+      taken xs _ c.copy_prefix-n.new.buf at c.copy_prefix-n.result same c.copy_prefix-n.ensures.copied,
+      λ none room. all_taken xs _ at (length c.args.buf.now) _ c.copy_prefix-n.result same c.args.self.now.inside c.requires c.copy_prefix-n.ensures.count none room,
     )

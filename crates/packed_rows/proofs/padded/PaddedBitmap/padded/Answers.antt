@@ -23,8 +23,8 @@ returns-clause-row c =
     ∙ ap (λ (p : Bitmap). row_text (slice_index_or p.rows c.args.y [])) c.self.view_is
 
 pub returns-clause-zero : goal.returns-clause-zero
-returns-clause-zero c = λ i behind.
+returns-clause-zero c = λ i after.
     let high : c.self.inside.height ≡ c.args.self.now.height = ap (λ (p : Bitmap). p.height) c.self.view_is in
     let wide : c.self.inside.width ≡ c.args.self.now.width = ap (λ (p : Bitmap). p.width) c.self.view_is in
     ap (λ l. get_or l i 0) (words_read c.self.inside.width c.args.y c.padded_bytes-stride.result c.self.inside.bytes.items c.deref.result.now c.padded_bytes-stride.ensures c.deref.ensures.value)
-    ∙ words_zero c.self.inside.width i _ (c.self.invariant.padded c.args.y (omega (arith, high, c.requires))) (subst (λ (w : ℕ). div_ceil w 8 ≤ i) (sym wide) behind)
+    ∙ words_zero c.self.inside.width i _ (c.self.invariant.padded c.args.y (omega (arith, high, c.requires))) (subst (λ (w : ℕ). div_ceil w 8 ≤ i) (sym wide) after)

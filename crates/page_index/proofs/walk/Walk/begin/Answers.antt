@@ -1,6 +1,6 @@
 use Rattle.std.proofs.Common.{[], refl}
 use Rattle.dvi_commands.specs.Spelling.{seen}
-use Rattle.page_index.specs.Walked.{behind_preamble}
+use Rattle.page_index.specs.Walked.{after_preamble}
 use Rattle.page_index.proofs.Begin.{begun, not_refused}
 use Rattle.page_index.proofs.Steps.{read_as}
 use Rattle.page_index.proofs.walk.Walk.begin.Goals as goal
@@ -10,6 +10,6 @@ unreachable-requires c = not_refused c.args.bytes.now c.args.first.now c.in-Err.
 
 pub returns : goal.returns
 returns c =
-    read_as c.args.bytes.now c.args.first.now (behind_preamble c.in-Ok.next) c.behind_preamble.result [] c.new.result.items c.new-2.result c.new-2.result
-    c.behind_preamble.ensures c.new.ensures.items refl
+    read_as c.args.bytes.now c.args.first.now (after_preamble c.in-Ok.next) c.after_preamble.result [] c.new.result.items c.new-2.result c.new-2.result
+    c.after_preamble.ensures c.new.ensures.items refl
     (begun c.args.bytes.now c.args.first.now c.requires (seen c.in-Ok.field-0-0) c.in-Ok.next c.in-Ok.ensures.read c.in-Ok.ensures.place.0 c.in-Ok.ensures.place.1 c.in-Ok.ensures.allowed c.new-2.result c.new-2.ensures)

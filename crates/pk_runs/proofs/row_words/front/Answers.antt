@@ -1,5 +1,0 @@
-use Rattle.pk_runs.proofs.RowWords.{masked_pixel}
-use Rattle.pk_runs.proofs.row_words.front.Goals as goal
-
-pub returns : goal.returns
-returns c = λ i h. masked_pixel c.args.word c.args.column i c.requires h
