@@ -232,6 +232,8 @@ impl Pen {
 }
 
 #[cfg(test)]
+mod mark_tests;
+#[cfg(test)]
 mod packet_tests;
 #[cfg(test)]
 mod stack_tests;

@@ -43,6 +43,7 @@ module _ {F G : Type 0} (mine : Worker G) (was now : Worker F) (h : WasHanded mi
     seat = h.seat ∙ ready.seat;
     none = ap (λ v. v.items) h.results ∙ ready.fresh.none;
     counter = h.counter ∙ ready.fresh.counter;
+    paper = λ none. ap (λ v. v.items) h.paper ∙ none;
     tells = subst (λ (s : F). IfSome told (λ l. library s ≡ Some l)) (sym h.source) ready.fresh.tells;
     count = subst (λ (s : F). faults was.source ≤ faults s) (sym h.source) (omega arith);
     keys = w.keys;

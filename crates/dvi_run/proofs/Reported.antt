@@ -128,6 +128,7 @@ module _ {F : Type 0} (library : F → Option Files) (faults loads : F → ℕ) 
     seat = w.seat;
     none = w.none;
     counter = w.counter;
+    paper = w.paper;
     tells = w.tells;
     count = w.count;
     keys = w.keys;

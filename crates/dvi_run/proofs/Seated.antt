@@ -14,6 +14,7 @@ use Rattle.font_decode.specs.Desks.{Trail, TrailGrew, WentFor, ReleasedLast, Loa
 use Rattle.page_workers.specs.declared.worker.Worker.{Worker}
 use Rattle.page_workers.specs.Seats.{IsAt, Fits, own_calls, asked_at, trail_at, room_at, library_at, units_at}
 use Rattle.page_workers.specs.Seating.{WasSeated, MayLeave}
+use Rattle.page_workers.specs.Paper.{HasNoPaper}
 use Rattle.page_workers.specs.Rounds.{trail_of}
 use Rattle.dvi_run.specs.Pages.{Given, finding}
 use Rattle.dvi_run.specs.Looked.{WholeLooks, BrokenLooks}
@@ -96,7 +97,7 @@ module _ {F : Type 0} (s : Site F) (part : Common) (told : part.library ≡ s.gi
         ap keys_of is ∙ cc there
 
     module _ (history : List Call) (after : Worker F) (left : own k history ≡ own_calls t) (none : after.seat ≡ None) (source : after.source ≡ now.source) (loads : after.loads ≡ now.loads)
-        (pages : after.pages.items ≡ now.pages.items) (results : after.results.items ≡ now.results.items) (counter : after.counter ≡ now.counter) where
+        (pages : after.pages.items ≡ now.pages.items) (results : after.results.items ≡ now.results.items) (counter : after.counter ≡ now.counter) (paper : HasNoPaper after) where
       own_here : own k history ≡ went.went.calls
       own_here = left ∙ calls_are
 
@@ -118,6 +119,7 @@ module _ {F : Type 0} (s : Site F) (part : Common) (told : part.library ≡ s.gi
         seat = none;
         none = results ∙ ended.none;
         counter = counter ∙ ended.counter;
+        paper = λ none. paper;
         tells = still_tells;
         faults_rose = subst (λ (x : F). s.faults x ≤ s.faults after.source) seated.same.source (subst (λ (x : F). s.faults start.source ≤ s.faults x) (sym source) ended.kept.faults);
         keys = went.keys;
@@ -151,6 +153,7 @@ unused library faults loads g reading number w fresh none Whole = record {
   seat = none;
   none = fresh.none;
   counter = fresh.counter;
+  paper = λ none. none;
   tells = fresh.tells;
   faults_rose = omega arith;
   keys = [];

@@ -155,6 +155,7 @@ module _ {F : Type 0} (library : F → Option Files) (faults loads : F → ℕ) 
     seat = ran.seat;
     none = ran.none;
     counter = ran.counter;
+    paper = ran.paper;
     tells = ran.tells;
     count = ran.faults_rose;
     keys = ran.keys;
@@ -280,6 +281,7 @@ idle_worked library faults loads told sample n status k w ready = record {
   seat = ready.seat;
   none = ready.fresh.none;
   counter = ready.fresh.counter;
+  paper = λ none. none;
   tells = ready.fresh.tells;
   count = omega arith;
   keys = [];

@@ -24,6 +24,7 @@ use Rattle.pbm_output.specs.Pbm.{page_text}
 use Rattle.page_workers.specs.declared.bench.Bench.{Bench}
 use Rattle.page_workers.specs.declared.worker.Worker.{Worker}
 use Rattle.page_workers.specs.Seats.{Fits, asked_at, library_at, units_at, room_at, own_calls}
+use Rattle.page_workers.specs.Paper.{HasNoPaper}
 use Rattle.page_workers.specs.Rounds.{trail_of}
 use Rattle.dvi_run.specs.Pages.{Given, IsValueOf, finding}
 use Rattle.dvi_run.specs.Looked.{BrokenLooks, WholeLooks}
@@ -170,6 +171,7 @@ pub record Ran {F : Type 0} (Whole : Type 0) (library : F → Option Files) (fau
   pub seat : after.seat ≡ None
   pub none : after.results.items ≡ []
   pub counter : after.counter ≡ None
+  pub paper : HasNoPaper before → HasNoPaper after
   pub tells : IfSome g.library (λ l. library after.source ≡ Some l)
   pub faults_rose : faults before.source ≤ faults after.source
   pub keys : List FontKey

@@ -76,6 +76,7 @@ pub record WasHanded {F G : Type 0} (own : Worker G) (before after : Worker F) :
   pub seat : after.seat ≡ before.seat
   pub results : after.results ≡ before.results
   pub counter : after.counter ≡ before.counter
+  pub paper : after.paper ≡ before.paper
   pub loads : after.loads ≡ own.loads
   pub pages : after.pages.items ≡ own.pages.items
   pub same : own.pages.items ≡ [] → own.loads ≡ before.loads → after ≡ before

@@ -12,6 +12,7 @@ use Rattle.turn_lock.specs.Histories.{AllMade}
 use Rattle.font_decode.specs.Desks.{ReleasedLast, misses}
 use Rattle.page_index.specs.Document.{Reading, pages_begun}
 use Rattle.page_draw.specs.Values.{PageValue}
+use Rattle.page_workers.specs.Paper.{HasNoPaper}
 use Rattle.page_workers.specs.declared.worker.Worker.{Worker}
 use Rattle.dvi_run.specs.Pages.{AreValues, Given, finding}
 use Rattle.dvi_run.specs.Endings.{EndingSeen, Source, EndsPages, IsAmong, OfRun, WroteAll, status_of}
@@ -78,10 +79,11 @@ pub record IsOneHistory (capacity n status : ℕ) (history : List Call) : Type 0
 pub record Worked {F : Type 0} (library : F → Option Files) (faults loads : F → ℕ)
     (told : Option Files) (sample : Option ℕ) (n status : ℕ) (history : List Call) (k : ℕ)
     (before after : Worker F) : Type 0 where
-  -- it has neither a seat nor a result any more
+  -- it has neither a seat nor a result any more, and no paper, unless it had some before
   pub seat : after.seat ≡ None
   pub none : after.results.items ≡ []
   pub counter : after.counter ≡ None
+  pub paper : HasNoPaper before → HasNoPaper after
   -- its source tells what the run was told, and its count of faults didn't fall
   pub tells : IfSome told (λ l. library after.source ≡ Some l)
   pub count : faults before.source ≤ faults after.source

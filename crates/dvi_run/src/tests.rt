@@ -9,6 +9,7 @@ mod crews;
 mod desks;
 mod drawing;
 mod entries;
+mod failing_notes;
 mod faults;
 mod files;
 mod font_faults;

@@ -5,7 +5,8 @@ ghost use Rattle.cache_core.specs.Histories.{own, open_claim};
 ghost use Rattle.turn_lock.specs.declared.view.Stage.TheVariants.{Idle};
 
 use crate::{CacheSeat, FontCache};
-use cache_core::{Act, Entry, Look, Stands};
+use cache_core::{Entry, Look, Stands};
+use one_key::{OneKey, fits, is_told};
 use outside::{FontKey, FontName};
 use std::alloc::{AllocError as NoMemory, Global};
 use std::sync::atomic::{AtomicU32, Ordering};
@@ -15,6 +16,7 @@ use std::thread;
 use std::thread::Threads;
 
 mod eight;
+mod one_key;
 mod walk;
 
 // A font that stands for keys of its size. Its number tells it from other fonts of that size.
@@ -234,55 +236,6 @@ fn two_threads<R: Threads + Wait + Sync>(rt: &R, alloc: Global) -> Option<(u32, 
     cache.join(&mut first, two);
     let entries = cache.close(first);
     Some((ones? + twos?, entries))
-}
-
-// A letter for what was done.
-fn letter(act: &Act) -> char {
-    match act {
-        Act::Hit => 'h',
-        Act::Claimed => 'c',
-        Act::Busy => 'b',
-        Act::Filled { gone: None } => 'f',
-        Act::Filled { gone: Some(_) } => 'g',
-        Act::Released => 'r',
-    }
-}
-
-fn is_told(entries: &[Entry], expected: &[(u32, char)]) -> bool {
-    entries
-        .iter()
-        .map(|entry: &Entry| (entry.seat, letter(&entry.act)))
-        .eq(expected.iter().copied())
-}
-
-// The seat that claims the one key, and whether its font is there.
-#[derive(Drop)]
-struct OneKey {
-    claims: Option<u32>,
-    is_there: bool,
-}
-
-// Whether the call may be made then, and makes its change.
-fn fits(state: &mut OneKey, entry: &Entry) -> bool {
-    let is_own = state.claims == Some(entry.seat);
-    match &entry.act {
-        Act::Hit => state.is_there,
-        Act::Busy => !state.is_there && state.claims.is_some() && !is_own,
-        Act::Claimed => {
-            let is_free = !state.is_there && state.claims.is_none();
-            state.claims = Some(entry.seat);
-            is_free
-        }
-        Act::Filled { gone } => {
-            state.claims = None;
-            state.is_there = true;
-            is_own && gone.is_none()
-        }
-        Act::Released => {
-            state.claims = None;
-            is_own
-        }
-    }
 }
 
 #[test]

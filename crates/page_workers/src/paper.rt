@@ -3,7 +3,7 @@
 ghost use Rattle.std.specs.Prelude.{◌≡◌, ℕ, ◌<◌, ◌≤◌, [], IfOk, length, slice_index_or};
 ghost use Rattle.page_draw.specs.Sheets.{IsDrawable};
 ghost use Rattle.raster_page.specs.Ink.{page_of};
-ghost use Rattle.page_workers.specs.Paper.{SameButPaper};
+ghost use Rattle.page_workers.specs.Paper.{HasNoPaper, MayKeepPage, SameButPaper};
 
 use crate::worker::Worker;
 use outside::FontSource;
@@ -29,7 +29,8 @@ pub fn blank_page(alloc: Global, paper: &mut Vec<Page>, sheet: &Sheet) -> Result
 impl<F: FontSource> Worker<F> {
     /// Keeps a page that was written as paper. Where there is no memory to note it, it is dropped.
     pub fn give_back(&mut self, page: Page)
-        ensures { SameButPaper self.old self.new }
+        ensures same { SameButPaper self.old self.new }
+        ensures kept { MayKeepPage page self.old self.new }
     {
         let _kept = self.paper.push(page);
     }
@@ -37,7 +38,7 @@ impl<F: FontSource> Worker<F> {
     // Drops the paper.
     fn drop_paper(&mut self)
         ensures same { SameButPaper self.old self.new }
-        ensures none { self.new.paper.items ≡ [] }
+        ensures none { HasNoPaper self.new }
     {
         self.paper.clear();
     }
@@ -73,7 +74,7 @@ pub fn drop_paper<F: FontSource>(workers: &mut [Worker<F>])
     ensures same { (k : ℕ) (d : _) → k < length workers.old
         → SameButPaper (slice_index_or workers.old k d) (slice_index_or workers.new k d) }
     ensures none { (k : ℕ) (d : _) → k < length workers.old
-        → (slice_index_or workers.new k d).paper.items ≡ [] }
+        → HasNoPaper (slice_index_or workers.new k d) }
 {
     for k in 0..workers.len() {
         workers[k].drop_paper();

@@ -1,5 +1,5 @@
 //! A round: some pages, drawn by all workers at once, each in a thread of its own.
-ghost use Rattle.std.specs.Prelude.{◌≡◌, ℕ, ◌+◌, ◌<◌, ◌≤◌, None, Some, length, slice_index_or, OnOk, OnErr};
+ghost use Rattle.std.specs.Prelude.{◌≡◌, ℕ, ◌+◌, ◌<◌, ◌≤◌, [], None, Some, length, slice_index_or, OnOk, OnErr};
 ghost use Rattle.page_index.specs.Document.{pages_begun};
 ghost use Rattle.page_index.specs.Pages.{document_units};
 ghost use Rattle.page_draw.specs.Sheets.{IsDrawable};
@@ -110,7 +110,7 @@ pub fn draw_round<R: Threads + Wait + Sync, F: FontSource + Send>(
 }
 
 /// Draws a round as `draw_round` does, on the memory of `paper`: spare pages, of which each worker
-/// takes its share. The others are dropped.
+/// takes its share. The others are dropped, and none is left.
 pub fn draw_round_on<R: Threads + Wait + Sync, F: FontSource + Send>(
     rt: &R,
     alloc: Global,
@@ -137,6 +137,7 @@ pub fn draw_round_on<R: Threads + Wait + Sync, F: FontSource + Send>(
         → Rested (slice_index_or workers.old k d) (slice_index_or workers.new k d)) }
     ensures no_counter { (k : ℕ) (d : _) → k < length workers.old
         → (slice_index_or workers.new k d).counter ≡ None }
+    ensures taken { paper.new.items ≡ [] }
 {
     share_paper(workers, paper, count);
     draw_round(rt, alloc, workers, bench, index, sheet, first, count)

@@ -5,6 +5,7 @@ ghost use Rattle.outside.specs.Counts.{HasCause};
 ghost use Rattle.outside.specs.FontKeys.{IsFontKey};
 ghost use Rattle.font_decode.specs.Decoding.{IsFontOf};
 ghost use Rattle.font_decode.specs.Desks.{GrewBy, GrewByAtMost, TrailGrew};
+ghost use Rattle.page_workers.specs.Paper.{HasNoPaper};
 ghost use Rattle.page_workers.specs.Seats.{IsAt, asked_at, room_at, trail_at};
 
 use crate::Bench;
@@ -55,6 +56,7 @@ impl<F: FontSource> Worker<F> {
         ensures loads { result.loads ≡ 0 }
         ensures pages { result.pages.items ≡ [] }
         ensures counter { result.counter ≡ None }
+        ensures paper { HasNoPaper result }
     {
         Worker {
             source,

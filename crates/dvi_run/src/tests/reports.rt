@@ -57,14 +57,14 @@ pub static TWICE: [u8; 24] = [
 
 /// What a run tells and writes, and its status.
 #[derive(Debug, Drop, PartialEq)]
-struct Came {
+pub struct Came {
     status: u8,
     written: Vec<u8>,
     notes: Vec<u8>,
 }
 
-// The settings of one worker with a cache of n fonts on a sheet of 16 by 8 dots.
-fn asks(cache: u32, trace: bool, summary: bool) -> Settings
+/// The settings of one worker with a cache of n fonts on a sheet of 16 by 8 dots.
+pub fn asks(cache: u32, trace: bool, summary: bool) -> Settings
     requires { (1 ≤ cache) × (cache ≤ 256) }
     ensures allowed { AreSettings result }
     ensures one { result.workers ≡ 1 }
@@ -85,9 +85,9 @@ fn asks(cache: u32, trace: bool, summary: bool) -> Settings
     }
 }
 
-// A run over one worker of these bytes, whose notes take seven bytes at a time and fail at the
-// listed writes.
-fn run_of<R: Threads + Wait + Sync, F: FontSource + Send>(
+/// A run over one worker of these bytes, whose notes take seven bytes at a time and fail at the
+/// listed writes.
+pub fn run_of<R: Threads + Wait + Sync, F: FontSource + Send>(
     rt: &R,
     alloc: Global,
     settings: &Settings,
@@ -119,8 +119,8 @@ fn run_of<R: Threads + Wait + Sync, F: FontSource + Send>(
     })
 }
 
-// What a run is to come to.
-fn expected(alloc: Global, status: u8, written: &[u8], notes: &[u8]) -> Result<Came, Fail> {
+/// What a run is to come to.
+pub fn expected(alloc: Global, status: u8, written: &[u8], notes: &[u8]) -> Result<Came, Fail> {
     Ok(Came {
         status,
         written: Vec::from_slice(alloc, written)?,
@@ -128,8 +128,8 @@ fn expected(alloc: Global, status: u8, written: &[u8], notes: &[u8]) -> Result<C
     })
 }
 
-// The document whose page sets character 65 of `duo` twice.
-fn twice(alloc: Global) -> Result<Vec<u8>, Fail> {
+/// The document whose page sets character 65 of `duo` twice.
+pub fn twice(alloc: Global) -> Result<Vec<u8>, Fail> {
     document(
         alloc,
         &font(alloc, b"duo", 128, 128)?,
@@ -149,7 +149,8 @@ pub static TRACE_OF_THREE: &[u8] = b"1 look duo 128 128 claimed\n1 fill duo 128 
     1 look bar 128 128 claimed\n1 fill bar 128 128 evict -\n\
     1 look dot 128 128 hit\n1 look bar 128 128 hit\n";
 
-static SUMMARY_OF_THREE: &[u8] = b"pages 1\nlooks 5\nhits 2\nclaims 3\nbusy 0\nevictions 0\n\
+/// The summary of `twice` with a cache of three fonts.
+pub static SUMMARY_OF_THREE: &[u8] = b"pages 1\nlooks 5\nhits 2\nclaims 3\nbusy 0\nevictions 0\n\
     releases 0\nloads 8\nblack 22\n";
 
 #[test]
@@ -262,63 +263,5 @@ fn a_run_without_a_cache_has_its_line_alone(rt: HostRuntime) -> Result<(), Fail>
         run,
         expected(alloc, 2, b"", b"dvipbm: document: truncated at 0\n")?
     );
-    Ok(())
-}
-
-// The notes take seven bytes at a write: as many as stand before the write that fails.
-#[test]
-fn notes_that_fail_are_status_8(rt: HostRuntime) -> Result<(), Fail> {
-    let alloc = rt.alloc();
-    let bytes = twice(alloc)?;
-    let length = SUMMARY_OF_THREE.len();
-    for k in 0..length.div_ceil(7) {
-        let fonts = SureFonts::new(three_fonts(alloc)?);
-        let run = run_of(
-            &rt,
-            alloc,
-            &asks(3, false, true),
-            &bytes,
-            fonts,
-            &[k as u64 + 1],
-        )?;
-        let told = Vec::from_iter(alloc, SUMMARY_OF_THREE.iter().copied().take(7 * k))?;
-        assert_eq!(rt; run, expected(alloc, 8, &TWICE, &told)?);
-    }
-    Ok(())
-}
-
-// A run that is refused for another cause keeps its status.
-#[test]
-fn notes_that_fail_change_no_other_status(rt: HostRuntime) -> Result<(), Fail> {
-    let alloc = rt.alloc();
-    let line = b"dvipbm: document: truncated at 0\n";
-    for k in 0..line.len().div_ceil(7) {
-        let told = Vec::from_iter(alloc, line.iter().copied().take(7 * k))?;
-        let fails = [k as u64 + 1];
-        let run = run_of(
-            &rt,
-            alloc,
-            &asks(3, true, true),
-            b"",
-            no_fonts(alloc)?,
-            &fails,
-        )?;
-        assert_eq!(rt; run, expected(alloc, 2, b"", &told)?);
-    }
-    let bytes = document(alloc, &[], &[&[0x8e]])?;
-    let line = b"dvipbm: page 1 at 60: stack empty\n";
-    for k in 0..line.len().div_ceil(7) {
-        let told = Vec::from_iter(alloc, line.iter().copied().take(7 * k))?;
-        let fails = [k as u64 + 1];
-        let run = run_of(
-            &rt,
-            alloc,
-            &asks(3, true, false),
-            &bytes,
-            no_fonts(alloc)?,
-            &fails,
-        )?;
-        assert_eq!(rt; run, expected(alloc, 3, b"", &told)?);
-    }
     Ok(())
 }

@@ -7,10 +7,10 @@ ghost use Rattle.cache_core.specs.Histories.{own, open_claim};
 ghost use Rattle.turn_lock.specs.declared.view.Stage.TheVariants.{Idle};
 ghost use Rattle.turn_lock.specs.Seats.{AllJoined};
 
-use super::walk::{Note, Walk};
+use super::walk::{Note, Walk, told};
 use super::{Sized, meet};
 use crate::{CacheSeat, FontCache};
-use cache_core::{Act, Entry, Look};
+use cache_core::{Entry, Look};
 use outside::{FontKey, FontName};
 use std::alloc::{AllocError as NoMemory, Global};
 use std::sync::atomic::AtomicU32;
@@ -253,18 +253,6 @@ fn eight<R: Threads + Wait + Sync>(
     all_calls(rt, alloc, &cache, &keys, &mut callers, count);
     let notes = join_all(alloc, &cache, &mut first, callers)?;
     Some((cache.close(first), notes))
-}
-
-// What the entry says that its seat was told.
-fn told(entry: &Entry) -> (u32, char, u32) {
-    match &entry.act {
-        Act::Hit => (entry.key.size, 'h', 0),
-        Act::Claimed => (entry.key.size, 'c', 0),
-        Act::Busy => (entry.key.size, 'b', 0),
-        Act::Filled { gone: None } => (entry.key.size, 'f', 0),
-        Act::Filled { gone: Some(gone) } => (entry.key.size, 'f', gone.size),
-        Act::Released => (entry.key.size, 'r', 0),
-    }
 }
 
 // The next thing that the seat was told. The lists are of the last seat first, and each of its last

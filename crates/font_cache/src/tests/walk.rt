@@ -1,5 +1,6 @@
 //! The machine of a cache of three fonts once more, in few words, for tests alone: it judges a
 //! history from outside.
+use cache_core::{Act, Entry};
 use std::alloc::Global;
 use std::test::Fail;
 
@@ -170,4 +171,16 @@ fn calls_that_the_walk_refuses(rt: HostRuntime) -> Result<(), Fail> {
     let free = Note::new(6, 'c', 0, 0);
     assert_eq!(rt; judged(rt.alloc(), &four_fonts(), 2, &free), (true, true));
     Ok(())
+}
+
+// What the entry says that its seat was told.
+pub(crate) fn told(entry: &Entry) -> (u32, char, u32) {
+    match &entry.act {
+        Act::Hit => (entry.key.size, 'h', 0),
+        Act::Claimed => (entry.key.size, 'c', 0),
+        Act::Busy => (entry.key.size, 'b', 0),
+        Act::Filled { gone: None } => (entry.key.size, 'f', 0),
+        Act::Filled { gone: Some(gone) } => (entry.key.size, 'f', gone.size),
+        Act::Released => (entry.key.size, 'r', 0),
+    }
 }

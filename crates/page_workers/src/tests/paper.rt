@@ -3,9 +3,9 @@ ghost use Rattle.std.specs.Prelude.{◌≤◌, IfOk};
 ghost use Rattle.page_workers.specs.Seating.{IsUnused};
 
 use super::files::library;
-use super::{one_round, outcome_at};
+use super::{one_round, outcome_at, sure_workers};
 use crate::Worker;
-use crate::paper::blank_page;
+use crate::paper::{blank_page, share_paper};
 use outside::{FontSource, Library, SureFonts};
 use page_draw::Sheet;
 use raster_page::Page;
@@ -58,6 +58,7 @@ fn pages_are_drawn_on_black_paper(rt: HostRuntime) -> Result<(), Fail> {
     let alloc = rt.alloc();
     let library = library(alloc)?;
     let mut workers = Vec::from_array(alloc, [worker_with_paper(alloc, &library)?])?;
+    assert_eq!(rt; workers[0].paper.len(), 5);
     let pages: [&[u8]; 4] = [&[0xab, 0x41], &[], &[0xac, 0x41, 0xab, 0x41], &[]];
     one_round(&rt, alloc, &mut workers, 4, &pages)?;
     assert_eq!(rt; outcome_at(&workers, 0), (1, 0xc0, 'w'));
@@ -88,6 +89,26 @@ fn paper_of_other_sides_is_dropped(rt: HostRuntime) -> Result<(), Fail> {
         let page = blank_page(alloc, &mut paper, &sheet)?;
         assert_eq!(rt; (page.width(), page.height(), page.count()), (8, 2, 0));
         assert_eq!(rt; paper.len(), left);
+    }
+    Ok(())
+}
+
+#[test]
+fn spare_pages_are_shared(rt: HostRuntime) -> Result<(), Fail> {
+    let alloc = rt.alloc();
+    let library = library(alloc)?;
+    for (spare, left, right) in [(5usize, 2usize, 1usize), (3, 2, 1), (2, 2, 0), (1, 1, 0)] {
+        let mut workers = sure_workers(alloc, &library, 2)?;
+        let mut paper = Vec::new(alloc);
+        for _page in 0..spare {
+            paper.push(black_page(alloc, 8, 2)?)?;
+        }
+        share_paper(&mut workers, &mut paper, 3);
+        assert_eq!(rt;
+            (workers[0].paper.len(), workers[1].paper.len()),
+            (left, right)
+        );
+        assert!(rt; paper.is_empty());
     }
     Ok(())
 }

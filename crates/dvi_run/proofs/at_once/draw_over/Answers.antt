@@ -98,6 +98,7 @@ returns-clause-workers g c =
     (c.seat_all.ensures.seated k d lt) (get_or now k d) (c.write_rounds-ending.ensures.workers k d there) left.seat left.is _ (get_or c.drop_paper.new.workers k d)
     (ap (own (k + 1)) c.close.ensures.history ∙ left.own) (but.seat ∙ left.none) (but.source ∙ left.same.source) (but.loads ∙ left.same.loads)
     (ap (λ v. v.items) but.pages ∙ left.same.pages) (ap (λ v. v.items) but.results ∙ left.same.results) (but.counter ∙ left.same.counter)
+    (c.drop_paper.ensures.none k d (subst (λ (n : ℕ). k < n) (sym joined) here))
     _
     (λ h. none_released s part (ap (λ v. v.part.library) opens) (ap (λ v. v.part.units) opens) q.1.1.1.0 q.1.1.1.1.0 (k + 1) (get_or xs k d) (get_or ws k d) (q.1.1.1.1.1.1.1 k d lt)
     (c.seat_all.ensures.seated k d lt) (get_or now k d)
