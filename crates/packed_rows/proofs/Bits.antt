@@ -1,10 +1,8 @@
 -- The bits of a byte, and the masks of runs of pixels.
-use Rattle.std.proofs.Common.{◌≡◌, ℕ, zero, suc, ◌+◌, ◌-◌, ◌*◌, ◌/◌, ◌%◌, ◌^◌, ◌<◌, ◌≤◌, ◌⊎◌, inl, inr, Bool, true, false, ◌&&◌, ◌||◌, eqb, leb, ltb, min, max, refl, ap, ap₂, sym, ◌∙◌, arith, bit_and, bit_or, not}
+use Rattle.std.proofs.Common.{◌≡◌, ℕ, zero, suc, ◌-◌, ◌*◌, ◌/◌, ◌%◌, ◌^◌, ◌<◌, ◌≤◌, ◌⊎◌, inl, inr, true, ◌&&◌, ◌||◌, eqb, leb, ltb, min, max, refl, ap, ap₂, sym, ◌∙◌, arith, bit_and, bit_or}
 use Rattle.std.specs.Int.{bit_at}
-use Rattle.std.specs.Int.Bits.{bit_xor}
 use Rattle.std.proofs.lemmas.Bool.{cases_lt, le-leb, lt-leb, le-ltb, lt-ltb}
-use Rattle.std.proofs.lemmas.Bool.Decides.{nat_tests}
-use Rattle.std.proofs.lemmas.Nat.Bits.{bit_at_or, bit_at_xor, bit_at_and, bit_at-lt, ones_shr, ones_shl, bit_at_ones, bit_at_ones_above, bit_at_mask_inside, bit_at_mask_below}
+use Rattle.std.proofs.lemmas.Nat.Bits.{bit_at_or, bit_at_and, bit_at-lt, ones_shr, ones_shl, bit_at_ones, bit_at_ones_above, bit_at_mask_inside, bit_at_mask_below}
 
 max_is_one : (a b : ℕ) → a < 2 → b < 2 → eqb (max a b) 1 ≡ (eqb a 1 || eqb b 1)
 max_is_one zero zero h g = refl
@@ -87,37 +85,3 @@ pub word_span : (k u j : ℕ) → k < 64 → 0 < u → u ≤ 64 → j < 64
 word_span k u j h some few g =
     bit_of_and (18446744073709551615 / 2 ^ k) (18446744073709551615 * 2 ^ (64 - u) % 18446744073709551616) (63 - j)
     ∙ ap₂ (λ a b. a && b) (word_head k j h g) (word_tail u j some few g)
-
-sum_is_one : (a b : ℕ) → a < 2 → b < 2 → eqb ((a + b) % 2) 1 ≡ (eqb a 1 && not (eqb b 1) || not (eqb a 1) && eqb b 1)
-sum_is_one zero zero h g = refl
-sum_is_one zero (suc zero) h g = refl
-sum_is_one (suc zero) zero h g = refl
-sum_is_one (suc zero) (suc zero) h g = refl
-sum_is_one (suc (suc a)) b h g = absurd (omega (arith, h))
-sum_is_one zero (suc (suc b)) h g = absurd (omega (arith, g))
-sum_is_one (suc zero) (suc (suc b)) h g = absurd (omega (arith, g))
-
-between : (k u j : ℕ) → k ≤ u → (leb k j && not (leb u j) || not (leb k j) && leb u j) ≡ (leb k j && ltb j u)
-between k u j h = grind (arith, nat_tests)
-
--- a word in which the pixels from k on and before u were made black
-pub word_blackened : (word k u j : ℕ) → k ≤ u → u < 64 → j < 64
-    → eqb (bit_at (bit_or word (bit_xor (18446744073709551615 / 2 ^ k) (18446744073709551615 / 2 ^ u))) (63 - j)) 1 ≡ (leb k j && ltb j u || eqb (bit_at word (63 - j)) 1)
-word_blackened word k u j h few g =
-    bit_of_or word (bit_xor a b) (63 - j)
-    ∙ ap (λ p. eqb (bit_at word (63 - j)) 1 || p)
-    (ap (λ n. eqb n 1) (bit_at_xor a b (63 - j)) ∙ sum_is_one (bit_at a (63 - j)) (bit_at b (63 - j)) (bit_at-lt a (63 - j)) (bit_at-lt b (63 - j))
-    ∙ ap₂ (λ p q. p && not q || not p && q) (word_head k j (omega (arith, h, few)) g) (word_head u j few g) ∙ between k u j h)
-    ∙ either (eqb (bit_at word (63 - j)) 1) (leb k j && ltb j u)
-  where
-    a : ℕ
-    a = 18446744073709551615 / 2 ^ k
-
-    b : ℕ
-    b = 18446744073709551615 / 2 ^ u
-
-    either : (p q : Bool) → (p || q) ≡ (q || p)
-    either true true = refl
-    either true false = refl
-    either false true = refl
-    either false false = refl

@@ -23,4 +23,3 @@ pub use packed::PackedBitmap;
 pub use padded::PaddedBitmap;
 pub use row::{blacken, is_black, row_bytes};
 pub use rows::Span;
-pub use words::blacken_word;

@@ -1,8 +1,9 @@
 //! A bitmap whose rows are padded to whole words.
 
-ghost use Rattle.std.specs.Prelude.{◌≡◌, ℕ, ◌*◌, ◌^◌, ◌<◌, ◌≤◌, ◌↔◌, [], IfOk, IfSome, IsSome, length, replicate, slice_index, slice_index_or, take};
+ghost use Rattle.std.specs.Prelude.{◌≡◌, ℕ, ◌+◌, ◌*◌, ◌^◌, ◌<◌, ◌≤◌, ◌↔◌, [], IfOk, IfSome, IsSome, IsTrue, length, replicate, slice_index, slice_index_or, take};
 ghost use Rattle.std.specs.Int.{div_ceil};
 ghost use Rattle.std.specs.List.{flat_map};
+ghost use Rattle.packed_rows.specs.declared.offset.TheConstants.{MAX_COORDINATE};
 ghost use Rattle.packed_rows.specs.Bitmap.{is_black};
 ghost use Rattle.packed_rows.specs.Coordinates.{IsCoordinate};
 ghost use Rattle.packed_rows.specs.Changes.{white_bitmap, with_black, black_count};
@@ -10,12 +11,13 @@ ghost use Rattle.packed_rows.specs.Stamped.{with_raster};
 ghost use Rattle.packed_rows.specs.Packing.{row_text, pixels_of, IsPadded};
 
 use crate::black::blacken_rows;
-use crate::offset::{offset_of, reached};
+use crate::offset::{Offset, offset_of, reached};
 use crate::ones::count_ones;
 use crate::packed::PackedBitmap;
 use crate::pieces::stamp_over;
 use crate::row::{is_black, padded_bytes, row_bytes};
 use crate::rows::Span;
+use crate::strips::stamp_inside;
 use std::alloc::{AllocError as NoMemory, Global};
 use std::marker::Model;
 
@@ -110,7 +112,61 @@ impl PaddedBitmap {
     /// Sets a raster on the bitmap, with its upper left pixel in column `x` of row `y`: the pixels
     /// that lie on a black one of the raster become black, the others stay. What lies beside the
     /// bitmap is cut off.
+    // Nearly all rasters are narrow and have room: that way is short, and takes one word a row.
+    #[inline(always)]
     pub fn stamp(&mut self, raster: &PackedBitmap, x: i64, y: i64)
+        requires left { IsCoordinate x }
+        requires top { IsCoordinate y }
+        ensures { self.new ≡ with_raster self.old raster.now x y }
+    {
+        let column = offset_of(x);
+        let row = offset_of(y);
+        if self.has_room(raster, column, row) {
+            let stride = row_bytes(raster.width());
+            let rows = Span {
+                from: row.start,
+                until: row.start + raster.height() as usize,
+            };
+            let width = self.width;
+            stamp_inside(
+                &mut self.bytes,
+                width,
+                raster.stored(),
+                stride,
+                column,
+                row,
+                rows,
+            );
+        } else {
+            self.stamp_pieces(raster, x, y);
+        }
+    }
+
+    // Whether a raster with that offset is narrow and lies inside, and a word has room from its
+    // first column on.
+    #[inline(always)]
+    fn has_room(&self, raster: &PackedBitmap, column: Offset, row: Offset) -> bool
+        requires column { column.start ≤ MAX_COORDINATE }
+        requires row { row.start ≤ MAX_COORDINATE }
+        ensures right { IsTrue result → column.skipped ≡ 0 }
+        ensures below { IsTrue result → row.skipped ≡ 0 }
+        ensures some { IsTrue result → 1 ≤ raster.now.width }
+        ensures narrow { IsTrue result → raster.now.width ≤ 56 }
+        ensures room { IsTrue result → column.start + 64 ≤ self.now.width }
+        ensures low { IsTrue result → row.start + raster.now.height ≤ self.now.height }
+    {
+        let side = raster.width();
+        column.skipped == 0
+            && row.skipped == 0
+            && 1 <= side
+            && side <= 56
+            && column.start + 64 <= self.width as usize
+            && row.start + raster.height() as usize <= self.height as usize
+    }
+
+    // Sets any raster, piece by piece.
+    #[inline(never)]
+    fn stamp_pieces(&mut self, raster: &PackedBitmap, x: i64, y: i64)
         requires left { IsCoordinate x }
         requires top { IsCoordinate y }
         ensures { self.new ≡ with_raster self.old raster.now x y }
@@ -180,96 +236,4 @@ impl PaddedBitmap {
 }
 
 #[cfg(test)]
-mod tests {
-    use super::*;
-    use std::test::Fail;
-
-    #[test]
-    fn rows_are_padded(rt: HostRuntime) -> Result<(), Fail> {
-        let mut bitmap = PaddedBitmap::white(rt.alloc(), 10, 2)?;
-        assert_eq!(rt; bitmap.width(), 10);
-        assert_eq!(rt; bitmap.height(), 2);
-        assert_eq!(rt; bitmap.count(), 0);
-        bitmap.blacken(Span { from: 6, until: 10 }, Span { from: 1, until: 2 });
-        assert_eq!(rt; bitmap.row(0), [0, 0].as_slice());
-        assert_eq!(rt; bitmap.row(1), [0x03, 0xc0].as_slice());
-        assert_eq!(rt; bitmap.padded(1), [0x03, 0xc0, 0, 0, 0, 0, 0, 0].as_slice());
-        assert_eq!(rt; bitmap.rows(), None);
-        assert!(rt; bitmap.is_black(6, 1) && !bitmap.is_black(5, 1));
-        assert_eq!(rt; bitmap.count(), 4);
-        let whole = PaddedBitmap::white(rt.alloc(), 60, 2)?;
-        assert!(rt; whole.rows() == Some([0; 16].as_slice()));
-        Ok(())
-    }
-
-    #[test]
-    fn a_cleared_bitmap_is_white(rt: HostRuntime) -> Result<(), Fail> {
-        let mut bitmap = PaddedBitmap::white(rt.alloc(), 70, 2)?;
-        bitmap.blacken(Span { from: 0, until: 70 }, Span { from: 0, until: 2 });
-        bitmap.clear();
-        assert_eq!(rt;
-            (bitmap.width(), bitmap.height(), bitmap.count()),
-            (70, 2, 0)
-        );
-        assert_eq!(rt; bitmap.padded(1), [0; 16].as_slice());
-        bitmap.blacken(Span { from: 8, until: 9 }, Span { from: 1, until: 2 });
-        assert_eq!(rt; bitmap.row(0), [0; 9].as_slice());
-        assert_eq!(rt; bitmap.row(1), [0, 0x80, 0, 0, 0, 0, 0, 0, 0].as_slice());
-        Ok(())
-    }
-
-    #[test]
-    fn a_raster_is_set_across_bytes(rt: HostRuntime) -> Result<(), Fail> {
-        let mut raster = PackedBitmap::white(rt.alloc(), 10, 2)?;
-        raster.blacken(Span { from: 0, until: 10 }, Span { from: 0, until: 1 });
-        let mut bitmap = PaddedBitmap::white(rt.alloc(), 20, 3)?;
-        bitmap.stamp(&raster, 5, 1);
-        bitmap.stamp(&raster, -8, 0);
-        bitmap.stamp(&raster, 19, 2);
-        bitmap.stamp(&raster, 0, -1);
-        assert_eq!(rt; bitmap.row(0), [0xc0, 0, 0].as_slice());
-        assert_eq!(rt; bitmap.row(1), [0x07, 0xfe, 0].as_slice());
-        assert_eq!(rt; bitmap.row(2), [0, 0, 0x10].as_slice());
-        Ok(())
-    }
-
-    #[test]
-    fn narrow_rasters_are_set_on_wide_rows(rt: HostRuntime) -> Result<(), Fail> {
-        let mut raster = PackedBitmap::white(rt.alloc(), 10, 6)?;
-        raster.blacken(Span { from: 0, until: 10 }, Span { from: 0, until: 1 });
-        raster.blacken(Span { from: 9, until: 10 }, Span { from: 4, until: 6 });
-        let mut bitmap = PaddedBitmap::white(rt.alloc(), 80, 5)?;
-        bitmap.stamp(&raster, 15, 0);
-        bitmap.stamp(&raster, 16, -4);
-        assert_eq!(rt;
-            bitmap.row(0),
-            [0, 1, 0xff, 0xc0, 0, 0, 0, 0, 0, 0].as_slice()
-        );
-        assert_eq!(rt; bitmap.row(1), [0, 0, 0, 0x40, 0, 0, 0, 0, 0, 0].as_slice());
-        assert_eq!(rt; bitmap.row(4), [0, 0, 0, 0x80, 0, 0, 0, 0, 0, 0].as_slice());
-        assert_eq!(rt; bitmap.count(), 13);
-        Ok(())
-    }
-
-    #[test]
-    fn a_wide_raster_is_set_in_two_words(rt: HostRuntime) -> Result<(), Fail> {
-        let mut raster = PackedBitmap::white(rt.alloc(), 130, 1)?;
-        raster.blacken(
-            Span {
-                from: 0,
-                until: 130,
-            },
-            Span { from: 0, until: 1 },
-        );
-        let mut right = PaddedBitmap::white(rt.alloc(), 200, 1)?;
-        right.stamp(&raster, 63, 0);
-        assert_eq!(rt; right.count(), 130);
-        assert!(rt; right.is_black(63, 0) && right.is_black(192, 0));
-        assert!(rt; !right.is_black(62, 0) && !right.is_black(193, 0));
-        let mut left = PaddedBitmap::white(rt.alloc(), 200, 1)?;
-        left.stamp(&raster, -65, 0);
-        assert_eq!(rt; left.count(), 65);
-        assert!(rt; left.is_black(0, 0) && left.is_black(64, 0) && !left.is_black(65, 0));
-        Ok(())
-    }
-}
+mod tests;

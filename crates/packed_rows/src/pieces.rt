@@ -172,8 +172,7 @@ fn stamp_pieces(
     }
 }
 
-/// Sets upper rows, each of `stride` bytes, on some rows of `width` pixels: by one word each where
-/// a row of the raster lies in eight bytes of the lower row, else piece by piece.
+/// Sets upper rows, each of `stride` bytes, on some rows of `width` pixels, piece by piece.
 pub fn stamp_over(
     bytes: &mut [u8],
     width: u32,
@@ -212,16 +211,5 @@ pub fn stamp_over(
     if kept == 0 {
         return;
     }
-    if stride <= 7 && across.skipped == 0 && across.start / 8 + 8 <= row_len {
-        let turn = across.start % 8;
-        let strip = Strip {
-            from: 0,
-            turn,
-            mask: span_word(turn, turn + kept),
-            to: across.start / 8,
-        };
-        stamp_strip(bytes, row_len, upper, stride, strip, down, rows);
-    } else {
-        stamp_pieces(bytes, row_len, upper, stride, kept, across, down, rows);
-    }
+    stamp_pieces(bytes, row_len, upper, stride, kept, across, down, rows);
 }

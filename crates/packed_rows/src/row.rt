@@ -8,14 +8,14 @@ ghost use Rattle.packed_rows.specs.Packing.{pixel, IsPadded};
 pub fn row_bytes(width: u32) -> usize
     ensures { result ≡ div_ceil width 8 }
 {
-    (width as usize).div_ceil(8)
+    (width as usize + 7) / 8
 }
 
 /// How many bytes a row of `width` pixels takes in whole words of eight.
 pub fn padded_bytes(width: u32) -> usize
     ensures { result ≡ 8 * div_ceil width 64 }
 {
-    8 * (width as usize).div_ceil(64)
+    8 * ((width as usize + 63) / 64)
 }
 
 /// Whether pixel `x` of the row is black.

@@ -32,16 +32,6 @@ pub fn span_word(from: usize, until: usize) -> u64
     (u64::MAX >> from) & (u64::MAX << (64 - until))
 }
 
-/// The word with the pixels from `from` up to but not including `until` made black.
-pub fn blacken_word(word: u64, from: u32, until: u32) -> u64
-    requires ordered { from ≤ until }
-    requires few { until < 64 }
-    ensures { (i : ℕ) → i < 64 →
-        word_pixel result i ≡ (is_within from until i || word_pixel word i) }
-{
-    word | ((u64::MAX >> from) ^ (u64::MAX >> until))
-}
-
 /// The word turned to the right: what leaves it at the right comes in again at the left.
 pub fn turned(word: u64, by: usize) -> u64
     requires { by < 64 }

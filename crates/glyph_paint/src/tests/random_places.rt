@@ -1,6 +1,6 @@
 //! Glyphs and rules at random places, compared with painting dot by dot.
 
-ghost use Rattle.std.specs.Prelude.{◌<◌};
+ghost use Rattle.std.specs.Prelude.{◌<◌, ◌≤◌, unsigned_abs};
 
 use super::rows_of;
 use crate::paint;
@@ -77,6 +77,47 @@ fn as_dot_by_dot(rt: HostRuntime) -> Result<(), Fail> {
                     }
                 }
             }
+        }
+        let painted = rows_of(rt.alloc(), &page)?;
+        assert_eq!(rt; painted.as_slice(), slow.as_slice(), "at page {round}");
+    }
+    Ok(())
+}
+
+// Makes the dots under the black pixels of a raster black, one by one.
+fn paint_slowly(slow: &mut [u8; 228], glyph: &Raster, x: i64, y: i64)
+    requires left { unsigned_abs x ≤ 200 }
+    requires top { unsigned_abs y ≤ 200 }
+{
+    for row in 0..HEIGHT {
+        for column in 0..WIDTH {
+            if is_black(glyph, i64::from(column) - x, i64::from(row) - y) {
+                slow[row as usize * ROW_BYTES + column as usize / 8] |= 0x80 >> (column % 8);
+            }
+        }
+    }
+}
+
+// Glyphs of up to 59 columns near the page: about three in five are narrow and have room on it, at
+// all shifts and with up to eight rows, and are set by the short way; the others lie over an edge.
+#[test]
+fn narrow_glyphs_as_dot_by_dot(rt: HostRuntime) -> Result<(), Fail> {
+    let mut random = Random { state: 2 };
+    for round in 0..200 {
+        let mut page = Page::blank(rt.alloc(), WIDTH, HEIGHT)?;
+        let mut slow = [0u8; 228];
+        for _ in 0..3 {
+            let mut bytes = [0u8; 64];
+            for byte in &mut bytes {
+                *byte = random.below(256) as u8;
+            }
+            let w = random.below(60) as u32;
+            let h = random.below(9) as u32;
+            let x = random.below(100) as i64 - 4;
+            let y = random.below(12) as i64 - 1;
+            let glyph = raster(rt.alloc(), &bytes, 14, true, w, h)?;
+            paint(&mut page, &glyph, x, y);
+            paint_slowly(&mut slow, &glyph, x, y);
         }
         let painted = rows_of(rt.alloc(), &page)?;
         assert_eq!(rt; painted.as_slice(), slow.as_slice(), "at page {round}");

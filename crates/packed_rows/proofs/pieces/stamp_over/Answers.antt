@@ -1,35 +1,13 @@
-use Rattle.std.proofs.Common.{◌≡◌, ℕ, ◌+◌, ◌-◌, ◌*◌, ◌/◌, ◌%◌, ◌≤◌, ◌&&◌, ltb, min, ap, subst, ◌∙◌, arith}
+use Rattle.std.proofs.Common.{◌≡◌, ℕ, ◌+◌, ◌-◌, ◌*◌, ◌&&◌, ltb, min, subst, arith}
 use Rattle.std.specs.Int.{div_ceil}
 use Rattle.packed_rows.specs.Stored.{row_at}
-use Rattle.packed_rows.specs.Stamped.{strip_over, part_over, pixel_over}
+use Rattle.packed_rows.specs.Stamped.{part_over, pixel_over}
 use Rattle.packed_rows.proofs.Stamping.{IsStamped, stamped_same}
-use Rattle.packed_rows.proofs.PartsOver.{part_set, part_is_row}
+use Rattle.packed_rows.proofs.PartsOver.{part_is_row}
 use Rattle.packed_rows.proofs.pieces.stamp_over.Goals as goal
 
-pub returns-then-across-row_len-clause-dots : goal.returns-then-across-row_len-clause-dots
-returns-then-across-row_len-clause-dots c = λ x y inside fit.
-    let row = λ (z : ℕ). z + c.args.down.skipped - c.args.down.start in
-    let kept = c.min-kept.result in
-    let turn = c.args.across.start % 8 in
-    let k : kept ≡ min (c.args.width + c.args.across.skipped - c.args.across.start) (8 * c.args.stride) = omega (arith, c.min-kept.ensures, c.saturating_sub-room.ensures) in
-    let few : kept ≤ 56 = omega (arith, c.min-kept.ensures, c.if-stride-le7.true) in
-    let left : 8 * (c.args.across.start / 8) + turn + c.args.across.skipped ≡ c.args.across.start + 0 = omega (arith, c.if-across-eq0.true) in
-    let stamped : IsStamped (8 * div_ceil c.args.width 64) c.args.rows.from c.args.rows.until
-    (λ x y. strip_over c.args.upper.now (row y * c.args.stride + 0) turn c.span_word.result (c.args.across.start / 8) x) c.args.bytes.now c.stamp_strip.new.bytes =
-    subst (λ (n : ℕ). IsStamped n c.args.rows.from c.args.rows.until (λ x y. strip_over c.args.upper.now (row y * c.args.stride + 0) turn c.span_word.result (c.args.across.start / 8) x) c.args.bytes.now c.stamp_strip.new.bytes)
-    c.padded_bytes-row_len.ensures (record { len = c.stamp_strip.ensures.len; dots = c.stamp_strip.ensures.dots }) in
-    (stamped_same (8 * div_ceil c.args.width 64) c.args.rows.from c.args.rows.until _
-    (λ x y. ltb x c.args.width && pixel_over (row_at c.args.stride c.args.upper.now (row y)) c.args.across.start c.args.across.skipped x) c.args.bytes.now c.stamp_strip.new.bytes
-    (λ x y _.
-    let none : row y * c.args.stride + 0 ≡ row y * c.args.stride = omega arith in
-    part_set c.args.upper.now (row y * c.args.stride + 0) turn turn 0 kept kept (c.args.across.start / 8) c.args.across.start c.args.across.skipped c.span_word.result x
-    (omega arith) (omega arith) (omega arith) (omega (arith, few)) (omega (arith, few)) left c.span_word.ensures
-    ∙ ap (λ a. part_over c.args.upper.now a c.args.across.start c.args.across.skipped 0 kept x) none
-    ∙ part_is_row c.args.upper.now (row y) c.args.stride c.args.across.start c.args.across.skipped kept c.args.width x k)
-    stamped).dots x y (omega (arith, inside)) fit
-
-pub returns-else-stride-le7-clause-dots : goal.returns-else-stride-le7-clause-dots
-returns-else-stride-le7-clause-dots c = λ x y inside fit.
+pub returns-clause-dots : goal.returns-clause-dots
+returns-clause-dots c = λ x y inside fit.
     let row = λ (z : ℕ). z + c.args.down.skipped - c.args.down.start in
     let kept = c.min-kept.result in
     let k : kept ≡ min (c.args.width + c.args.across.skipped - c.args.across.start) (8 * c.args.stride) = omega (arith, c.min-kept.ensures, c.saturating_sub-room.ensures) in

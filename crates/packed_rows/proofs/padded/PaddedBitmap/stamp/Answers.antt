@@ -1,4 +1,4 @@
-use Rattle.std.proofs.Common.{◌≡◌, ℕ, ◌+◌, ◌-◌, min, max, List, length, w64, ap, ap₂, sym, subst, ◌∙◌, arith}
+use Rattle.std.proofs.Common.{◌≡◌, ℕ, ◌+◌, ◌-◌, ◌≤◌, min, max, List, length, w64, ap, ap₂, sym, subst, ◌∙◌, arith}
 use Rattle.std.specs.Int.{div_ceil}
 use Rattle.std.proofs.lemmas.Int.{to_z-of_z}
 use Rattle.std.proofs.lemmas.List.{with_items_is}
@@ -10,23 +10,30 @@ use Rattle.packed_rows.proofs.padded.PaddedBitmap.stamp.Goals as goal
 
 pub invariant_of-self : goal.invariant_of-self
 invariant_of-self c =
-    let long : length c.stamp_over.new.bytes ≡ c.self.inside.bytes.len = omega (arith, c.stamp_over.ensures.len, c.deref_mut.ensures.len) in
-    subst (λ (l : List ℕ). IsStoredPadded c.self.inside.width c.self.inside.height l) (sym (with_items_is c.self.inside.bytes c.stamp_over.new.bytes long))
-    (set_stored c.self.inside.width c.self.inside.height c.offset_of-across.result.start c.offset_of-across.result.skipped c.offset_of-down.result.start c.offset_of-down.result.skipped
-    c.reached-rows.result.from c.reached-rows.result.until c.row_bytes-stride.result c.self.inside.bytes.items c.deref_mut.result.now c.stamp_over.new.bytes c.stored.result.now
-    c.deref_mut.ensures.value c.self.invariant c.stamp_over.ensures.len c.stamp_over.ensures.bytes c.stamp_over.ensures.dots)
+    let long : length c.stamp_inside.new.bytes ≡ c.self.inside.bytes.len = omega (arith, c.stamp_inside.ensures.len, c.deref_mut.ensures.len) in
+    subst (λ (l : List ℕ). IsStoredPadded c.self.inside.width c.self.inside.height l) (sym (with_items_is c.self.inside.bytes c.stamp_inside.new.bytes long))
+    (set_stored c.self.inside.width c.self.inside.height c.offset_of-column.result.start c.offset_of-column.result.skipped c.offset_of-row.result.start c.offset_of-row.result.skipped
+    c.offset_of-row.result.start (c.offset_of-row.result.start + c.height.result) c.row_bytes-stride.result c.self.inside.bytes.items c.deref_mut.result.now c.stamp_inside.new.bytes c.stored.result.now
+    c.deref_mut.ensures.value c.self.invariant c.stamp_inside.ensures.len c.stamp_inside.ensures.bytes c.stamp_inside.ensures.dots)
 
-pub returns : goal.returns
-returns c =
-    let until : c.reached-rows.result.until ≡ max c.reached-rows.result.from (min (c.offset_of-down.result.start + c.args.raster.now.height - c.offset_of-down.result.skipped) c.self.inside.height) =
-    c.reached-rows.ensures.until ∙ ap (λ n. max c.reached-rows.result.from (min (c.offset_of-down.result.start + n - c.offset_of-down.result.skipped) c.self.inside.height)) c.height.ensures.value in
-    let long : length c.stamp_over.new.bytes ≡ c.self.inside.bytes.len = omega (arith, c.stamp_over.ensures.len, c.deref_mut.ensures.len) in
-    ap (λ l. padded_bitmap_of c.self.inside.width c.self.inside.height l) (with_items_is c.self.inside.bytes c.stamp_over.new.bytes long)
-    ∙ raster_set c.self.inside.width c.self.inside.height c.args.raster.now.width c.args.raster.now.height c.offset_of-across.result.start c.offset_of-across.result.skipped
-    c.offset_of-down.result.start c.offset_of-down.result.skipped c.reached-rows.result.from c.reached-rows.result.until c.row_bytes-stride.result _ _
-    c.self.inside.bytes.items c.deref_mut.result.now c.stamp_over.new.bytes c.stored.result.now
+pub returns-then-has_room : goal.returns-then-has_room
+returns-then-has_room c =
+    let top = c.offset_of-row.result.start in
+    let none = c.offset_of-row.result.skipped in
+    let bottom = top + c.height.result in
+    let wide : c.height.result ≡ c.args.raster.now.height = c.height.ensures.value in
+    let tall : c.self.inside.height ≡ c.args.self.now.height = ap (λ (p : Bitmap). p.height) c.self.view_is in
+    let below : none ≡ 0 = c.has_room.ensures.below c.if-has_room.true in
+    let low : bottom ≤ c.self.inside.height = omega (arith, wide, tall, c.has_room.ensures.low c.if-has_room.true) in
+    let from : top ≡ min (top - none) c.self.inside.height = omega (arith, below, low) in
+    let until : bottom ≡ max top (min (top + c.args.raster.now.height - none) c.self.inside.height) = omega (arith, below, low, wide) in
+    let long : length c.stamp_inside.new.bytes ≡ c.self.inside.bytes.len = omega (arith, c.stamp_inside.ensures.len, c.deref_mut.ensures.len) in
+    ap (λ l. padded_bitmap_of c.self.inside.width c.self.inside.height l) (with_items_is c.self.inside.bytes c.stamp_inside.new.bytes long)
+    ∙ raster_set c.self.inside.width c.self.inside.height c.args.raster.now.width c.args.raster.now.height c.offset_of-column.result.start c.offset_of-column.result.skipped
+    top none top bottom c.row_bytes-stride.result _ _
+    c.self.inside.bytes.items c.deref_mut.result.now c.stamp_inside.new.bytes c.stored.result.now
     (c.row_bytes-stride.ensures ∙ ap (λ n. div_ceil n 8) c.width.ensures.value) c.deref_mut.ensures.value c.self.invariant c.stored.ensures.stored
-    c.offset_of-across.ensures.value c.offset_of-down.ensures.value c.reached-rows.ensures.from until c.stamp_over.ensures.dots
+    c.offset_of-column.ensures.value c.offset_of-row.ensures.value from until c.stamp_inside.ensures.dots
     ∙ ap₂ (with_raster (padded_bitmap_of c.self.inside.width c.self.inside.height c.self.inside.bytes.items) (bitmap_of c.args.raster.now.width c.args.raster.now.height c.stored.result.now))
     (to_z-of_z w64 c.args.x c.ranges.x) (to_z-of_z w64 c.args.y c.ranges.y)
     ∙ ap₂ (λ (p q : Bitmap). with_raster p q c.args.x c.args.y) c.self.view_is c.stored.ensures.value
