@@ -6,3 +6,4 @@ pub mod PlainDesks
 pub mod Laws
 pub mod SoloDesks
 pub mod SoFar
+pub mod Inking

@@ -1,13 +1,14 @@
 //! Draws the flat commands of a page.
-ghost use Rattle.std.specs.Prelude.{◌≡◌, ◌<◌, ◌≤◌, ◌+◌, ◌^◌, ◌++◌, ◌≤ℤ◌, ◌<ℤ◌, ◌+ℤ◌, ◌-ℤ◌, neg_ℤ, pos, false, List, Some, Ok, Err, IfOk, IfErr, IfSome, IsErrOf, OnOk};
+ghost use Rattle.std.specs.Prelude.{◌≡◌, ◌≤◌, ◌<ℤ◌, ◌≤ℤ◌, ◌+ℤ◌, ◌-ℤ◌, ◌^◌, ◌++◌, neg_ℤ, pos};
+ghost use Rattle.std.specs.Prelude.{List, Some, IfOk, IfErr, IfSome, IsErrOf, OnOk};
 ghost use Rattle.std.specs.Option.{option_map};
 ghost use Rattle.outside.specs.declared.keys.FontKey.{FontKey};
-ghost use Rattle.drift_rules.specs.Position.{after, seen_flat, Char};
-ghost use Rattle.drift_rules.specs.Marks.{mark_of};
+ghost use Rattle.drift_rules.specs.Position.{seen_flat};
 ghost use Rattle.drift_rules.specs.Bounds.{IsInReach, IsNumber, IsPaintable, IsPlaceable};
 ghost use Rattle.raster_page.specs.Ink.{Inked, page_of};
-ghost use Rattle.vf_expand.specs.Doing.{asks_left, glyph_for, glyph_in, left, marked_font};
+ghost use Rattle.vf_expand.specs.Doing.{asks_left, glyph_for, left};
 ghost use Rattle.vf_expand.specs.Steps.{Fits, Steps};
+ghost use Rattle.page_draw.specs.Inking.{Inks, Moves, led, set_in};
 ghost use Rattle.page_draw.specs.Sheets.{IsDrawable, inks_of};
 ghost use Rattle.page_draw.specs.SoFar.{GoesOn, HasFewerAtLook, StopsSo};
 ghost use Rattle.page_draw.specs.Drawn.{IsPenStop};
@@ -21,17 +22,6 @@ use pk_runs::Glyph;
 use raster_page::Page;
 use vf_expand::{Expander, PageFault, PlainStep, Step};
 
-// The glyph of a code in the font of the character that the expander gave.
-#[inline(always)]
-fn glyph_at<'e>(expander: &'e Expander, code: u8) -> Option<&'e Glyph>
-    ensures { option_map (λ glyph. glyph.now) result ≡ glyph_in (marked_font expander.now) code }
-{
-    match &**expander.font()? {
-        Decoded::Font(font) => font.glyph(u32::from(code)),
-        Decoded::Fault(_) => None,
-    }
-}
-
 // The glyph of a character that the expander gave.
 #[inline(always)]
 fn glyph_of<'e>(expander: &'e Expander, flat: &Flat) -> Option<&'e Glyph>
@@ -40,7 +30,10 @@ fn glyph_of<'e>(expander: &'e Expander, flat: &Flat) -> Option<&'e Glyph>
     let Flat::Char { code, .. } = flat else {
         return None;
     };
-    glyph_at(expander, *code)
+    match &**expander.font()? {
+        Decoded::Font(font) => font.glyph(u32::from(*code)),
+        Decoded::Fault(_) => None,
+    }
 }
 
 // Where a glyph's upper left pixel stands on the sheet, across or down, whose reference pixel
@@ -91,16 +84,11 @@ fn draw_one(
 ) -> Result<(), PageStop>
     requires sheet { IsDrawable sheet.now }
     requires reach { IsInReach (seen_flat flat.now) }
-    ensures moved { IfOk result (λ _. after pen.old.conv pen.old.state (seen_flat flat.now)
-        ≡ Ok pen.new.state) }
-    ensures inked { IfOk result (λ _. (done : List Inked)
-        → page.old ≡ page_of sheet.now.width sheet.now.height done
-        → page.new ≡ page_of sheet.now.width sheet.now.height (done ++ inks_of sheet.now
-        (mark_of pen.old.conv pen.old.state.now (seen_flat flat.now))
-        (glyph_for expander.now (seen_flat flat.now)))) }
+    ensures moved { IfOk result (λ _. Moves pen.old (seen_flat flat.now) pen.new) }
+    ensures inked { IfOk result (λ _. Inks sheet.now pen.old (seen_flat flat.now)
+        (glyph_for expander.now (seen_flat flat.now)) page.old page.new) }
     ensures conv { pen.new.conv ≡ pen.old.conv }
-    ensures stop { IfErr result (IsPenStop (after pen.old.conv pen.old.state (seen_flat flat.now))
-        expander.now.at) }
+    ensures stop { IfErr result (IsPenStop (led pen.old (seen_flat flat.now)) expander.now.at) }
 {
     match pen.step(flat) {
         Ok(mark) => {
@@ -115,37 +103,33 @@ fn draw_one(
     }
 }
 
-// Sets a character that the expander gave by itself.
+// Sets a character that the expander gave with its glyph.
 #[inline(always)]
 fn draw_plain(
     page: &mut Page,
     pen: &mut Pen,
     sheet: &Sheet,
-    expander: &Expander,
     plain: PlainStep,
 ) -> Result<(), PageStop>
     requires sheet { IsDrawable sheet.now }
     requires reach { IsNumber plain.width }
-    ensures moved { IfOk result (λ _. (key : FontKey) → after pen.old.conv pen.old.state
-        (Char key plain.code plain.width false) ≡ Ok pen.new.state) }
-    ensures inked { IfOk result (λ _. (key : FontKey) (done : List Inked)
-        → page.old ≡ page_of sheet.now.width sheet.now.height done
-        → page.new ≡ page_of sheet.now.width sheet.now.height (done ++ inks_of sheet.now
-        (mark_of pen.old.conv pen.old.state.now (Char key plain.code plain.width false))
-        (glyph_in (marked_font expander.now) plain.code))) }
+    ensures moved { IfOk result (λ _. (key : FontKey) → Moves pen.old (set_in key plain.entry)
+        pen.new) }
+    ensures inked { IfOk result (λ _. (key : FontKey) → Inks sheet.now pen.old
+        (set_in key plain.entry)
+        (Some plain.entry.glyph.now) page.old page.new) }
     ensures conv { pen.new.conv ≡ pen.old.conv }
     ensures stop { IfErr result (λ stop. (key : FontKey)
-        → IsPenStop (after pen.old.conv pen.old.state (Char key plain.code plain.width false))
-        expander.now.at stop) }
+        → IsPenStop (led pen.old (set_in key plain.entry)) plain.entry.at stop) }
 {
     match pen.set(plain.width) {
         Ok(mark) => {
-            ink(page, sheet, Some(mark), glyph_at(expander, plain.code));
+            ink(page, sheet, Some(mark), Some(plain.glyph));
             Ok(())
         }
         Err(fault) => Err(PageStop::Fault {
             fault: PageFault::Pen(fault),
-            at: expander.at(),
+            at: plain.at,
         }),
     }
 }
@@ -161,9 +145,8 @@ pub fn draw_flats(
     expander: &mut Expander,
 ) -> Result<Step, PageStop>
     requires sheet { IsDrawable sheet.now }
-    ensures drawn { OnOk result (GoesOn pen.old.conv sheet.now (left expander.old)
-        pen.old.state page.old
-        (left expander.new) pen.new.state page.new) }
+    ensures drawn { OnOk result (GoesOn pen.old.conv sheet.now
+        (left expander.old) pen.old.state page.old (left expander.new) pen.new.state page.new) }
     ensures conv { OnOk result (pen.new.conv ≡ pen.old.conv) }
     ensures asks { OnOk result (asks_left expander.new ≤ asks_left expander.old) }
     ensures steps { IfOk result (λ step. HasFewerAtLook expander.old step expander.new) }
@@ -172,12 +155,12 @@ pub fn draw_flats(
     ensures next { IfOk result (λ step. Steps expander.new step expander.new) }
     ensures fits { IfOk result (λ step. Fits step expander.new) }
     ensures source { IsErrOf result PageStop.SourceFault → ⊥ }
-    ensures stop { IfErr result (StopsSo pen.old.conv sheet.now (left expander.old)
-        pen.old.state page.old) }
+    ensures stop { IfErr result (StopsSo pen.old.conv sheet.now
+        (left expander.old) pen.old.state page.old) }
 {
     'flats: loop {
         if let Some(plain) = expander.next_plain() {
-            draw_plain(page, pen, sheet, expander, plain)?;
+            draw_plain(page, pen, sheet, plain)?;
             continue;
         }
         let Ok(step) = expander.next() else {

@@ -15,7 +15,7 @@ use Rattle.font_decode.specs.declared.decoded.Decoded.TheVariants as decoded
 use Rattle.vf_expand.specs.Faults.{seen_fault}
 use Rattle.vf_expand.specs.Course.{Course, Gives, Asks, Stops, plain, Place, OnPage, InPacket, deeper, expand_one, expand_list, character, first_font, font_change, leave, virtual}
 use Rattle.vf_expand.specs.Course as course
-use Rattle.vf_expand.specs.Doing.{glyph_in}
+use Rattle.vf_expand.specs.Doing.{GivesNoPlain, glyph_in}
 use Rattle.vf_expand.specs.declared.current.Current.{Current}
 use Rattle.vf_expand.specs.declared.current.Current.TheVariants as code
 use Rattle.vf_expand.specs.declared.frames.Frame.{Frame}
@@ -135,6 +135,13 @@ abbrev pub SetsPlain : course.Current → ℤ → FontKey → ℤ → Type 0
 SetsPlain current c key width =
     (place : Place) (n : ℕ) → IsMark (λ now at others. character (deeper n at)
     place at now c false others) current (Char key (unsigned_abs c) width false)
+
+-- a character that is set, wherever it stands, is none of a packed font that was found and has its
+-- glyph
+abbrev pub SetsNoPlain : course.Current → ℤ → Type 0
+SetsNoPlain current c =
+    (place : Place) (n at : ℕ) (others : course.Current → Course)
+    → GivesNoPlain (character (deeper n at) place at current c false others)
 
 abbrev pub ChangeActs : Place → ℕ → course.Current → ℤ → Act → Type 0
 ChangeActs place n current number act =

@@ -1,6 +1,6 @@
 -- A page that is being expanded, as its calls see it: what stands to be expanded, and what the last
 -- step was.
-use Rattle.std.specs.Prelude.{◌≡◌, ℕ, suc, ◌+◌, ◌-◌, ℤ, Bool, List, [], ◌∷◌, length, Option, Some, None, if◌then◌else◌}
+use Rattle.std.specs.Prelude.{◌≡◌, ℕ, suc, ◌+◌, ◌-◌, ℤ, Bool, true, false, List, [], ◌∷◌, length, Option, Some, None, if◌then◌else◌}
 use Rattle.dvi_commands.specs.Spelling.{DviCommand}
 use Rattle.dvi_commands.specs.Reading.{Placed}
 use Rattle.drift_rules.specs.Position.{FlatCommand, Char, Advance}
@@ -93,6 +93,20 @@ IsAtLook (Gives f g at rest) = ⊥
 IsAtLook (Asks k at rest) = Unit {0}
 IsAtLook (Ends at) = ⊥
 IsAtLook (Stops fault at) = ⊥
+
+-- the flat command is no character that is set
+abbrev pub SetsNoCharacter : FlatCommand → Type 0
+SetsNoCharacter (Char k c width false) = ⊥
+SetsNoCharacter (Char k c width true) = Unit {0}
+SetsNoCharacter f = Unit {0}
+
+-- no character that is set stands next; the next step gives none, since one of a virtual font is
+-- given as its packet
+abbrev pub GivesNoPlain : Course → Type 0
+GivesNoPlain (Gives f g at rest) = SetsNoCharacter f
+GivesNoPlain (Asks k at rest) = Unit {0}
+GivesNoPlain (Ends at) = Unit {0}
+GivesNoPlain (Stops fault at) = Unit {0}
 
 -- what is left after a look-up, with the font that is found
 abbrev pub answered : Course → Decoded → Course

@@ -8,3 +8,5 @@ pub mod View
 pub mod Members
 pub mod PageLists
 pub mod Laws
+pub mod Sets
+pub mod Lending

@@ -1,5 +1,5 @@
 -- A step is what the course has next, and leaves what stands after it.
-use Rattle.std.specs.Prelude.{◌≡◌, ◌<◌, ◌≤◌, ℕ, ℤ, false, IsSome, None}
+use Rattle.std.specs.Prelude.{◌≡◌, ◌<◌, ◌≤◌, false, IsSome, None, Some}
 use Rattle.std.specs.Arc.{arc_value}
 use Rattle.outside.specs.declared.keys.FontKey.{FontKey}
 use Rattle.drift_rules.specs.Position.{FlatCommand, Char, seen_flat}
@@ -8,6 +8,7 @@ use Rattle.outside.specs.FontKeys.{IsFontKey}
 use Rattle.vf_expand.specs.Faults.{seen_fault}
 use Rattle.vf_expand.specs.Course.{Gives, Asks, Ends, Stops}
 use Rattle.vf_expand.specs.Doing.{Doing, IsAtLook, left, answered, glyph_for, marked_font, asks_left, steps_left}
+use Rattle.vf_expand.specs.declared.step.PlainStep.{PlainStep}
 use Rattle.vf_expand.specs.declared.step.Step.{Step}
 use Rattle.vf_expand.specs.declared.step.Step.TheVariants.{Flat, Ask, End, Stop}
 
@@ -44,11 +45,12 @@ abbrev pub HasItsGlyph : Doing → FlatCommand → Type 0
 HasItsGlyph v (Char k c width put) = IsSome (glyph_for v (Char k c width put))
 HasItsGlyph v f = Unit {0}
 
--- a character that is set, of some font, and has a glyph
-abbrev pub GivesPlain : Doing → ℕ → ℤ → Doing → Type 0
-GivesPlain old code width new =
-    (key : FontKey) × GivesOne old new (Char key code width false)
-    × HasItsGlyph new (Char key code width false)
+-- a character that is set, of some font, with its glyph in that font and its place
+pub record GivesPlain (old : Doing) (plain : PlainStep) (new : Doing) : Type 0 where
+  pub key : FontKey
+  pub one : GivesOne old new (Char key plain.code plain.width false)
+  pub glyph : glyph_for new (Char key plain.code plain.width false) ≡ Some plain.glyph.now
+  pub place : plain.at ≡ new.at
 
 -- a flat command may be handed to a pen, and a key to a decoder
 abbrev pub Fits : Step → Doing → Type 0

@@ -1,5 +1,5 @@
 //! What a character gives, by the font that is current.
-ghost use Rattle.std.specs.Prelude.{◌≡◌, ◌<◌, ℕ, pos, IfOk, IfSome, Some, unsigned_abs, ◌≤◌, ◌^◌};
+ghost use Rattle.std.specs.Prelude.{◌≡◌, ◌<◌, ℕ, pos, IfOk, IfSome, IsNone, Some, unsigned_abs, ◌≤◌, ◌^◌};
 ghost use Rattle.std.specs.Arc.{arc_value};
 ghost use Rattle.drift_rules.specs.Bounds.{IsNumber};
 ghost use Rattle.outside.specs.FontKeys.{IsFontKey};
@@ -8,7 +8,8 @@ ghost use Rattle.font_decode.specs.declared.decoded.Decoded.TheVariants as decod
 ghost use Rattle.vf_expand.specs.Course.{first_font, no_font};
 ghost use Rattle.vf_expand.specs.Faults.{seen_fault};
 ghost use Rattle.vf_expand.specs.Course as course;
-ghost use Rattle.vf_expand.specs.Acts.{CharacterActs, FitsAct, FoundActs, HasKey, SetsPlain, VirtualActs, seen_current, seen_place};
+ghost use Rattle.vf_expand.specs.Doing.{font_of, glyph_in};
+ghost use Rattle.vf_expand.specs.Acts.{CharacterActs, FitsAct, FoundActs, HasKey, SetsNoPlain, SetsPlain, VirtualActs, seen_current, seen_place};
 
 use crate::act::{Act, Source};
 use crate::current::Current;
@@ -18,6 +19,7 @@ use crate::keys::PageKeys;
 use drift_rules::Flat;
 use font_decode::{Decoded, Font};
 use outside::FontKey;
+use pk_runs::Glyph;
 use std::alloc::AllocError as NoMemory;
 use std::sync::Arc;
 
@@ -125,20 +127,25 @@ fn no_font(source: Source) -> Result<PageFault, NoMemory>
     }
 }
 
-/// The key of a character's font, and its width.
+/// The key of a character's font, the character's width in DVI units, and its glyph.
 #[derive(Clone, Copy)]
 pub struct PlainCharacter<'a> {
     pub key: &'a Arc<FontKey>,
     pub width: i64,
+    pub glyph: &'a Glyph,
 }
 
-/// A character that is set in a packed font that was found, if it is one and has a glyph.
+/// A character that is set in a packed font that was found. `None` where no font was found or it
+/// has a fault, in a virtual font, and where the font has no width or no glyph for the code.
 #[inline(always)]
 pub fn plain_character(current: &Current, code: i32) -> Option<PlainCharacter>
     ensures sets { IfSome result (λ found.
         SetsPlain (seen_current current.now) code (arc_value found.key.now) found.width) }
+    ensures glyph { IfSome result (λ found.
+        glyph_in (font_of (seen_current current.now)) (unsigned_abs code) ≡ Some found.glyph.now) }
     ensures number { IfSome result (λ found. IsNumber found.width) }
     ensures byte { IfSome result (λ _. (n : ℕ) × (code ≡ pos n) × (n < 256)) }
+    ensures none { IsNone result → SetsNoPlain (seen_current current.now) code }
 {
     let Current::Known(key, found) = current else {
         return None;
@@ -151,8 +158,8 @@ pub fn plain_character(current: &Current, code: i32) -> Option<PlainCharacter>
         return None;
     }
     let width = font.width(code)?;
-    let _glyph = font.glyph(code as u32)?;
-    Some(PlainCharacter { key, width })
+    let glyph = font.glyph(code as u32)?;
+    Some(PlainCharacter { key, width, glyph })
 }
 
 /// What a character gives, where n packets may stand inside one another.

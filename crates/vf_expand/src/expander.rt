@@ -3,8 +3,8 @@ ghost use Rattle.std.specs.Prelude.{◌≡◌, ◌<◌, ◌+◌, Some, None, IfO
 ghost use Rattle.std.specs.Arc.{arc_value};
 ghost use Rattle.page_index.specs.Document.{pages_begun};
 ghost use Rattle.vf_expand.specs.Course.{course_of, MOST as THE_MOST};
-ghost use Rattle.vf_expand.specs.Doing.{IsAtLook, IsEnded, answered, asks_left, left, marked_font, place_of, steps_left};
-ghost use Rattle.vf_expand.specs.Steps.{Fits, GivesPlain, Steps};
+ghost use Rattle.vf_expand.specs.Doing.{GivesNoPlain, IsAtLook, IsEnded, answered, asks_left, left, marked_font, place_of, steps_left};
+ghost use Rattle.vf_expand.specs.Steps.{Fits, Steps};
 ghost use Rattle.drift_rules.specs.Bounds.{IsNumber};
 
 use crate::act::{Act, expanded};
@@ -15,9 +15,10 @@ use crate::frames::{Frame, Frames};
 use crate::keys::PageKeys;
 use crate::opened::opened;
 use crate::progress::Progress;
+use crate::sets::set_at;
 use crate::step::{PlainStep, Step};
 use drift_rules::Flat;
-use dvi_commands::{Command, command_at};
+use dvi_commands::command_at;
 use font_decode::Decoded;
 use page_index::Index;
 use std::alloc::{AllocError as NoMemory, Global};
@@ -27,9 +28,6 @@ use std::sync::Arc;
 
 /// How many packets may stand inside one another.
 const MOST_DEEP: usize = 10;
-
-/// The last opcode that is a character by itself.
-const LAST_SMALL_CHARACTER: u8 = 127;
 
 /// A page that is being expanded. The level that is read is the page or a packet; a motion is due
 /// after the packet of a character that was set.
@@ -58,6 +56,9 @@ impl<'a> Model for Expander<'a> {
 }
 
 impl<'a> Expander<'a> {
+    ghost use Rattle.std.specs.Borrow.{sem};
+    ghost use Rattle.vf_expand.specs.Lending.{PassesPlain};
+
     /// The page with a number, from 0, at its first command, with no current font.
     pub fn new(alloc: Global, index: &'a Index<'a>, i: usize) -> Result<Expander<'a>, NoMemory>
         requires { i < pages_begun index.now.reading }
@@ -123,44 +124,6 @@ impl<'a> Expander<'a> {
         self.level = outside;
         self.progress = self.progress.given(self.progress.at, false);
         Step::Flat(Flat::Leave)
-    }
-
-    // The next command, where it is a character of one byte that is set in a packed font.
-    #[inline(always)]
-    fn plain(&mut self) -> Option<PlainStep>
-        requires undue { self.old.due ≡ None }
-        ensures given { IfSome result (λ plain. GivesPlain self.old plain.code plain.width self.new) }
-        ensures fits { IfSome result (λ plain. IsNumber plain.width) }
-        ensures none { IsNone result → self.new ≡ self.old }
-    {
-        let reading = opened(
-            self.index,
-            self.bytes,
-            self.start,
-            self.progress.at,
-            &self.level,
-            &self.outer,
-        );
-        if self.level.pos == reading.text.len()
-            || self.progress.budget == 0
-            || reading.text[self.level.pos] > LAST_SMALL_CHARACTER
-        {
-            return None;
-        }
-        let (command, end) = command_at(reading.text, self.level.pos, reading.context);
-        let Command::Set(code) = command else {
-            return None;
-        };
-        let Some(found) = plain_character(&self.level.current, code) else {
-            return None;
-        };
-        let width = found.width;
-        self.level.pos = end;
-        self.progress = self.progress.given(reading.at, true);
-        Some(PlainStep {
-            code: code as u8,
-            width,
-        })
     }
 
     // The next command, whatever it is, or the end.
@@ -258,18 +221,41 @@ impl<'a> Expander<'a> {
         }
     }
 
-    /// The next step, where it is a character of one byte that is set in a packed font, as most
-    /// steps are: it is given without its key. Else nothing has changed, and `next` gives the step.
+    /// The next step, where it is a character that is set in a packed font, as most steps are: it
+    /// is given with its glyph and without its key. `None` where any other step stands next, which
+    /// `next` gives: then nothing has changed.
     #[inline(always)]
-    pub fn next_plain(&mut self) -> Option<PlainStep>
-        ensures given { IfSome result (λ plain. GivesPlain self.old plain.code plain.width self.new) }
+    pub fn next_plain(&mut self) -> Option<PlainStep<'_>>
+        ensures* passes { sem 𝓛 (PassesPlain self.entry result) }
         ensures fits { IfSome result (λ plain. IsNumber plain.width) }
-        ensures none { IsNone result → self.new ≡ self.old }
+        ensures none { IsNone result → GivesNoPlain (left self.old) }
     {
-        match self.due {
-            Some(_) => None,
-            None => self.plain(),
+        if self.due.is_some() || self.progress.budget == 0 {
+            return None;
         }
+        let reading = opened(
+            self.index,
+            self.bytes,
+            self.start,
+            self.progress.at,
+            &self.level,
+            &self.outer,
+        );
+        let place = reading.at;
+        let Some((code, end)) = set_at(reading.text, self.level.pos, reading.context) else {
+            return None;
+        };
+        let Some(found) = plain_character(&self.level.current, code) else {
+            return None;
+        };
+        self.level.pos = end;
+        self.progress = self.progress.given(place, true);
+        Some(PlainStep {
+            code: code as u8,
+            width: found.width,
+            glyph: found.glyph,
+            at: place,
+        })
     }
 
     /// Hands in what was found for the key of the look-up that stands next. The place stays that of

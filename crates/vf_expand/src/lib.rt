@@ -14,6 +14,7 @@ mod keys;
 pub mod laws;
 mod opened;
 mod progress;
+mod sets;
 mod step;
 
 pub use expander::Expander;

@@ -2,6 +2,7 @@
 use crate::faults::PageFault;
 use drift_rules::Flat;
 use outside::FontKey;
+use pk_runs::Glyph;
 use std::sync::Arc;
 
 /// One step of a page.
@@ -17,9 +18,12 @@ pub enum Step {
     Stop(PageFault),
 }
 
-/// A character that is set in a packed font.
-#[derive(Clone, Copy, Debug, PartialEq, Eq)]
-pub struct PlainStep {
+/// A character that is set in a packed font: its code, its width in DVI units, its glyph in that
+/// font, and the position, in the document, of the page's command that it comes from.
+#[derive(Clone, Copy)]
+pub struct PlainStep<'e> {
     pub code: u8,
     pub width: i64,
+    pub glyph: &'e Glyph,
+    pub at: usize,
 }

@@ -1,9 +1,11 @@
-use Rattle.std.proofs.Common.{◌∙◌, arith, false, refl}
+use Rattle.std.proofs.Common.{◌∙◌, arith, refl, sym, subst, Option}
 use Rattle.std.proofs.lemmas.Result.{err_from_is_err_and}
-use Rattle.drift_rules.specs.Position.{seen_flat, Char}
+use Rattle.drift_rules.specs.Position.{seen_flat}
 use Rattle.font_decode.specs.Decoding.{IsFontOf}
 use Rattle.vf_expand.specs.Course.{course_of}
 use Rattle.vf_expand.specs.Doing.{glyph_for, left}
+use Rattle.pk_runs.specs.declared.glyph.Glyph.{Glyph}
+use Rattle.page_draw.specs.Inking.{Inks, set_in}
 use Rattle.page_draw.proofs.Lists.{so_far_flat, so_far_same}
 use Rattle.page_draw.proofs.Ends.{broken_so_far, pen_stop}
 use Rattle.page_draw.proofs.Other.{fewer_still, no_source, other_stays}
@@ -11,40 +13,43 @@ use Rattle.page_draw.proofs.flats.draw_flats.Goals as goal
 
 pub returns-in_err-draw_plain-clause-stop : goal.returns-in_err-draw_plain-clause-stop
 returns-in_err-draw_plain-clause-stop c =
-    let given = c.in-Some.ensures.given in
-    let flat = Char given.0 c.in-Some.plain.code c.in-Some.plain.width false in
-    let new = c.next_plain.new.self in
+    let plain = c.in-Some.plain in
+    let new = c.next_plain.follows.lender-at-none in
+    let given = rw c.in-Some.is at c.next_plain.follows.holds-at-none in
+    let flat = set_in given.key plain in
     let p = err_from_is_err_and c.from_residual.result c.from_residual.ensures.1 in
-    let stop = c.in_err-draw_plain.ensures.stop given.0 in
-    let stops = rw c.flats.invariant.conv at stop in
+    let stop = c.in_err-draw_plain.ensures.stop given.key in
+    let stops = rw (c.flats.invariant.conv, given.place) at stop in
     rw (p.1, p.2)
     (λ told units indexed i old now conv so_far.
     pen_stop (IsFontOf told units) c.args.pen.now.conv c.args.sheet.now indexed i (left c.flats.expander) c.flats.pen.state c.flats.page old now
     (c.flats.invariant.drawn told units (course_of indexed.reading i) old now so_far) conv
-    flat (glyph_for new flat) new.at (left new) given.1.given _ stops)
+    flat (glyph_for new flat) new.at (left new) given.one.given _ stops)
 
 pub returns-in_err-draw_plain-clause-source : goal.returns-in_err-draw_plain-clause-source
 returns-in_err-draw_plain-clause-source c =
+    let given = rw c.in-Some.is at c.next_plain.follows.holds-at-none in
     let p = err_from_is_err_and c.from_residual.result c.from_residual.ensures.1 in
-    rw (p.1, p.2) (no_source _ _ _ (c.in_err-draw_plain.ensures.stop c.in-Some.ensures.given.0))
+    rw (p.1, p.2) (no_source _ _ _ (c.in_err-draw_plain.ensures.stop given.key))
 
 pub flats-preserved-in-Some : goal.flats-preserved-in-Some
 flats-preserved-in-Some c =
     let i = c.flats.invariant in
-    let given = c.in-Some.ensures.given in
-    let flat = Char given.0 c.in-Some.plain.code c.in-Some.plain.width false in
-    let next = c.next_plain.new.self in
-    let one = given.1 in
-    let moved = c.in_ok-draw_plain.ensures.moved given.0 in
-    let inked = c.in_ok-draw_plain.ensures.inked given.0 in
+    let plain = c.in-Some.plain in
+    let next = c.next_plain.follows.lender-at-none in
+    let given = rw c.in-Some.is at c.next_plain.follows.holds-at-none in
+    let flat = set_in given.key plain in
+    let moved = c.in_ok-draw_plain.ensures.moved given.key in
+    let inked = subst (λ (g : Option Glyph). Inks c.args.sheet.now c.flats.pen flat g c.flats.page c.draw_plain.new.page) (sym given.glyph)
+    (c.in_ok-draw_plain.ensures.inked given.key) in
     record {
       conv = c.draw_plain.ensures.conv ∙ i.conv;
-      asks = omega (arith, i.asks, one.asks);
-      steps = omega (arith, i.steps, one.fewer);
+      asks = omega (arith, i.asks, given.one.asks);
+      steps = omega (arith, i.steps, given.one.fewer);
       drawn = λ told units from old new so_far.
           so_far_flat (IsFontOf told units) c.args.pen.now.conv c.args.sheet.now from (left c.flats.expander) c.flats.pen.state c.flats.page old new
           (i.drawn told units from old new so_far) flat (glyph_for next flat) next.at (left next)
-          c.draw_plain.new.pen.state c.draw_plain.new.page one.given (rw i.conv at moved) inked;
+          c.draw_plain.new.pen.state c.draw_plain.new.page given.one.given (rw i.conv at moved) inked;
     }
 
 pub returns-in_default-next-clause-stop : goal.returns-in_default-next-clause-stop
@@ -54,7 +59,7 @@ returns-in_default-next-clause-stop c = λ told units indexed i old new conv so_
 
 pub returns-in_err-draw_one-in-Flat-clause-stop : goal.returns-in_err-draw_one-in-Flat-clause-stop
 returns-in_err-draw_one-in-Flat-clause-stop c =
-    let same = c.in_default.ensures.none refl in
+    let same = rw c.in_default.is at c.next_plain.follows.holds-at-none in
     let step = rw (c.in-Flat.is, same) at c.in-Ok.ensures.step in
     let flat = seen_flat c.in-Flat.flat in
     let r = c.from_residual-in_err-draw_one-in-Flat in
@@ -75,7 +80,7 @@ returns-in_err-draw_one-in-Flat-clause-source c =
 pub flats-preserved-in_ok-draw_one-in-Flat : goal.flats-preserved-in_ok-draw_one-in-Flat
 flats-preserved-in_ok-draw_one-in-Flat c =
     let i = c.flats.invariant in
-    let same = c.in_default.ensures.none refl in
+    let same = rw c.in_default.is at c.next_plain.follows.holds-at-none in
     let step = rw (c.in-Flat.is, same) at c.in-Ok.ensures.step in
     let flat = seen_flat c.in-Flat.flat in
     let moved = rw i.conv at c.in_ok-draw_one-in-Flat.ensures.moved in
@@ -93,7 +98,7 @@ flats-preserved-in_ok-draw_one-in-Flat c =
 pub flats-preserved : goal.flats-preserved
 flats-preserved c =
     let i = c.flats.invariant in
-    let same = c.in_default.ensures.none refl in
+    let same = rw c.in_default.is at c.next_plain.follows.holds-at-none in
     let step = rw (c.in-Flat.is, same) at c.in-Ok.ensures.step in
     let flat = seen_flat c.in-Flat.flat in
     let moved = rw i.conv at c.in_ok-draw_one-in-Flat.ensures.moved in
@@ -111,7 +116,7 @@ flats-preserved c =
 pub returns-in_default-step : goal.returns-in_default-step
 returns-in_default-step c =
     let i = c.flats.invariant in
-    let none = c.in_default.ensures.none refl in
+    let none = rw c.in_default.is at c.next_plain.follows.holds-at-none in
     let step = rw none at c.in-Ok.ensures.step in
     let same = other_stays c.flats.expander c.next.new.self c.in-Ok.step c.in_default-step.not-Flat step in
     record {

@@ -16,10 +16,10 @@ pub returns-in-Ok-clause-inked : goal.returns-in-Ok-clause-inked
 returns-in-Ok-clause-inked c = λ key done has.
     c.ink.ensures done has
     ∙ ap₂ (λ (m : Option Mark) (g : Option Glyph). page_of c.args.sheet.now.width c.args.sheet.now.height (done ++ inks_of c.args.sheet.now m g))
-    (sym (c.in-Ok.ensures.marked key c.args.plain.code)) c.glyph_at.ensures
+    (sym (c.in-Ok.ensures.marked key c.args.plain.code)) refl
 
 pub returns-in-Err-clause-stop : goal.returns-in-Err-clause-stop
 returns-in-Err-clause-stop c = λ key.
     let same = kept c.args.plain.width (omega (arith, c.requires.reach)) in
     let fault = c.in-Err.ensures.fault key c.args.plain.code in
-    (c.in-Err.fault, rw same at fault, refl, c.at.ensures)
+    (c.in-Err.fault, rw same at fault, refl, refl)

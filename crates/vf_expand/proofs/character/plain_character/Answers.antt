@@ -19,9 +19,9 @@ returns-clause-sets c =
     let known : current ≡ course.Known key (decoded.Font font) = ap seen_current c.in-Known.is ∙ ap (course.Known key) (sym c.deref-decoded.ensures ∙ c.in-Font.is) in
     let byte = c.in_ok-width.ensures.byte in
     let number : unsigned_abs code ≡ byte.0 = omega (arith, ints, byte.1) in
-    let glyph = subst (λ (n : ℕ). glyph_at font n ≡ Some c.in_ok-_glyph._glyph.now) number c.in_ok-_glyph.ensures in
+    let glyph = subst (λ (n : ℕ). glyph_at font n ≡ Some c.in_ok-glyph.glyph.now) number c.in_ok-glyph.ensures in
     let packed : is_virtual_of font ≡ false = sym c.is_virtual.ensures ∙ c.if-is_virtual.false in
     let same : c.args.code ≡ code = omega (arith, ints) in
     let same_width : width ≡ to_z w64 (of_z w64 width) = omega (arith, ints) in
-    let sets = sets_plain current key font byte.0 code width c.in_ok-_glyph._glyph.now known byte.1 (sym c.in_ok-width.ensures.width) packed glyph in
+    let sets = sets_plain current key font byte.0 code width c.in_ok-glyph.glyph.now known byte.1 (sym c.in_ok-width.ensures.width) packed glyph in
     subst (λ (z : ℤ). SetsPlain current z key (to_z w64 (of_z w64 width))) (sym (same ∙ byte.1)) (subst (λ (z : ℤ). SetsPlain current (pos byte.0) key z) same_width sets)

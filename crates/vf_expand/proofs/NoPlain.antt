@@ -1,0 +1,188 @@
+-- Where no character that is set stands next.
+use Rattle.std.proofs.Common.{◌≡◌, ◌∙◌, ℕ, zero, suc, ◌+◌, ◌-◌, ℤ, Bool, true, false, List, [], ◌∷◌, length, drop, refl, sym, ap, subst, Option, Some, None}
+use Rattle.std.specs.Prelude.{is_some}
+use Rattle.outside.specs.declared.keys.FontKey.{FontKey}
+use Rattle.dvi_commands.specs.declared.command.Context.{Context}
+use Rattle.dvi_commands.specs.declared.command.Context.TheVariants as context
+use Rattle.dvi_commands.specs.Spelling.{DviCommand, Set, Put, SetRule, PutRule, Push, Pop, Right, W0, W, X0, X, Down, Y0, Y, Z0, Z, Font}
+use Rattle.dvi_commands.specs.Reading.{AreCommands, Begins, Placed, commands_of, placed, placed_from}
+use Rattle.dvi_commands.proofs.Commands.{commands_first, commands_none, placed_first, placed_none}
+use Rattle.drift_rules.specs.Position.{Advance}
+use Rattle.page_index.specs.Document.{Reading, font_table}
+use Rattle.pk_runs.specs.declared.glyph.Glyph.{Glyph}
+use Rattle.font_decode.specs.Fonts.{FontSeen, glyph_at, is_virtual_of, local_of, first_local_of, packet_of, width_of}
+use Rattle.font_decode.specs.declared.decoded.Decoded.{Decoded}
+use Rattle.font_decode.specs.declared.decoded.Decoded.TheVariants as decoded
+use Rattle.vf_expand.specs.Faults.{PageFaultSeen}
+use Rattle.vf_expand.specs.Faults as fault
+use Rattle.vf_expand.specs.Course.{Asks, Course, Current, Deeper, Ends, Gives, MOST_DEEP, OnPage, InPacket, Place, Stops, by_kind, changed_to, character, cut, deeper, expand_list, expand_one, font_change, found, leave, no_local, number_of, packet, page_from, plain, virtual, with_glyph, with_width}
+use Rattle.vf_expand.specs.Course as course
+use Rattle.vf_expand.specs.Doing.{Doing, GivesNoPlain, course_left, depth, due_left, left, place_in, stack_left}
+use Rattle.vf_expand.specs.Acts.{SetsNoPlain, seen_current}
+use Rattle.vf_expand.specs.Levels.{AreLevels, context_of, stack_of, text_in, text_of}
+use Rattle.vf_expand.specs.declared.current.Current as code
+use Rattle.vf_expand.specs.declared.current.Current.TheVariants as variant
+use Rattle.vf_expand.specs.declared.frames.Frame.{Frame}
+use Rattle.vf_expand.proofs.Levels.{rest_reads}
+
+-- ---- by what is left
+
+none_cut : (b : ℕ) (x : Course) → GivesNoPlain x → GivesNoPlain (cut b x)
+none_cut zero (Gives f g at rest) h = tt
+none_cut zero (Asks k at rest) h = tt
+none_cut zero (Ends at) h = tt
+none_cut zero (Stops f at) h = tt
+none_cut (suc b) (Gives f g at rest) h = h
+none_cut (suc b) (Asks k at rest) h = tt
+none_cut (suc b) (Ends at) h = tt
+none_cut (suc b) (Stops f at) h = tt
+
+none_over : (x : Course) → GivesNoPlain (cut 0 x)
+none_over (Gives f g at rest) = tt
+none_over (Asks k at rest) = tt
+none_over (Ends at) = tt
+none_over (Stops f at) = tt
+
+none_leave : (gap : Option ℤ) (at : ℕ) (x : Course) → GivesNoPlain (leave gap at x)
+none_leave None at x = tt
+none_leave (Some width) at x = tt
+
+is_due : (o : Option ℤ) → is_some o ≡ true → (width : ℤ) × (o ≡ Some width)
+is_due None e = absurd cc
+is_due (Some width) e = (width, refl)
+
+pub is_undue : (o : Option ℤ) → is_some o ≡ false → o ≡ None
+is_undue None e = refl
+is_undue (Some width) e = absurd cc
+
+module _ (v : Doing) where
+  -- the motion after a packet is due
+  due_first : (width : ℤ) → v.due ≡ Some width → GivesNoPlain (left v)
+  unfolding course_left
+  due_first width due =
+      let x = stack_left v.reading v.eop v.at v.current v.stack in
+      subst (λ (o : Option ℤ). GivesNoPlain (cut v.budget (due_left o v.at x))) (sym due) (none_cut v.budget (plain (Advance width) v.at x) tt)
+
+  pub none_due : is_some v.due ≡ true → GivesNoPlain (left v)
+  none_due is = let due = is_due v.due is in due_first due.0 due.1
+
+  -- no flat command may be given
+  pub none_late : v.budget ≡ 0 → GivesNoPlain (left v)
+  unfolding course_left
+  none_late none =
+      let x = due_left v.due v.at (stack_left v.reading v.eop v.at v.current v.stack) in
+      subst (λ (b : ℕ). GivesNoPlain (cut b x)) (sym none) (none_over x)
+
+  pub none_undue : v.due ≡ None → GivesNoPlain (stack_left v.reading v.eop v.at v.current v.stack) → GivesNoPlain (left v)
+  unfolding course_left
+  none_undue undue h =
+      let x = stack_left v.reading v.eop v.at v.current v.stack in
+      subst (λ (o : Option ℤ). GivesNoPlain (cut v.budget (due_left o v.at x))) (sym undue) (none_cut v.budget x h)
+
+-- ---- a character of a virtual font
+
+none_packet : (inner : FontKey → FontSeen → List DviCommand → Course → Course) (at : ℕ) (k : FontKey) (f : FontSeen) (c : ℤ) (gap : Option ℤ) (text : Option (List ℕ)) (rest : Course)
+    → GivesNoPlain (packet inner at k f c gap text rest)
+none_packet inner at k f c gap None rest = tt
+none_packet inner at k f c gap (Some text) rest = tt
+
+none_virtual : (deep : Deeper) (at : ℕ) (k : FontKey) (f : FontSeen) (c : ℤ) (gap : Option ℤ) (rest : Course) → GivesNoPlain (virtual deep at k f c gap rest)
+none_virtual None at k f c gap rest = tt
+none_virtual (Some inner) at k f c gap rest = none_packet inner at k f c gap (packet_of f (number_of c)) rest
+
+-- ---- any other command
+
+put_glyph : (at : ℕ) (k : FontKey) (c width : ℤ) (glyph : Option Glyph) (rest : Course) → GivesNoPlain (with_glyph at k c width true glyph rest)
+put_glyph at k c width None rest = tt
+put_glyph at k c width (Some g) rest = tt
+
+put_kind : (deep : Deeper) (at : ℕ) (k : FontKey) (f : FontSeen) (c width : ℤ) (is : Bool) (rest : Course) → GivesNoPlain (by_kind deep at k f c width true is rest)
+put_kind deep at k f c width false rest = put_glyph at k c width (glyph_at f (number_of c)) rest
+put_kind deep at k f c width true rest = none_virtual deep at k f c None rest
+
+put_width : (deep : Deeper) (at : ℕ) (k : FontKey) (f : FontSeen) (c : ℤ) (width : Option ℤ) (rest : Course) → GivesNoPlain (with_width deep at k f c true width rest)
+put_width deep at k f c None rest = tt
+put_width deep at k f c (Some width) rest = put_kind deep at k f c width (is_virtual_of f) rest
+
+put_found : (deep : Deeper) (at : ℕ) (k : FontKey) (d : Decoded) (c : ℤ) (rest : Course) → GivesNoPlain (found deep at k d c true rest)
+put_found deep at k (decoded.Fault f) c rest = tt
+put_found deep at k (decoded.Font f) c rest = put_width deep at k f c (width_of f c) rest
+
+none_put : (deep : Deeper) (place : Place) (at : ℕ) (current : Current) (c : ℤ) (others : Current → Course) → GivesNoPlain (character deep place at current c true others)
+none_put deep place at course.NoFont c others = tt
+none_put deep place at (course.Chosen k) c others = tt
+none_put deep place at (course.Known k d) c others = put_found deep at k d c (others (course.Known k d))
+
+none_changed : (k : Option FontKey) (f : PageFaultSeen) (at : ℕ) (others : Current → Course) → GivesNoPlain (changed_to k f at others)
+none_changed None f at others = tt
+none_changed (Some k) f at others = tt
+
+none_font : (place : Place) (at : ℕ) (n : ℤ) (others : Current → Course) → GivesNoPlain (font_change place at n others)
+none_font (OnPage reading) at n others = none_changed (font_table reading n) (fault.NoFont n) at others
+none_font (InPacket k f) at n others = none_changed (local_of f n) (no_local k (first_local_of f) n) at others
+
+module _ (n at : ℕ) (place : Place) (current : Current) where
+  none_one : (c : DviCommand) (others : Current → Course) → ((code : ℤ) → c ≡ Set code → SetsNoPlain current code)
+      → GivesNoPlain (expand_one (deeper n at) place at current c others)
+  none_one (Set c) others h = h c refl place n at others
+  none_one (Put c) others h = none_put (deeper n at) place at current c others
+  none_one (Font k) others h = none_font place at k others
+  none_one (SetRule a b) others h = tt
+  none_one (PutRule a b) others h = tt
+  none_one (Right b) others h = tt
+  none_one (W b) others h = tt
+  none_one (X b) others h = tt
+  none_one (Down b) others h = tt
+  none_one (Y b) others h = tt
+  none_one (Z b) others h = tt
+  none_one W0 others h = tt
+  none_one X0 others h = tt
+  none_one Y0 others h = tt
+  none_one Z0 others h = tt
+  none_one Push others h = tt
+  none_one Pop others h = tt
+  none_one _ others h = tt
+
+-- ---- what is read of a level
+
+-- a character that is set at the head of the bytes is none of a packed font that was found and has
+-- its glyph
+abbrev pub AtHead : Context → Current → List ℕ → Type 0
+AtHead place current bytes = (code : ℤ) (first rest : List ℕ) → Begins place (Set code) first rest bytes → SetsNoPlain current code
+
+on_page : (reading : Reading) (eop start : ℕ) (current : Current) (commands : List DviCommand) (bytes : List ℕ) → AreCommands context.Page commands bytes → AtHead context.Page current bytes
+    → GivesNoPlain (page_from reading eop current (placed_from start bytes))
+on_page reading eop start current [] bytes are none =
+    subst (λ (b : List ℕ). GivesNoPlain (page_from reading eop current (placed_from start b))) (sym are)
+    (subst (λ (p : List Placed). GivesNoPlain (page_from reading eop current p)) (sym (placed_none start)) tt)
+on_page reading eop start current (c ∷ commands) bytes are none =
+    let after = placed_from (start + length are.0) are.1 in
+    let is : placed_from start bytes ≡ placed start c are.0 ∷ after = ap (placed_from start) are.2.whole ∙ placed_first start c are.0 are.1 are.2.spelled in
+    subst (λ (p : List Placed). GivesNoPlain (page_from reading eop current p)) (sym is)
+    (none_one MOST_DEEP start (OnPage reading) current c (λ next. page_from reading eop next after)
+    (λ code same. none code are.0 are.1 (subst (λ (d : DviCommand). Begins context.Page d are.0 are.1 bytes) same are.2)))
+
+in_packet : (n at : ℕ) (place : Place) (current : Current) (gap : Option ℤ) (rest : Course) (commands : List DviCommand) (bytes : List ℕ) → AreCommands context.Packet commands bytes
+    → AtHead context.Packet current bytes → GivesNoPlain (expand_list (expand_one (deeper n at) place at) current (commands_of bytes) (leave gap at rest))
+in_packet n at place current gap rest [] bytes are none =
+    let one = expand_one (deeper n at) place at in
+    subst (λ (b : List ℕ). GivesNoPlain (expand_list one current (commands_of b) (leave gap at rest))) (sym are)
+    (subst (λ (l : List DviCommand). GivesNoPlain (expand_list one current l (leave gap at rest))) (sym commands_none) (none_leave gap at rest))
+in_packet n at place current gap rest (c ∷ commands) bytes are none =
+    let one = expand_one (deeper n at) place at in
+    let is : commands_of bytes ≡ c ∷ commands_of are.1 = ap commands_of are.2.whole ∙ commands_first c are.0 are.1 are.2.spelled in
+    subst (λ (l : List DviCommand). GivesNoPlain (expand_list one current l (leave gap at rest))) (sym is)
+    (none_one n at place current c (λ next. expand_list one next (commands_of are.1) (leave gap at rest))
+    (λ code same. none code are.0 are.1 (subst (λ (d : DviCommand). Begins context.Packet d are.0 are.1 bytes) same are.2)))
+
+pub none_stack : (reading : Reading) (eop start at : ℕ) (bytes : List ℕ) (level : Frame) (outer : List Frame) → AreLevels bytes level outer
+    → AtHead (context_of outer) (seen_current level.current) (drop level.pos (text_of bytes level outer))
+    → GivesNoPlain (stack_left reading eop at (seen_current level.current) (stack_of bytes start level outer))
+none_stack reading eop start at bytes level [] fine none =
+    on_page reading eop (start + level.pos) (seen_current level.current) fine.readable.commands (drop level.pos bytes) fine.readable.are none
+none_stack reading eop start at bytes level (o ∷ outer) fine none =
+    let outside = seen_current o.current in
+    let text = drop level.pos (text_in outside level.code) in
+    let reads = rest_reads level.code text fine.0.sound in
+    in_packet (MOST_DEEP - suc (depth (stack_of bytes start o outer))) at (place_in reading outside) (seen_current level.current) level.gap
+    (stack_left reading eop at outside (stack_of bytes start o outer)) reads.commands text reads.are none
