@@ -1,5 +1,5 @@
 -- Workers that draw the pages of a document in rounds.
-use Rattle.std.specs.Prelude.{◌≡◌, ◌⊎◌, ℕ, ◌+◌, ◌-◌, ◌*◌, ◌^◌, ◌<◌, ◌≤◌, Bool, cond, List, [], ◌∷◌, ◌++◌, Option, Some, None, Result, Ok, Err, IsErrOf, IfSome}
+use Rattle.std.specs.Prelude.{◌≡◌, ◌⊎◌, ℕ, ◌+◌, ◌*◌, ◌^◌, ◌≤◌, Bool, cond, List, [], ◌∷◌, ◌++◌, Option, Some, None, Result, Ok, Err, IfSome}
 use Rattle.std.specs.Io.KnownBytes.{Appends}
 use Rattle.outside.specs.Counts.{Rose}
 use Rattle.outside.specs.Library.{Files}
@@ -7,16 +7,14 @@ use Rattle.outside.specs.Streams.{AppendsPrefix}
 use Rattle.outside.specs.declared.keys.FontKey.{FontKey}
 use Rattle.packed_rows.specs.Bitmap.{Bitmap}
 use Rattle.packed_rows.specs.Changes.{black_count}
-use Rattle.page_index.specs.Document.{Reading, pages_begun}
+use Rattle.page_index.specs.Document.{Reading}
 use Rattle.page_index.specs.Pages.{Indexed, document_units}
 use Rattle.turn_lock.specs.Seats.{SeatView}
 use Rattle.cache_core.specs.declared.calls.Call.{Call}
 use Rattle.cache_core.specs.Histories.{own, SeatCalls, NoneReleased, looks}
 use Rattle.font_decode.specs.Desks.{TrailGrew, ReleasedLast, Loaded, misses}
 use Rattle.vf_expand.specs.Faults.{seen_fault}
-use Rattle.page_draw.specs.Members.{Finding}
 use Rattle.page_draw.specs.Values.{fault_at}
-use Rattle.page_draw.specs.Drawn.{IsWhole}
 use Rattle.page_draw.specs.declared.sheet.Sheet.{Sheet}
 use Rattle.page_draw.specs.declared.stop.PageStop.{PageStop}
 use Rattle.page_draw.specs.declared.stop.PageStop.TheVariants as draw

@@ -1,7 +1,6 @@
 -- One flat command on a page: the pen's next state, and the mark that it sets.
 use Rattle.std.specs.Prelude.{◌≡◌, false, List, ◌++◌, Option, Result, Ok}
 use Rattle.outside.specs.declared.keys.FontKey.{FontKey}
-use Rattle.pixel_round.specs.Pixels.{Fraction}
 use Rattle.drift_rules.specs.Position.{Char, FlatCommand, PenView, State, after}
 use Rattle.drift_rules.specs.Marks.{mark_of}
 use Rattle.drift_rules.specs.declared.faults.PenFault.{PenFault}

@@ -1,6 +1,6 @@
 //! Paper: pages that were written, whose memory is drawn on again. New memory for a page costs as
 //! much as to draw it, since each piece of it is handed out by the system when it is first written.
-ghost use Rattle.std.specs.Prelude.{◌≡◌, ℕ, ◌<◌, ◌≤◌, [], IfOk, length, slice_index_or};
+ghost use Rattle.std.specs.Prelude.{◌≡◌, ℕ, ◌<◌, [], IfOk, length, slice_index_or};
 ghost use Rattle.page_draw.specs.Sheets.{IsDrawable};
 ghost use Rattle.raster_page.specs.Ink.{page_of};
 ghost use Rattle.page_workers.specs.Paper.{HasNoPaper, MayKeepPage, SameButPaper};

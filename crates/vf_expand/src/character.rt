@@ -1,9 +1,7 @@
 //! What a character gives, by the font that is current.
-ghost use Rattle.std.specs.Prelude.{◌≡◌, ◌<◌, ℕ, pos, IfOk, IfSome, IsNone, Some, unsigned_abs, ◌≤◌, ◌^◌};
+ghost use Rattle.std.specs.Prelude.{◌≡◌, ◌<◌, ℕ, pos, IfOk, IfSome, IsNone, Some, unsigned_abs};
 ghost use Rattle.std.specs.Arc.{arc_value};
 ghost use Rattle.drift_rules.specs.Bounds.{IsNumber};
-ghost use Rattle.outside.specs.FontKeys.{IsFontKey};
-ghost use Rattle.font_decode.specs.Fonts.{is_virtual_of, width_of};
 ghost use Rattle.font_decode.specs.declared.decoded.Decoded.TheVariants as decoded;
 ghost use Rattle.vf_expand.specs.Course.{first_font, no_font};
 ghost use Rattle.vf_expand.specs.Faults.{seen_fault};

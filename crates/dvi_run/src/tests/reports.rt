@@ -1,11 +1,10 @@
 //! What runs tell in their notes: traces, summaries and the lines of their ends.
 ghost use Rattle.std.specs.Prelude.{◌≡◌, ◌≤◌};
-ghost use Rattle.page_draw.specs.Sheets.{IsDrawable};
 ghost use Rattle.command_line.specs.Settings.{AreSettings};
 
 use super::files::{DOT_PK, DOT_TFM, changed, font, library, packed};
 use super::one::run_alone;
-use super::{document, no_fonts, numbers, on};
+use super::{document, no_fonts, numbers};
 use crate::Settings;
 use outside::{FontSource, Library, MemFonts, MemInput, MemOutput, SureFonts};
 use page_draw::Sheet;
