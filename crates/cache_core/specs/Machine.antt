@@ -58,11 +58,11 @@ allows_done capacity m seat k Hit = not (is_some (claim_of seat m.claims)) && ha
 allows_done capacity m seat k Busy =
     not (is_some (claim_of seat m.claims)) && not (has_key k m.resident) && claims_key k m.claims
 allows_done capacity m seat k Claimed =
-    not (is_some (claim_of seat m.claims)) && not (has_key k m.resident) && not
-    (claims_key k m.claims)
+    not (is_some (claim_of seat m.claims)) && not (has_key k m.resident)
+    && not (claims_key k m.claims)
 allows_done capacity m seat k (Filled gone) =
-    option_key_eq (claim_of seat m.claims) (Some k) && option_key_eq gone (leaver capacity
-    (k ∷ m.resident))
+    option_key_eq (claim_of seat m.claims) (Some k)
+    && option_key_eq gone (leaver capacity (k ∷ m.resident))
 allows_done capacity m seat k Released = option_key_eq (claim_of seat m.claims) (Some k)
 
 -- and what it changes

@@ -80,7 +80,7 @@ fn read_more<I: Input>(input: &mut I, bytes: &mut Vec<u8>, len: usize) -> Result
     Ok(read_after(input, bytes, len)?)
 }
 
-/// Reads to the end, or n bytes that there are too many.
+/// Reads to the end, or until there are more bytes than a document may have.
 pub fn read_all<I: Input>(alloc: Global, input: &mut I) -> Result<Vec<u8>, ReadStop>
     ensures bytes { IfOk result (λ bytes.
         IsRead (I.left input.old) (I.left input.new) bytes.items) }

@@ -19,8 +19,8 @@ is_name_byte b =
 -- no area, 1 to 100 such bytes, and no dot at its beginning
 abbrev pub is_valid_name : FontKey → Bool
 is_valid_name k =
-    k.area == 0 && is_in_range 1 100 (length k.name) && list_all is_name_byte k.name && not
-    (slice_index k.name 0 == 46)
+    k.area == 0 && is_in_range 1 100 (length k.name) && list_all is_name_byte k.name
+    && not (slice_index k.name 0 == 46)
 
 -- ---- the resolution of a PK font
 

@@ -11,7 +11,7 @@ const IDENTIFIER: u8 = 2;
 /// What stands after a document, up to its end.
 const FILLER: u8 = 223;
 
-/// There are at least n of these bytes.
+/// The least number of these bytes.
 const FEWEST: usize = 4;
 
 // Whether a pointer leads to the postamble.

@@ -60,8 +60,8 @@ width_word bytes i = signed_at bytes (width_at bytes i) 4
 -- the first byte of a fix_word is 0 or 255, so that it lies between -16 and 16
 abbrev pub is_width_byte_wrong : List ℕ → ℕ → Bool
 is_width_byte_wrong bytes i =
-    not (slice_index bytes (width_at bytes i) == 0) && not
-    (slice_index bytes (width_at bytes i) == 255)
+    not (slice_index bytes (width_at bytes i) == 0)
+    && not (slice_index bytes (width_at bytes i) == 255)
 
 abbrev pub is_index_wrong : List ℕ → ℕ → Bool
 is_index_wrong bytes i = nat_le (nw bytes) (width_index bytes i)

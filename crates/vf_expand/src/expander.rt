@@ -198,7 +198,8 @@ impl<'a> Expander<'a> {
     /// `Enter`, what the commands of its packet give, with their dimensions scaled to the font's
     /// size and rounded down, `Leave`, and `Advance` by its width where it was set. A packet begins
     /// with the first local font of its font. A font is asked for at the first character after the
-    /// change to it, and again until it is handed in; the page's font stays found over a packet.
+    /// change to it, and again until it is handed in; a packet between two characters of a font of
+    /// the page asks for it no second time.
     ///
     /// The page stops at a change to a font that isn't defined; at a character where no font is
     /// current; at one whose font has a fault, no width, no glyph or no packet for it, or whose
