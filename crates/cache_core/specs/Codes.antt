@@ -2,11 +2,11 @@
 use Rattle.std.specs.Prelude.{ℕ, Option, refl}
 use Rattle.std.specs.Coded.{Coded, code_by, coded×, coded_ℕ, coded_list, coded_option}
 use Rattle.std.specs.FinMap as map
-use Rattle.outside.specs.Library.{Files}
+use Rattle.outside.specs.Library.{FileTable}
 use Rattle.pixel_round.specs.declared.units.Units.{Units}
 use Rattle.cache_core.specs.declared.common.Common.{Common}
 
-abbrev pub files_code : Coded Files
+abbrev pub files_code : Coded FileTable
 files_code = map.code (coded_list coded_ℕ) (coded_list coded_ℕ)
 
 abbrev pub units_code : Coded Units
@@ -17,7 +17,7 @@ units_code =
 
 abbrev pub common_code : Coded Common
 common_code =
-    code_by (ℕ × (Units × Option Files))
+    code_by (ℕ × (Units × Option FileTable))
     (coded× coded_ℕ (coded× units_code (coded_option files_code)))
     (λ c. (c.capacity, (c.units, c.library)))
     (λ p. record { capacity = p.0; units = p.1.0; library = p.1.1 }) (λ _. refl)

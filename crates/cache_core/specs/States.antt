@@ -114,7 +114,7 @@ seen fonts capacity claims entries turns =
 
 -- what holds of every state: it is the one after its history, keeps a font at least, and has room
 -- for an entry per claim
-pub record Kept {T : Type 0} (c : Cache T) (entries claims room : ℕ) : Type 0 where
+pub record IsSoundCache {T : Type 0} (c : Cache T) (entries claims room : ℕ) : Type 0 where
   pub reached : IsReached c
   pub some_font : 1 ≤ c.capacity
   pub can_end : entries + claims ≤ room

@@ -4,23 +4,23 @@
 //! the whole history of its calls, so that what every seat was told can be judged afterwards.
 #![tactic(auto)]
 
-mod about;
 mod calls;
 mod claims;
 mod common;
 mod entry;
 pub mod examples;
 mod fonts;
+mod ghost_common;
 mod key_test;
 pub mod laws;
 mod stands;
 mod state;
 mod told;
 
-pub use about::About;
 pub use calls::{Call, Done};
 pub use common::Common;
 pub use entry::{Act, Entry, Evicted, Look};
+pub use ghost_common::GhostCommon;
 pub use stands::Stands;
 pub use state::CacheState;
 pub use told::Told;

@@ -35,7 +35,7 @@ pub struct CacheState<T: Stands> {
 
 impl<T: Stands> Model for CacheState<T> {
     ghost use Rattle.std.specs.Vec.{vec_len, vec_capacity};
-    ghost use Rattle.cache_core.specs.States.{Cache, cache_code, seen, Kept};
+    ghost use Rattle.cache_core.specs.States.{Cache, cache_code, seen, IsSoundCache};
 
     ghost Value = { Cache T };
 
@@ -44,7 +44,7 @@ impl<T: Stands> Model for CacheState<T> {
     ghost view = { λ s.
         seen s.resident.entries s.resident.cap s.claims.items s.entries.items s.turns };
 
-    ghost invariant = { λ s. Kept
+    ghost invariant = { λ s. IsSoundCache
         (seen s.resident.entries s.resident.cap s.claims.items s.entries.items s.turns)
         (vec_len s.entries) (vec_len s.claims) (vec_capacity s.entries) };
 }

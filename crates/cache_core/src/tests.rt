@@ -3,6 +3,7 @@ ghost use Rattle.std.specs.Prelude.{◌≡◌, ◌+◌, ◌<◌, ◌≤◌, [], 
 
 use crate::{Act, CacheState, Entry, Look, Stands};
 use outside::{FontKey, FontName};
+use std::process::Abort;
 use std::sync::Arc;
 use std::test::Fail;
 
@@ -79,8 +80,12 @@ fn page(rt: &HostRuntime, capacity: usize) -> Result<Vec<Entry>, Fail>
     Ok(state.finish())
 }
 
-fn is_told(entries: &[Entry], expected: &[(char, char)]) -> bool {
-    entries.iter().map(told).eq(expected.iter().copied())
+// The entries are these.
+fn assert_told<R: Abort>(rt: &R, entries: &[Entry], expected: &[(char, char)]) {
+    assert_eq!(rt; entries.len(), expected.len());
+    for (entry, wanted) in entries.iter().zip(expected) {
+        assert_eq!(rt; told(entry), *wanted);
+    }
 }
 
 #[test]
@@ -98,7 +103,7 @@ fn a_cache_of_one_font(rt: HostRuntime) -> Result<(), Fail> {
         ('a', 'c'),
         ('a', 'o'),
     ];
-    assert!(rt; is_told(&entries, &expected));
+    assert_told(&rt, &entries, &expected);
     Ok(())
 }
 
@@ -115,7 +120,7 @@ fn a_cache_of_three_fonts(rt: HostRuntime) -> Result<(), Fail> {
         ('o', 'h'),
         ('a', 'h'),
     ];
-    assert!(rt; is_told(&entries, &expected));
+    assert_told(&rt, &entries, &expected);
     Ok(())
 }
 
@@ -127,6 +132,6 @@ fn a_claim_given_up(rt: HostRuntime) -> Result<(), Fail> {
         state.release(1, &key);
     }
     assert_eq!(rt; state.turns(), 2);
-    assert!(rt; is_told(state.entries(), &[('o', 'c'), ('o', 'r')]));
+    assert_told(&rt, state.entries(), &[('o', 'c'), ('o', 'r')]);
     Ok(())
 }

@@ -2,7 +2,7 @@
 ghost use Rattle.std.specs.Prelude.{◌≡◌, ◌<◌, ◌≤◌, [], ◌^◌};
 
 use crate::font::Blank;
-use crate::pace::{MOST, Pace};
+use crate::pace::{MOST_TURNS, Pace};
 use cache_core::{CacheState, Look};
 use outside::FontKey;
 use std::alloc::Global;
@@ -23,7 +23,7 @@ fn is_hit(state: &mut CacheState<Blank>, key: &Arc<FontKey>) -> bool
     requires free { state.old.claims ≡ [] }
     ensures free { state.new.claims ≡ [] }
 {
-    if state.turns() >= MOST {
+    if state.turns() >= MOST_TURNS {
         return false;
     }
     match state.look(1, key) {
@@ -58,7 +58,7 @@ fn look_ups<R: Wait>(rt: &R, cache: &Mutex<Guarded>, key: &Arc<FontKey>, pace: &
     let mut looks = 0u64;
     let mut x = 1;
     pace.meet();
-    for _i in 0..MOST {
+    for _i in 0..MOST_TURNS {
         if pace.is_over() {
             break;
         }

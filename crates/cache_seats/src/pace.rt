@@ -7,7 +7,7 @@ use std::time::{Clock, Duration, Instant};
 use std::{io, thread};
 
 /// No run makes more look-ups of one seat.
-pub(crate) const MOST: u64 = 1 << 40;
+pub(crate) const MOST_TURNS: u64 = 1 << 40;
 
 /// What the threads of one run share.
 #[derive(Drop)]

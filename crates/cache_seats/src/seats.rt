@@ -4,7 +4,7 @@ ghost use Rattle.cache_core.specs.Histories.{own, open_claim};
 ghost use Rattle.turn_lock.specs.declared.view.Stage.TheVariants.{Idle};
 
 use crate::font::Blank;
-use crate::pace::{MOST, Pace};
+use crate::pace::{MOST_TURNS, Pace};
 use cache_core::Look;
 use font_cache::{CacheSeat, FontCache};
 use outside::FontKey;
@@ -30,7 +30,7 @@ fn look_ups<R: Wait>(
     let mut looks = 0u64;
     let mut x = 1;
     pace.meet();
-    for _i in 0..MOST {
+    for _i in 0..MOST_TURNS {
         if pace.is_over() {
             break;
         }

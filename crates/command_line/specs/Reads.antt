@@ -6,7 +6,7 @@ use Rattle.clap.specs.declared.parser.matches.Found.{Found}
 use Rattle.command_line.specs.Line.{Text, Use, choice_of, choices, is_named, is_used, is_value}
 use Rattle.command_line.specs.Line.{is_within, number_in, number_of, switch}
 use Rattle.command_line.specs.declared.settings.Settings.{Settings}
-use Rattle.command_line.specs.declared.matches.Given.{Given}
+use Rattle.command_line.specs.declared.matches.LineValues.{LineValues}
 
 -- what the matches have at each name
 pub record Reads (us : List Use) (f : Found) : Type 0 where
@@ -19,7 +19,7 @@ pub record Reads (us : List Use) (f : Found) : Type 0 where
       → one_text f name ≡ Some (if is_used name us then codes "true" else codes "false")
 
 -- the numbers and switches of the uses
-abbrev pub given_of : List Use → Given
+abbrev pub given_of : List Use → LineValues
 given_of us = record {
   res = number_of (codes "res") us;
   width = number_of (codes "width") us;
@@ -34,14 +34,14 @@ given_of us = record {
 }
 
 -- each number lies in its range, and there are as many workers as are asked for
-abbrev pub is_allowed : ℕ → Given → Bool
+abbrev pub is_allowed : ℕ → LineValues → Bool
 is_allowed workers g = is_within 1 4800 g.res && (is_within 1 20000 g.width
     && (is_within 1 20000 g.height && (is_within 0 20000 g.left && (is_within 0 20000 g.top
     && (is_within 1 32 g.workers && (is_within 1 256 g.cache && (is_within 1 1000 g.sample
     && true)))))))
     && nat_le (unwrap_or g.workers 1) workers
 
-abbrev pub settings_with : Given → Settings
+abbrev pub settings_with : LineValues → Settings
 settings_with g = let res = unwrap_or g.res 300 in record {
   res = res;
   sheet = record {

@@ -12,7 +12,7 @@ use page_draw::Sheet;
 
 /// The numbers and switches of a line.
 #[derive(Clone, Copy, Debug)]
-pub struct Given {
+pub struct LineValues {
     pub res: Option<u32>,
     pub width: Option<u32>,
     pub height: Option<u32>,
@@ -37,11 +37,11 @@ fn number(matches: &ArgMatches<'_>, name: &str) -> Option<u32>
 }
 
 /// What the matches give at each name.
-pub fn given_in(matches: &ArgMatches<'_>) -> Given
+pub fn given_in(matches: &ArgMatches<'_>) -> LineValues
     requires { (us : List Use) × Reads us (found_of matches.now) }
     ensures { (us : List Use) → Reads us (found_of matches.now) → result ≡ given_of us }
 {
-    Given {
+    LineValues {
         res: number(matches, "res"),
         width: number(matches, "width"),
         height: number(matches, "height"),
@@ -66,7 +66,7 @@ fn within(number: Option<u32>, least: u32, most: u32) -> bool
 
 /// The settings of a line, where each number lies in its range and there are n workers.
 #[tactic(auto, unfolding(crate::specs::Settings::default_settings))]
-pub fn settings(given: &Given, workers: usize) -> Option<Settings>
+pub fn settings(given: &LineValues, workers: usize) -> Option<Settings>
     ensures { result ≡ (if are_allowed workers given.now then Some (settings_with given.now)
         else None) }
 {

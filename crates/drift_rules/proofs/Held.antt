@@ -7,7 +7,7 @@ use Rattle.pixel_round.specs.Pixels.{Fraction, round}
 use Rattle.drift_rules.specs.declared.flat.Registers.{Registers}
 use Rattle.drift_rules.specs.declared.faults.PenFault.{PenFault}
 use Rattle.drift_rules.specs.declared.faults.PenFault.TheVariants.{Overflow}
-use Rattle.drift_rules.specs.Position.{State, AreNear, KeepsNear, drifted, at_h, at_v, entered, is_held, moved_over, over, zeros}
+use Rattle.drift_rules.specs.Position.{State, AreNear, KeepsNear, after_drift, at_h, at_v, on_entry, is_held, moved_over, over, zeros}
 use Rattle.drift_rules.specs.Bounds.{AreHeld, IsHeldState}
 use Rattle.drift_rules.proofs.Near.{near_drifted, zeros_are_near}
 
@@ -82,7 +82,7 @@ pub held_is_near : (c : Fraction) (s : State) → IsHeldState c s → KeepsNear 
 held_is_near c s held = record { now = held.now.near; saved = saved_are_near c s.saved held.saved }
 
 -- the registers as a packet begins
-pub held_entered : (c : Fraction) (r : Registers) → AreHeld c r → AreHeld c (entered r)
+pub held_entered : (c : Fraction) (r : Registers) → AreHeld c r → AreHeld c (on_entry r)
 held_entered c r held = record {
   h = held.h;
   v = held.v;
@@ -100,8 +100,8 @@ held_entered c r held = record {
 near_bounded : (place rounded : ℤ) (m : ℕ) → unsigned_abs (place -ℤ rounded) ≤ 2 → unsigned_abs rounded ≤ 512 * m + 1 → m ≤ 2147483647 → unsigned_abs place < 2 ^ 40
 near_bounded place rounded m near bounded small = grind (arith, ints)
 
-drifted_bounded : (place rounded : ℤ) (m : ℕ) → unsigned_abs rounded ≤ 512 * m + 1 → m ≤ 2147483647 → unsigned_abs (drifted place rounded) < 2 ^ 40
-drifted_bounded place rounded m bounded small = near_bounded (drifted place rounded) rounded m (near_drifted place rounded) bounded small
+drifted_bounded : (place rounded : ℤ) (m : ℕ) → unsigned_abs rounded ≤ 512 * m + 1 → m ≤ 2147483647 → unsigned_abs (after_drift place rounded) < 2 ^ 40
+drifted_bounded place rounded m bounded small = near_bounded (after_drift place rounded) rounded m (near_drifted place rounded) bounded small
 
 pub held_at_h : (c : Fraction) (r : Registers) (h place : ℤ) → AreHeld c r → unsigned_abs h ≤ 2147483647 → unsigned_abs (round c h) ≤ 512 * unsigned_abs h + 1 → AreHeld c (at_h c r h place)
 held_at_h c r h place held small bounded = record {
@@ -133,29 +133,29 @@ held_at_v c r v place held small bounded = record {
 -- rule; and at a new v
 pub at_h_kept : (c : Fraction) (r : Registers) (h column dots hh : ℤ) → AreHeld c r → unsigned_abs h ≤ 2147483647 → unsigned_abs column ≤ 2 ^ 42
     → dots ≡ round c (to_z w64 (of_z w64 h)) → unsigned_abs dots ≤ 512 * unsigned_abs (to_z w64 (of_z w64 h)) + 1
-    → hh ≡ drifted (to_z w64 (of_z w64 column)) (to_z w64 (of_z w64 dots))
+    → hh ≡ after_drift (to_z w64 (of_z w64 column)) (to_z w64 (of_z w64 dots))
     → (read_again (record r { h = h; hh = hh }) ≡ at_h c r h column) × AreHeld c (at_h c r h column)
 at_h_kept c r h column dots hh held small near value bounded drift =
     let place : to_z w64 (of_z w64 h) ≡ h = kept h (omega (arith, small)) in
     let rounded : dots ≡ round c h = rw place at value in
     let within : unsigned_abs dots ≤ 512 * unsigned_abs h + 1 = rw place at bounded in
     let within' : unsigned_abs (round c h) ≤ 512 * unsigned_abs h + 1 = rw (← rounded) within in
-    let drift' : hh ≡ drifted column dots = rw (kept column near, kept dots (omega (arith, within, small))) at drift in
-    let drifted' : hh ≡ drifted column (round c h) = rw rounded at drift' in
+    let drift' : hh ≡ after_drift column dots = rw (kept column near, kept dots (omega (arith, within, small))) at drift in
+    let drifted' : hh ≡ after_drift column (round c h) = rw rounded at drift' in
     let after = held_at_h c r h column held small within' in
     (rw drifted' (registers_kept c (at_h c r h column) after), after)
 
 pub at_v_kept : (c : Fraction) (r : Registers) (v row dots vv : ℤ) → AreHeld c r → unsigned_abs v ≤ 2147483647 → unsigned_abs row ≤ 2 ^ 42
     → dots ≡ round c (to_z w64 (of_z w64 v)) → unsigned_abs dots ≤ 512 * unsigned_abs (to_z w64 (of_z w64 v)) + 1
-    → vv ≡ drifted (to_z w64 (of_z w64 row)) (to_z w64 (of_z w64 dots))
+    → vv ≡ after_drift (to_z w64 (of_z w64 row)) (to_z w64 (of_z w64 dots))
     → (read_again (record r { v = v; vv = vv }) ≡ at_v c r v row) × AreHeld c (at_v c r v row)
 at_v_kept c r v row dots vv held small near value bounded drift =
     let place : to_z w64 (of_z w64 v) ≡ v = kept v (omega (arith, small)) in
     let rounded : dots ≡ round c v = rw place at value in
     let within : unsigned_abs dots ≤ 512 * unsigned_abs v + 1 = rw place at bounded in
     let within' : unsigned_abs (round c v) ≤ 512 * unsigned_abs v + 1 = rw (← rounded) within in
-    let drift' : vv ≡ drifted row dots = rw (kept row near, kept dots (omega (arith, within, small))) at drift in
-    let drifted' : vv ≡ drifted row (round c v) = rw rounded at drift' in
+    let drift' : vv ≡ after_drift row dots = rw (kept row near, kept dots (omega (arith, within, small))) at drift in
+    let drifted' : vv ≡ after_drift row (round c v) = rw rounded at drift' in
     let after = held_at_v c r v row held small within' in
     (rw drifted' (registers_kept c (at_v c r v row) after), after)
 

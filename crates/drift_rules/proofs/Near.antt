@@ -3,11 +3,11 @@ use Rattle.std.proofs.Common.{◌≡◌, ℕ, ◌+◌, ◌*◌, ◌/◌, ◌<◌
 use Rattle.std.specs.List.{AllByRecursion}
 use Rattle.std.proofs.lemmas.Int.{ints}
 use Rattle.pixel_round.specs.Pixels.{Fraction, round}
-use Rattle.drift_rules.specs.Position.{State, IsNear, AreNear, KeepsNear, Step, StepsKeepNear, drifted, at_h, at_v, PagesKeepNear, FlatCommand, at_origin, zeros, Leads, Skip, Char, Rule, Right, W, X, Down, Y, Z, W0, X0, Y0, Z0, Push, Pop, Enter, Leave, Advance, restoring}
+use Rattle.drift_rules.specs.Position.{State, IsNear, AreNear, KeepsNear, Step, StepsKeepNear, after_drift, at_h, at_v, PagesKeepNear, FlatCommand, at_origin, zeros, Leads, Skip, Char, Rule, Right, W, X, Down, Y, Z, W0, X0, Y0, Z0, Push, Pop, Enter, Leave, Advance, restoring}
 use Rattle.drift_rules.specs.declared.flat.Registers.{Registers}
 use Rattle.drift_rules.specs.declared.faults.PenFault.TheVariants.{Overflow, StackDeep}
 
-pub near_drifted : (place rounded : ℤ) → IsNear (drifted place rounded) rounded
+pub near_drifted : (place rounded : ℤ) → IsNear (after_drift place rounded) rounded
 near_drifted place rounded = grind (arith, ints)
 
 -- what was answered after a test

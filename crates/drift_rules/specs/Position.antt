@@ -64,8 +64,8 @@ abbrev pub is_held : ℤ → Bool
 is_held z = nat_le (unsigned_abs z) 2147483647
 
 -- the drift rule: the pixel place, brought within 2 of the rounded one
-abbrev pub drifted : ℤ → ℤ → ℤ
-drifted place rounded =
+abbrev pub after_drift : ℤ → ℤ → ℤ
+after_drift place rounded =
     if int_lt (rounded +ℤ pos 2) place then rounded +ℤ pos 2
     else if int_lt place (rounded -ℤ pos 2) then rounded -ℤ pos 2
     else place
@@ -80,10 +80,10 @@ is_line_space p space = int_le (pos 5 *ℤ space) (pos (unsigned_abs p))
 
 -- to a new h, with the pixel place before the drift rule; and to a new v
 abbrev pub at_h : Fraction → Registers → ℤ → ℤ → Registers
-at_h c r h place = record r { h = h; hh = drifted place (round c h) }
+at_h c r h place = record r { h = h; hh = after_drift place (round c h) }
 
 abbrev pub at_v : Fraction → Registers → ℤ → ℤ → Registers
-at_v c r v place = record r { v = v; vv = drifted place (round c v) }
+at_v c r v place = record r { v = v; vv = after_drift place (round c v) }
 
 -- right by p, where the pixel place moves by the rounded motion or is rounded anew; the registers
 -- take `r` for what they were, so that a motion that also sets w or x has set it
@@ -124,8 +124,8 @@ saving s next =
     else Ok (record { now = next; saved = s.now ∷ s.saved })
 
 -- the registers as a packet begins: where they were, with no motion remembered
-abbrev pub entered : Registers → Registers
-entered r = record r { w = pos 0; x = pos 0; y = pos 0; z = pos 0 }
+abbrev pub on_entry : Registers → Registers
+on_entry r = record r { w = pos 0; x = pos 0; y = pos 0; z = pos 0 }
 
 -- all eight registers become those that were saved last, which are saved no longer; nothing is
 -- rounded
@@ -152,7 +152,7 @@ after c s (Y0 space) = down_by c s s.now s.now.y space
 after c s (Z0 space) = down_by c s s.now s.now.z space
 after c s Push = saving s s.now
 after c s Pop = restoring s.saved
-after c s Enter = saving s (entered s.now)
+after c s Enter = saving s (on_entry s.now)
 after c s Leave = restoring s.saved
 after c s (Advance width) = over c s width (round c width)
 

@@ -9,7 +9,8 @@ use Rattle.drift_rules.specs.declared.flat.Registers.{Registers}
 use Rattle.drift_rules.specs.declared.faults.PenFault.TheVariants.{StackEmpty, StackDeep}
 use Rattle.drift_rules.specs.Position.{FlatCommand, Leads, Step, MAX_SAVED, State, after, at_origin, Char, Push, Pop, Enter, Leave, Advance}
 
--- ---- commands that save and restore: a push and a pop by themselves, or those of a packet's beginning and end
+-- ---- commands that save and restore: a push and a pop by themselves, or those of a packet's
+-- beginning and end
 
 abbrev pub is_push : FlatCommand → Bool
 is_push Push = true

@@ -3,7 +3,7 @@
 ghost use Rattle.std.specs.Prelude.{◌≡◌, ◌≤◌, ◌^◌, ◌+ℤ◌, unsigned_abs, false, if◌then◌else◌, List, Ok, Err, IfOk, IfErr, IsTrue};
 ghost use Rattle.pixel_round.specs.Pixels.{round};
 ghost use Rattle.drift_rules.specs.declared.faults.PenFault.{PenFault};
-ghost use Rattle.drift_rules.specs.Position.{State, after, at_h, at_v, drifted, is_held, is_word_space, is_line_space, moved_right, moved_down, moved_over, seen_flat};
+ghost use Rattle.drift_rules.specs.Position.{State, after, at_h, at_v, after_drift, is_held, is_word_space, is_line_space, moved_right, moved_down, moved_over, seen_flat};
 ghost use Rattle.drift_rules.specs.Stack.{is_pop, is_push};
 ghost use Rattle.drift_rules.specs.Bounds.{AreHeld, IsInReach, IsNumber, IsSpace};
 
@@ -69,7 +69,8 @@ fn right(conv: &Conv, now: Registers, by: i64, space: i64) -> Result<Registers, 
     requires space { IsSpace space }
     ensures moved { IfOk result (λ r. IsTrue (is_held (now.h +ℤ by)) ×
         (r ≡ moved_right conv.now now by space)) }
-    ensures overflow { IfErr result (λ e. (is_held (now.h +ℤ by) ≡ false) × (e ≡ PenFault.Overflow)) }
+    ensures overflow { IfErr result (λ e. (is_held (now.h +ℤ by) ≡ false)
+        × (e ≡ PenFault.Overflow)) }
     ensures held { IfOk result (AreHeld conv.now) }
 {
     let h = now.h + by;
@@ -87,7 +88,8 @@ fn down(conv: &Conv, now: Registers, by: i64, space: i64) -> Result<Registers, P
     requires space { IsSpace space }
     ensures moved { IfOk result (λ r. IsTrue (is_held (now.v +ℤ by)) ×
         (r ≡ moved_down conv.now now by space)) }
-    ensures overflow { IfErr result (λ e. (is_held (now.v +ℤ by) ≡ false) × (e ≡ PenFault.Overflow)) }
+    ensures overflow { IfErr result (λ e. (is_held (now.v +ℤ by) ≡ false)
+        × (e ≡ PenFault.Overflow)) }
     ensures held { IfOk result (AreHeld conv.now) }
 {
     let v = now.v + by;
@@ -223,7 +225,7 @@ fn at_row(conv: &Conv, now: Registers, v: i64, row: i64) -> Registers
 fn drift(place: i64, rounded: i64) -> i64
     requires place { unsigned_abs place ≤ 2 ^ 42 }
     requires rounded { unsigned_abs rounded ≤ 2 ^ 42 }
-    ensures { result ≡ drifted place rounded }
+    ensures { result ≡ after_drift place rounded }
 {
     if place > rounded + MAX_DRIFT {
         rounded + MAX_DRIFT

@@ -2,7 +2,7 @@
 
 ghost use Rattle.std.specs.Prelude.{◌≡◌, ◌⊎◌, ◌↔◌, ◌≤◌, [], ◌∷◌, length, Err, IfOk, IfErr, OnErr, IfSome, IsNone, IsTrue};
 ghost use Rattle.drift_rules.specs.declared.faults.PenFault.{PenFault};
-ghost use Rattle.drift_rules.specs.Position.{MAX_SAVED};
+ghost use Rattle.drift_rules.specs.Position.{MAX_SAVED as THE_MAX_SAVED};
 
 use crate::faults::{PenFault, PenStop};
 use crate::flat::Registers;
@@ -10,7 +10,7 @@ use std::alloc::Global;
 use std::marker::Model;
 
 // How many sets of registers may be saved.
-const MAX_DEPTH: usize = 1000;
+const MAX_SAVED: usize = 1000;
 
 /// A stack of registers.
 #[derive(Debug, Drop)]
@@ -40,12 +40,12 @@ impl Saved {
     pub(crate) fn push(&mut self, registers: Registers) -> Result<(), PenStop>
         ensures saved { IfOk result (λ _. self.new ≡ registers ∷ self.old) }
         ensures deep { (result ≡ Err (PenStop.Fault PenFault.StackDeep))
-            ↔ (MAX_SAVED ≤ length self.old) }
+            ↔ (THE_MAX_SAVED ≤ length self.old) }
         ensures only { IfErr result (λ stop. (stop ≡ PenStop.Fault PenFault.StackDeep) ⊎
             (stop ≡ PenStop.NoMemory)) }
         ensures unchanged { OnErr result (self.new ≡ self.old) }
     {
-        if self.sets.len() >= MAX_DEPTH {
+        if self.sets.len() >= MAX_SAVED {
             return Err(PenStop::Fault(PenFault::StackDeep));
         }
         match self.sets.push(registers) {

@@ -5,7 +5,7 @@ use Rattle.std.specs.List.{AllByRecursion}
 use Rattle.std.proofs.lemmas.Bool.{cases_lt}
 use Rattle.big_endian.specs.Numbers.{AreBytes, IsSigned, number_bytes, signed_of, unsigned_of}
 use Rattle.big_endian.proofs.Bytes.{signed_is_written_again, unsigned_is_written_again}
-use Rattle.dvi_commands.specs.Spelling.{IsNumber, quad}
+use Rattle.dvi_commands.specs.Spelling.{IsOperand, quad}
 use Rattle.dvi_commands.specs.Reading.{signed_from}
 use Rattle.dvi_commands.proofs.Motions.{AreQuadsFrom}
 
@@ -47,7 +47,7 @@ numbers_are (suc n) i fields few room =
     ((first.0, more.0), (first.1, more.1))
 
 -- the number of a character or a font
-pub code_of : (fields : List ℕ) → AreBytes fields → 1 ≤ length fields → length fields ≤ 4 → (z : ℤ) × IsNumber (length fields) z × (number_bytes (length fields) z ≡ fields)
+pub code_of : (fields : List ℕ) → AreBytes fields → 1 ≤ length fields → length fields ≤ 4 → (z : ℤ) × IsOperand (length fields) z × (number_bytes (length fields) z ≡ fields)
 code_of fields few low high = elim (cases_lt 3 (length fields)) [
   | inl four ↦
       let long : length fields ≡ 4 = omega arith in

@@ -4,7 +4,7 @@ use Rattle.std.specs.Prelude.{◌==◌}
 use Rattle.std.proofs.lemmas.Bool.{agree_below_at, eqb-true}
 use Rattle.std.proofs.lemmas.List.{append-nil}
 use Rattle.big_endian.specs.Numbers.{number_bytes}
-use Rattle.dvi_commands.specs.Spelling.{Set, Put, Font, IsNumber, Spells, with_number}
+use Rattle.dvi_commands.specs.Spelling.{Set, Put, Font, IsOperand, Spells, with_number}
 use Rattle.dvi_commands.specs.Refusal.{fixed_size, text_size}
 use Rattle.dvi_commands.proofs.Motions.{nothing}
 use Rattle.dvi_commands.proofs.Opcodes.{IsRow, no_text, row_size}
@@ -43,25 +43,25 @@ numbered before op fields text z w row top low high whole after same written =
     let bytes : fields ++ text ≡ number_bytes (length fields) w = ap (λ t. fields ++ t) none ∙ append-nil fields ∙ sym written ∙ ap (number_bytes (length fields)) (sym same) in
     ap (λ o. o ∷ (fields ++ text)) opcode ∙ ap (λ t. (before + length fields) ∷ t) bytes
 
-set_with : (n : ℕ) (w : ℤ) (bytes : List ℕ) → IsNumber n w → bytes ≡ with_number 127 n w → Spells (Set w) bytes
+set_with : (n : ℕ) (w : ℤ) (bytes : List ℕ) → IsOperand n w → bytes ≡ with_number 127 n w → Spells (Set w) bytes
 set_with zero w bytes h e = let some = (wide zero w h).0 in absurd (omega arith)
 set_with (suc n) w bytes h e = (suc n, h, e)
 
-font_with : (n : ℕ) (w : ℤ) (bytes : List ℕ) → IsNumber n w → bytes ≡ with_number 234 n w → Spells (Font w) bytes
+font_with : (n : ℕ) (w : ℤ) (bytes : List ℕ) → IsOperand n w → bytes ≡ with_number 234 n w → Spells (Font w) bytes
 font_with zero w bytes h e = let some = (wide zero w h).0 in absurd (omega arith)
 font_with (suc n) w bytes h e = (suc n, h, e)
 
 pub set : (op : ℕ) (fields text : List ℕ) (z w : ℤ) → 127 < op → op ≤ 131 → length fields ≡ fixed_size op → length text ≡ text_size op fields
-    → w ≡ z → IsNumber (length fields) z → number_bytes (length fields) z ≡ fields → Spells (Set w) (op ∷ (fields ++ text))
+    → w ≡ z → IsOperand (length fields) z → number_bytes (length fields) z ≡ fields → Spells (Set w) (op ∷ (fields ++ text))
 set op fields text z w low high whole after same fits written =
-    set_with (length fields) w _ (subst (IsNumber (length fields)) (sym same) fits) (numbered 127 op fields text z w refl (omega arith) low high whole after same written)
+    set_with (length fields) w _ (subst (IsOperand (length fields)) (sym same) fits) (numbered 127 op fields text z w refl (omega arith) low high whole after same written)
 
 pub put : (op : ℕ) (fields text : List ℕ) (z w : ℤ) → 132 < op → op ≤ 136 → length fields ≡ fixed_size op → length text ≡ text_size op fields
-    → w ≡ z → IsNumber (length fields) z → number_bytes (length fields) z ≡ fields → Spells (Put w) (op ∷ (fields ++ text))
+    → w ≡ z → IsOperand (length fields) z → number_bytes (length fields) z ≡ fields → Spells (Put w) (op ∷ (fields ++ text))
 put op fields text z w low high whole after same fits written =
-    (length fields, subst (IsNumber (length fields)) (sym same) fits, numbered 132 op fields text z w refl (omega arith) low high whole after same written)
+    (length fields, subst (IsOperand (length fields)) (sym same) fits, numbered 132 op fields text z w refl (omega arith) low high whole after same written)
 
 pub font : (op : ℕ) (fields text : List ℕ) (z w : ℤ) → 234 < op → op ≤ 238 → length fields ≡ fixed_size op → length text ≡ text_size op fields
-    → w ≡ z → IsNumber (length fields) z → number_bytes (length fields) z ≡ fields → Spells (Font w) (op ∷ (fields ++ text))
+    → w ≡ z → IsOperand (length fields) z → number_bytes (length fields) z ≡ fields → Spells (Font w) (op ∷ (fields ++ text))
 font op fields text z w low high whole after same fits written =
-    font_with (length fields) w _ (subst (IsNumber (length fields)) (sym same) fits) (numbered 234 op fields text z w refl (omega arith) low high whole after same written)
+    font_with (length fields) w _ (subst (IsOperand (length fields)) (sym same) fits) (numbered 234 op fields text z w refl (omega arith) low high whole after same written)

@@ -7,7 +7,7 @@ use Rattle.std.proofs.lemmas.Bool.{eqb-true, le-ltb, lt-ltb, agree_below_at}
 use Rattle.std.proofs.lemmas.List.{append-nil, take_at, drop_at, length-append}
 use Rattle.std.proofs.lemmas.List.Concat.{flat_map-cons}
 use Rattle.big_endian.specs.Numbers.{number_bytes, unsigned_of, in_twos_complement}
-use Rattle.dvi_commands.specs.Spelling.{DviCommand, Definition, Set, Put, SetRule, PutRule, Nop, Bop, Eop, Push, Pop, Right, W0, W, X0, X, Down, Y0, Y, Z0, Z, Font, Special, Define, Pre, Post, PostPost, spelling, HasWidth, IsNumber, Spells, quad}
+use Rattle.dvi_commands.specs.Spelling.{DviCommand, Definition, Set, Put, SetRule, PutRule, Nop, Bop, Eop, Push, Pop, Right, W0, W, X0, X, Down, Y0, Y, Z0, Z, Font, Special, Define, Pre, Post, PostPost, spelling, HasWidth, IsOperand, Spells, quad}
 use Rattle.dvi_commands.specs.Refusal.{told_length, size_of, fixed_size, text_size}
 use Rattle.dvi_commands.specs.SpellingLaws.{NoSpellingBeginsAnother, NoSpellingIsAProperPrefix}
 
@@ -19,7 +19,7 @@ by_width P p1 p2 p3 p4 (suc (suc (suc zero))) low high = p3
 by_width P p1 p2 p3 p4 (suc (suc (suc (suc zero)))) low high = p4
 by_width P p1 p2 p3 p4 (suc (suc (suc (suc (suc n))))) low high = absurd (omega arith)
 
-pub wide : (n : ℕ) (z : ℤ) → IsNumber n z → (1 ≤ n) × (n ≤ 4)
+pub wide : (n : ℕ) (z : ℤ) → IsOperand n z → (1 ≤ n) × (n ≤ 4)
 wide n z (inl h) = (h.0, omega (arith, h.1))
 wide n z (inr h) = (omega (arith, h.0), omega (arith, h.0))
 
@@ -44,7 +44,7 @@ small_font m t h =
     no_fields (171 + m) t (agree_below_at (λ k. fixed_size (171 + k) == 0) (λ _. true) 64 m refl lt) (agree_below_at (λ k. is_in_range 239 242 (171 + k)) (λ _. false) 64 m refl lt)
     (agree_below_at (λ k. is_in_range 243 246 (171 + k)) (λ _. false) 64 m refl lt) (agree_below_at (λ k. (171 + k) == 247) (λ _. false) 64 m refl lt)
 
-number_sized : (c : DviCommand) (t : List ℕ) (n : ℕ) (z : ℤ) → IsNumber n z → Sized c t 1 → Sized c t 2 → Sized c t 3 → Sized c t 4 → Sized c t n
+number_sized : (c : DviCommand) (t : List ℕ) (n : ℕ) (z : ℤ) → IsOperand n z → Sized c t 1 → Sized c t 2 → Sized c t 3 → Sized c t 4 → Sized c t n
 number_sized c t n z h p1 p2 p3 p4 = let w = wide n z h in by_width (Sized c t) p1 p2 p3 p4 n w.0 w.1
 
 pub length-quads : (zs : List ℤ) → length (flat_map quad zs) ≡ 4 * length zs
@@ -92,7 +92,7 @@ special_4 text t h =
     let told : told_length 242 (number_bytes 4 (pos (length text)) ++ text ++ t) ≡ pos (length text) = ap (in_twos_complement 4) (four_bytes (length text) fits) ∙ signed_four (length text) h in
     ap (λ (k : ℕ). 1 + fixed_size 242 + k) (told_text 242 (length text) (number_bytes 4 (pos (length text)) ++ text ++ t) refl told) ∙ omega arith
 
-special_sized : (text t : List ℕ) (n : ℕ) → IsNumber n (pos (length text)) → Sized (Special text) t n
+special_sized : (text t : List ℕ) (n : ℕ) → IsOperand n (pos (length text)) → Sized (Special text) t n
 special_sized text t n (inr h) = subst (λ (k : ℕ). Sized (Special text) t k) (sym h.0) (special_4 text t h.1)
 special_sized text t zero (inl h) = absurd (omega (arith, h.0))
 special_sized text t (suc zero) (inl h) = special_1 text t h.2

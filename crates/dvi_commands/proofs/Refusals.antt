@@ -4,7 +4,7 @@ use Rattle.std.specs.Prelude.{◌==◌, int_lt, nat_lt, slice_index, None, IsTru
 use Rattle.std.proofs.lemmas.Bool.{le-ltb, ne_eqb}
 use Rattle.std.proofs.lemmas.List.{length-append}
 use Rattle.big_endian.specs.Numbers.{number_bytes, in_twos_complement}
-use Rattle.dvi_commands.specs.Spelling.{DviCommand, Set, Put, SetRule, PutRule, Nop, Bop, Eop, Push, Pop, Right, W0, W, X0, X, Down, Y0, Y, Z0, Z, Font, Special, Define, Pre, Post, PostPost, spelling, HasWidth, IsNumber, Spells}
+use Rattle.dvi_commands.specs.Spelling.{DviCommand, Set, Put, SetRule, PutRule, Nop, Bop, Eop, Push, Pop, Right, W0, W, X0, X, Down, Y0, Y, Z0, Z, Font, Special, Define, Pre, Post, PostPost, spelling, HasWidth, IsOperand, Spells}
 use Rattle.dvi_commands.specs.Refusal.{tells_negative_length, size_of, fixed_size, text_size, told_length, may_stand, refusal}
 use Rattle.dvi_commands.specs.SpellingLaws.{SpelledIsNotRefused}
 use Rattle.dvi_commands.specs.declared.command.Context.{Context}
@@ -21,14 +21,14 @@ small_calm m t h =
     let other : (m == 242) ≡ false = ne_eqb m 242 (λ e. omega (arith, e, h)) in
     (le-ltb 249 m (omega (arith, h)), rw other refl)
 
-calm_set : (c : ℤ) (n : ℕ) (t : List ℕ) → IsNumber (suc n) c → Calm (spelling (Set c) (suc n) ++ t)
+calm_set : (c : ℤ) (n : ℕ) (t : List ℕ) → IsOperand (suc n) c → Calm (spelling (Set c) (suc n) ++ t)
 calm_set c zero t h = (refl, refl)
 calm_set c (suc zero) t h = (refl, refl)
 calm_set c (suc (suc zero)) t h = (refl, refl)
 calm_set c (suc (suc (suc zero))) t h = (refl, refl)
 calm_set c (suc (suc (suc (suc n)))) t h = let w = wide (suc (suc (suc (suc (suc n))))) c h in absurd (omega (arith, w.1))
 
-calm_font : (c : ℤ) (n : ℕ) (t : List ℕ) → IsNumber (suc n) c → Calm (spelling (Font c) (suc n) ++ t)
+calm_font : (c : ℤ) (n : ℕ) (t : List ℕ) → IsOperand (suc n) c → Calm (spelling (Font c) (suc n) ++ t)
 calm_font c zero t h = (refl, refl)
 calm_font c (suc zero) t h = (refl, refl)
 calm_font c (suc (suc zero)) t h = (refl, refl)
@@ -42,7 +42,7 @@ calm_four text t h =
     let low : int_lt (pos (length text)) (pos 0) ≡ false = le-ltb (length text) 0 (omega arith) in
     (refl, ap (λ (z : ℤ). int_lt z (pos 0)) told ∙ low)
 
-calm_special : (text t : List ℕ) (n : ℕ) → IsNumber n (pos (length text)) → Calm (spelling (Special text) n ++ t)
+calm_special : (text t : List ℕ) (n : ℕ) → IsOperand n (pos (length text)) → Calm (spelling (Special text) n ++ t)
 calm_special text t n (inr h) = subst (λ (k : ℕ). Calm (spelling (Special text) k ++ t)) (sym h.0) (calm_four text t h.1)
 calm_special text t zero (inl h) = absurd (omega (arith, h.0))
 calm_special text t (suc zero) (inl h) = (refl, refl)

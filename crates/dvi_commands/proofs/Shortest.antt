@@ -3,7 +3,7 @@ use Rattle.std.proofs.Common.{◌≡◌, ℕ, zero, suc, ◌+◌, ◌*◌, ◌^�
 use Rattle.std.proofs.lemmas.Bool.{cond_both, ltb-true, ltb-false, leb-true, leb-false}
 use Rattle.std.proofs.lemmas.List.{length-append}
 use Rattle.big_endian.specs.Numbers.{number_bytes}
-use Rattle.dvi_commands.specs.Spelling.{DviCommand, Definition, Set, Put, SetRule, PutRule, Nop, Bop, Eop, Push, Pop, Right, W0, W, X0, X, Down, Y0, Y, Z0, Z, Font, Special, Define, Pre, Post, PostPost, spelling, HasWidth, IsNumber, IsMotion}
+use Rattle.dvi_commands.specs.Spelling.{DviCommand, Definition, Set, Put, SetRule, PutRule, Nop, Bop, Eop, Push, Pop, Right, W0, W, X0, X, Down, Y0, Y, Z0, Z, Font, Special, Define, Pre, Post, PostPost, spelling, HasWidth, IsOperand, IsMotion}
 use Rattle.dvi_commands.specs.ShortestSpelling.{shortest_spelling, least_width, number_width, motion_width, motion_width_of}
 use Rattle.dvi_commands.specs.SpellingLaws.{ShortestIsLeast}
 use Rattle.dvi_commands.proofs.Prefix.{by_width, wide}
@@ -12,22 +12,22 @@ use Rattle.big_endian.proofs.Bytes.{length-number_bytes}
 -- ---- widths
 
 abbrev LeastNumber : ℤ → ℕ → ℕ → Type 0
-LeastNumber z n k = IsNumber k z × (k ≤ n)
+LeastNumber z n k = IsOperand k z × (k ≤ n)
 
-above : (m n : ℕ) → IsNumber n (pos m) → (m < 256 ^ 1 → ⊥) → 2 ≤ n
+above : (m n : ℕ) → IsOperand n (pos m) → (m < 256 ^ 1 → ⊥) → 2 ≤ n
 above m n (inr h) big = omega (arith, h.0)
 above m zero (inl h) big = absurd (omega (arith, h.0))
 above m (suc zero) (inl h) big = absurd (big h.2)
 above m (suc (suc n)) (inl h) big = omega arith
 
-above_2 : (m n : ℕ) → IsNumber n (pos m) → (m < 256 ^ 1 → ⊥) → (m < 256 ^ 2 → ⊥) → 3 ≤ n
+above_2 : (m n : ℕ) → IsOperand n (pos m) → (m < 256 ^ 1 → ⊥) → (m < 256 ^ 2 → ⊥) → 3 ≤ n
 above_2 m n (inr h) b1 b2 = omega (arith, h.0)
 above_2 m zero (inl h) b1 b2 = absurd (omega (arith, h.0))
 above_2 m (suc zero) (inl h) b1 b2 = absurd (b1 h.2)
 above_2 m (suc (suc zero)) (inl h) b1 b2 = absurd (b2 h.2)
 above_2 m (suc (suc (suc n))) (inl h) b1 b2 = omega arith
 
-above_3 : (m n : ℕ) → IsNumber n (pos m) → (m < 256 ^ 1 → ⊥) → (m < 256 ^ 2 → ⊥) → (m < 256 ^ 3 → ⊥) → LeastNumber (pos m) n 4
+above_3 : (m n : ℕ) → IsOperand n (pos m) → (m < 256 ^ 1 → ⊥) → (m < 256 ^ 2 → ⊥) → (m < 256 ^ 3 → ⊥) → LeastNumber (pos m) n 4
 above_3 m n (inr h) b1 b2 b3 = (inr (refl, h.1), omega (arith, h.0))
 above_3 m zero (inl h) b1 b2 b3 = absurd (omega (arith, h.0))
 above_3 m (suc zero) (inl h) b1 b2 b3 = absurd (b1 h.2)
@@ -38,7 +38,7 @@ above_3 m (suc (suc (suc (suc n)))) (inl h) b1 b2 b3 = absurd (omega (arith, h.1
 fails : (m k : ℕ) → ltb m k ≡ false → m < k → ⊥
 fails m k e lt = let le = ltb-false m k e in omega (arith, le, lt)
 
-number_least : (z : ℤ) (n : ℕ) → IsNumber n z → LeastNumber z n (number_width z)
+number_least : (z : ℤ) (n : ℕ) → IsOperand n z → LeastNumber z n (number_width z)
 number_least (pos m) n h =
     cond_both (ltb m (256 ^ 1)) 1 _ (LeastNumber (pos m) n) (λ e. (inl (omega arith, omega arith, ltb-true _ _ e), (wide n (pos m) h).0)) (λ e1.
     cond_both (ltb m (256 ^ 2)) 2 _ (LeastNumber (pos m) n) (λ e. (inl (omega arith, omega arith, ltb-true _ _ e), above m n h (fails m _ e1))) (λ e2.
@@ -85,13 +85,13 @@ motion_least (negsuc m) n h = let l = motion_least_of m n h.0 h.1 h.2 in ((l.0, 
 abbrev Best : DviCommand → ℕ → Type 0
 Best c n = HasWidth c (least_width c) × (length (spelling c (least_width c)) ≤ length (spelling c n))
 
-len : (n : ℕ) (z : ℤ) → IsNumber n z → length (number_bytes n z) ≡ n
+len : (n : ℕ) (z : ℤ) → IsOperand n z → length (number_bytes n z) ≡ n
 len n z h = let w = wide n z h in length-number_bytes n z w.0 w.1
 
 motion_len : (n : ℕ) (z : ℤ) → IsMotion n z → length (number_bytes n z) ≡ n
 motion_len n z h = length-number_bytes n z h.0 h.1
 
-set_has : (k : ℕ) (z : ℤ) → IsNumber k z → HasWidth (Set z) k × (length (spelling (Set z) k) ≡ suc k)
+set_has : (k : ℕ) (z : ℤ) → IsOperand k z → HasWidth (Set z) k × (length (spelling (Set z) k) ≡ suc k)
 set_has zero z h = let w = wide zero z h in absurd (omega (arith, w.0))
 set_has (suc k) z h = (h, ap suc (len (suc k) z h))
 
@@ -99,7 +99,7 @@ set_some : (m n : ℕ) → HasWidth (Set (pos m)) n → 1 ≤ length (spelling (
 set_some m zero h = omega arith
 set_some m (suc n) h = omega arith
 
-set_number : (m n : ℕ) → leb m 127 ≡ false → HasWidth (Set (pos m)) n → IsNumber n (pos m)
+set_number : (m n : ℕ) → leb m 127 ≡ false → HasWidth (Set (pos m)) n → IsOperand n (pos m)
 set_number m zero e h = let big = leb-false m 127 e in absurd (omega (arith, big, h))
 set_number m (suc n) e h = h
 
@@ -119,7 +119,7 @@ set_best (negsuc m) (suc n) (inr h) =
     let given = set_has (suc n) (negsuc m) (inr h) in
     (has.0, omega (arith, has.1, given.1, h.0))
 
-font_has : (k : ℕ) (z : ℤ) → IsNumber k z → HasWidth (Font z) k × (length (spelling (Font z) k) ≡ suc k)
+font_has : (k : ℕ) (z : ℤ) → IsOperand k z → HasWidth (Font z) k × (length (spelling (Font z) k) ≡ suc k)
 font_has zero z h = let w = wide zero z h in absurd (omega (arith, w.0))
 font_has (suc k) z h = (h, ap suc (len (suc k) z h))
 
@@ -127,7 +127,7 @@ font_some : (m n : ℕ) → HasWidth (Font (pos m)) n → 1 ≤ length (spelling
 font_some m zero h = omega arith
 font_some m (suc n) h = omega arith
 
-font_number : (m n : ℕ) → leb m 63 ≡ false → HasWidth (Font (pos m)) n → IsNumber n (pos m)
+font_number : (m n : ℕ) → leb m 63 ≡ false → HasWidth (Font (pos m)) n → IsOperand n (pos m)
 font_number m zero e h = let big = leb-false m 63 e in absurd (omega (arith, big, h))
 font_number m (suc n) e h = h
 
@@ -147,12 +147,12 @@ font_best (negsuc m) (suc n) (inr h) =
     let given = font_has (suc n) (negsuc m) (inr h) in
     (has.0, omega (arith, has.1, given.1, h.0))
 
-define_size : (d : Definition) (n : ℕ) → IsNumber n d.number → length (spelling (Define d) n) ≡ 15 + n + length d.name
+define_size : (d : Definition) (n : ℕ) → IsOperand n d.number → length (spelling (Define d) n) ≡ 15 + n + length d.name
 define_size d n h =
     let w = wide n d.number h in
     by_width (λ k. length (spelling (Define d) k) ≡ 15 + k + length d.name) (omega arith) (omega arith) (omega arith) (omega arith) n w.0 w.1
 
-define_length : (d : Definition) (n k : ℕ) → IsNumber n d.number → IsNumber k d.number → k ≤ n → length (spelling (Define d) k) ≤ length (spelling (Define d) n)
+define_length : (d : Definition) (n k : ℕ) → IsOperand n d.number → IsOperand k d.number → k ≤ n → length (spelling (Define d) k) ≤ length (spelling (Define d) n)
 define_length d n k hn hk le = omega (arith, define_size d n hn, define_size d k hk, le)
 
 best : (c : DviCommand) (n : ℕ) → HasWidth c n → Best c n

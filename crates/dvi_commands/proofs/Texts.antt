@@ -5,7 +5,7 @@ use Rattle.std.specs.List.{flat_map}
 use Rattle.std.proofs.lemmas.List.{get_or-drop, take_all, take-append-drop}
 use Rattle.big_endian.specs.Numbers.{unsigned_of, signed_of, number_bytes, AreBytes, IsSigned}
 use Rattle.big_endian.proofs.Bytes.{signed_is_written_again, unsigned_is_written_again}
-use Rattle.dvi_commands.specs.Spelling.{Define, Special, IsNumber, Spells, quad}
+use Rattle.dvi_commands.specs.Spelling.{Define, Special, IsOperand, Spells, quad}
 use Rattle.dvi_commands.specs.Refusal.{fixed_size, tells_negative_length, text_size, told_length}
 use Rattle.dvi_commands.proofs.Motions.{AreQuadsFrom, ends, joined}
 use Rattle.dvi_commands.proofs.Prefix.{by_width, told_text}
@@ -18,10 +18,10 @@ are_bytes (b ∷ bytes) h = (h 0, are_bytes bytes (λ k. h (suc k)))
 
 abbrev SpecialIs : ℕ → List ℕ → List ℕ → Type 0
 SpecialIs n fields text = length fields ≡ n → length text ≡ text_size (238 + n) fields → tells_negative_length (238 + n) fields ≡ false → AreBytes fields
-    → IsNumber n (pos (length text)) × (number_bytes n (pos (length text)) ≡ fields)
+    → IsOperand n (pos (length text)) × (number_bytes n (pos (length text)) ≡ fields)
 
 -- a length of up to three bytes, which is unsigned
-unsigned_length : (n : ℕ) (fields text : List ℕ) → 1 ≤ n → n ≤ 3 → length fields ≡ n → AreBytes fields → length text ≡ unsigned_of fields → IsNumber n (pos (length text)) × (number_bytes n (pos (length text)) ≡ fields)
+unsigned_length : (n : ℕ) (fields text : List ℕ) → 1 ≤ n → n ≤ 3 → length fields ≡ n → AreBytes fields → length text ≡ unsigned_of fields → IsOperand n (pos (length text)) × (number_bytes n (pos (length text)) ≡ fields)
 unsigned_length n fields text low high whole bytes size =
     let again = unsigned_is_written_again fields bytes (omega (arith, whole, low)) (omega (arith, whole, high)) in
     let fits : unsigned_of fields < 256 ^ n = subst (λ k. unsigned_of fields < 256 ^ k) whole again.1 in
@@ -33,7 +33,7 @@ short_length n fields whole = ap unsigned_of (take_all n fields (omega (arith, w
 
 -- a length of four bytes, which is signed and not negative
 signed_length : (z : ℤ) (fields text : List ℕ) → signed_of fields ≡ z → int_lt z (pos 0) ≡ false → length fields ≡ 4 → AreBytes fields → length text ≡ text_size 242 fields
-    → IsNumber 4 (pos (length text)) × (number_bytes 4 (pos (length text)) ≡ fields)
+    → IsOperand 4 (pos (length text)) × (number_bytes 4 (pos (length text)) ≡ fields)
 signed_length (negsuc m) fields text is not_negative whole bytes size = cc
 signed_length (pos m) fields text is not_negative whole bytes size =
     let told : told_length 242 fields ≡ pos m = ap signed_of (take_all 4 fields (omega (arith, whole))) ∙ is in
@@ -95,7 +95,7 @@ regroup a b c d e = simp append_assoc
 pub definition : (fields name number others : List ℕ) (w size design : ℤ) (check : ℕ) → 15 ≤ length fields
     → length name ≡ slice_index fields (length fields - 2) + slice_index fields (length fields - 1)
     → number ≡ take (length fields - 14) fields → others ≡ drop (length fields - 14) fields
-    → IsNumber (length number) w → number_bytes (length number) w ≡ number
+    → IsOperand (length number) w → number_bytes (length number) w ≡ number
     → check < 256 ^ length (take 4 others) → number_bytes (length (take 4 others)) (pos check) ≡ take 4 others → IsSigned 4 size → IsSigned 4 design → quad size ≡ take 4 (drop 4 others) → quad design ≡ take 4 (drop 8 others)
     → ((k : ℕ) → slice_index fields k < 256)
     → Spells (Define (record { number = w; check = check; size = size; design = design; area = slice_index others 12; name = name })) ((228 + length fields) ∷ (fields ++ name))

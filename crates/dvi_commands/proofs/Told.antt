@@ -6,7 +6,7 @@ use Rattle.std.proofs.lemmas.Bool.{le-leb, lt-leb}
 use Rattle.std.proofs.lemmas.List.{drop_at}
 use Rattle.std.proofs.lemmas.List.Concat.{flat_map-cons}
 use Rattle.big_endian.specs.Numbers.{unsigned_of, signed_of, number_bytes, IsSigned}
-use Rattle.dvi_commands.specs.Spelling.{DviCommand, Definition, Preamble, Postamble, Set, Put, SetRule, PutRule, Nop, Bop, Eop, Push, Pop, Right, W0, W, X0, X, Down, Y0, Y, Z0, Z, Font, Special, Define, Pre, Post, PostPost, spelling, HasWidth, IsNumber, quad, Spells}
+use Rattle.dvi_commands.specs.Spelling.{DviCommand, Definition, Preamble, Postamble, Set, Put, SetRule, PutRule, Nop, Bop, Eop, Push, Pop, Right, W0, W, X0, X, Down, Y0, Y, Z0, Z, Font, Special, Define, Pre, Post, PostPost, spelling, HasWidth, IsOperand, quad, Spells}
 use Rattle.dvi_commands.specs.SpellingLaws.{SpellingTellsTheCommand}
 use Rattle.big_endian.proofs.Bytes.{signed_is_read_again, unsigned_is_read_again}
 use Rattle.dvi_commands.proofs.Prefix.{by_width, wide, length-quads}
@@ -20,7 +20,7 @@ quad_again z h = signed_is_read_again 4 z (omega arith) (omega arith) h
 abbrev code_value : ℕ → ℤ → ℤ
 code_value n z = if n == 4 then signed_of (number_bytes 4 z) else pos (unsigned_of (number_bytes n z))
 
-code_again : (n : ℕ) (z : ℤ) → IsNumber n z → code_value n z ≡ z
+code_again : (n : ℕ) (z : ℤ) → IsOperand n z → code_value n z ≡ z
 code_again n z (inr h) = subst (λ (k : ℕ). code_value k z ≡ z) (sym h.0) (quad_again z h.1)
 code_again zero z (inl h) = absurd (omega (arith, h.0))
 code_again (suc zero) (pos m) (inl h) = ap pos (unsigned_is_read_again 1 m (omega arith) (omega arith) h.2)

@@ -5,7 +5,7 @@ use Rattle.std.proofs.lemmas.Bool.{cases_lt, ltb-false}
 use Rattle.std.proofs.lemmas.List.{append-nil, length-take-le, take-append-drop}
 use Rattle.big_endian.specs.Numbers.{AreBytes, IsSigned, number_bytes, signed_of, unsigned_of}
 use Rattle.big_endian.proofs.Bytes.{signed_is_written_again, unsigned_is_written_again}
-use Rattle.dvi_commands.specs.Spelling.{DviCommand, IsMotion, with_number, Bop, Define, Down, Eop, Font, IsNumber, Nop, Pop, Post, PostPost, Pre, Push, Put, PutRule, Right, Set, SetRule, Special, Spells, W, W0, X, X0, Y, Y0, Z, Z0, quad}
+use Rattle.dvi_commands.specs.Spelling.{DviCommand, IsMotion, with_number, Bop, Define, Down, Eop, Font, IsOperand, Nop, Pop, Post, PostPost, Pre, Push, Put, PutRule, Right, Set, SetRule, Special, Spells, W, W0, X, X0, Y, Y0, Z, Z0, quad}
 use Rattle.dvi_commands.specs.Reading.{signed_from}
 use Rattle.dvi_commands.specs.Refusal.{fixed_size, may_stand, refusal, tells_negative_length, text_size}
 use Rattle.dvi_commands.specs.SpellingLaws.{UnrefusedIsSpelled}
@@ -45,7 +45,7 @@ module _ (op : ℕ) (fields text : List ℕ) (whole : length fields ≡ fixed_si
       let again = signed_again before row low high in
       motion before op fields text (signed_of fields) (signed_of fields) row top low high whole after refl again.1 again.0
 
-  numbered_in : (before : ℕ) → IsRow before → before < op → op ≤ before + 4 → (z : ℤ) × IsNumber (length fields) z × (number_bytes (length fields) z ≡ fields)
+  numbered_in : (before : ℕ) → IsRow before → before < op → op ≤ before + 4 → (z : ℤ) × IsOperand (length fields) z × (number_bytes (length fields) z ≡ fields)
   numbered_in before row low high =
       let size = size_in_row before row low high in
       code_of fields few size.0 size.1

@@ -2,7 +2,7 @@
 use Rattle.std.proofs.Common.{◌≡◌, ℕ, zero, suc, ◌+◌, ◌-◌, ◌≤◌, ℤ, pos, negsuc, List, [], ◌∷◌, ◌++◌, length, take, drop, map, get_or, refl, sym, ap, subst, ◌∙◌, arith, inl, inr, drop-cons, length-drop, append_assoc, append-nil}
 use Rattle.std.specs.List.{flat_map, AllByRecursion}
 use Rattle.big_endian.specs.Numbers.{number_bytes, IsSigned}
-use Rattle.dvi_commands.specs.Spelling.{IsNumber, quad}
+use Rattle.dvi_commands.specs.Spelling.{IsOperand, quad}
 use Rattle.dvi_commands.proofs.OneCommand.{after_place}
 use Rattle.dvi_commands.proofs.Texts.{regroup}
 
@@ -52,7 +52,7 @@ elements_fit n zs h fits = subst (AllByRecursion (IsSigned 4)) (sym (are_element
 -- ---- numbers in fewer bytes
 
 -- the last bytes of four spell the number where it needs no more
-last_of_four : (n : ℕ) (z : ℤ) → IsNumber n z → drop (4 - n) (quad z) ≡ number_bytes n z
+last_of_four : (n : ℕ) (z : ℤ) → IsOperand n z → drop (4 - n) (quad z) ≡ number_bytes n z
 last_of_four n z (inr h) = subst (λ k. drop (4 - k) (quad z) ≡ number_bytes k z) (sym h.0) refl
 last_of_four zero z (inl h) = absurd (omega (arith, h.0))
 last_of_four (suc zero) (pos m) (inl h) = refl
@@ -62,7 +62,7 @@ last_of_four (suc (suc (suc (suc n)))) z (inl h) = absurd (omega (arith, h.1))
 last_of_four (suc n) (negsuc m) (inl h) = elim h.2 [ ]
 
 -- as the code takes them
-pub number_written : (n : ℕ) (z : ℤ) (four : List ℕ) → IsNumber n z → four ≡ quad z → take (4 - (4 - n)) (drop (4 - n) four) ≡ number_bytes n z
+pub number_written : (n : ℕ) (z : ℤ) (four : List ℕ) → IsOperand n z → four ≡ quad z → take (4 - (4 - n)) (drop (4 - n) four) ≡ number_bytes n z
 number_written n z four h e = ap (λ (x : List ℕ). take (4 - (4 - n)) (drop (4 - n) x)) e ∙ after_place (quad z) (4 - n) ∙ last_of_four n z h
 
 pub pairs_written : (prefix bytes1 bytes2 : List ℕ) (m k : ℕ) → bytes1 ≡ number_bytes 2 (pos m) → bytes2 ≡ number_bytes 2 (pos k)

@@ -128,8 +128,8 @@ IsSmall top (negsuc m) = ⊥
 
 -- the number of a character, a font or a special: up to three bytes hold it unsigned, four bytes
 -- signed
-abbrev pub IsNumber : ℕ → ℤ → Type 0
-IsNumber n z = ((1 ≤ n) × (n ≤ 3) × IsUnsigned n z) ⊎ ((n ≡ 4) × IsSigned 4 z)
+abbrev pub IsOperand : ℕ → ℤ → Type 0
+IsOperand n z = ((1 ≤ n) × (n ≤ 3) × IsUnsigned n z) ⊎ ((n ≡ 4) × IsSigned 4 z)
 
 -- the number of a motion: one to four bytes hold it signed
 abbrev pub IsMotion : ℕ → ℤ → Type 0
@@ -139,9 +139,9 @@ IsMotion n z = (1 ≤ n) × (n ≤ 4) × IsSigned n z
 -- what is put into it
 abbrev pub HasWidth : DviCommand → ℕ → Type 0
 HasWidth (Set c) zero = IsSmall 127 c
-HasWidth (Set c) (suc n) = IsNumber (suc n) c
+HasWidth (Set c) (suc n) = IsOperand (suc n) c
 HasWidth (SetRule a b) n = (n ≡ 0) × IsSigned 4 a × IsSigned 4 b
-HasWidth (Put c) n = IsNumber n c
+HasWidth (Put c) n = IsOperand n c
 HasWidth (PutRule a b) n = (n ≡ 0) × IsSigned 4 a × IsSigned 4 b
 HasWidth (Bop counts back) n =
     (n ≡ 0) × (length counts ≡ 10) × AllByRecursion (IsSigned 4) counts × IsSigned 4 back
@@ -152,9 +152,9 @@ HasWidth (Down a) n = IsMotion n a
 HasWidth (Y a) n = IsMotion n a
 HasWidth (Z a) n = IsMotion n a
 HasWidth (Font k) zero = IsSmall 63 k
-HasWidth (Font k) (suc n) = IsNumber (suc n) k
-HasWidth (Special text) n = IsNumber n (pos (length text))
-HasWidth (Define d) n = IsNumber n d.number × FieldsFit d
+HasWidth (Font k) (suc n) = IsOperand (suc n) k
+HasWidth (Special text) n = IsOperand n (pos (length text))
+HasWidth (Define d) n = IsOperand n d.number × FieldsFit d
 HasWidth (Pre p) n =
     (n ≡ 0) × (p.id < 256) × IsSigned 4 p.num × IsSigned 4 p.den × IsSigned 4 p.mag
     × (length p.text < 256)

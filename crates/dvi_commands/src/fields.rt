@@ -3,12 +3,12 @@
 ghost use Rattle.std.specs.Prelude.{◌≡◌, ◌≤◌, ◌+◌, ◌-◌, ◌∷◌, ◌++◌, [], false, length, slice_index, slice_range};
 ghost use Rattle.big_endian.specs.Numbers.{IsSigned, number_bytes};
 ghost use Rattle.dvi_commands.specs.Refusal.{LAST_OPCODE, fixed_size, tells_negative_length, text_size};
-ghost use Rattle.dvi_commands.specs.Spelling.{IsNumber, Spells, quad, seen};
+ghost use Rattle.dvi_commands.specs.Spelling.{IsOperand, Spells, quad, seen};
 
 use crate::command::{Command, FontDef};
 use big_endian::{signed, unsigned};
 
-/// The signed number in the four bytes from a place on.
+// The signed number in the four bytes from a place on.
 fn signed_quad(fields: &[u8], at: usize) -> i32
     requires { at + 4 ≤ length fields.now }
     ensures fits { IsSigned 4 result }
@@ -17,11 +17,11 @@ fn signed_quad(fields: &[u8], at: usize) -> i32
     signed(&fields[at..at + 4])
 }
 
-/// The number of a character or a font: up to three bytes spell it unsigned, four bytes signed.
+// The number of a character or a font: up to three bytes spell it unsigned, four bytes signed.
 fn code(bytes: &[u8]) -> i32
     requires some { 1 ≤ length bytes.now }
     requires few { length bytes.now ≤ 4 }
-    ensures fits { IsNumber (length bytes.now) result }
+    ensures fits { IsOperand (length bytes.now) result }
     ensures written { number_bytes (length bytes.now) result ≡ bytes.now }
 {
     if bytes.len() == 4 {
@@ -31,7 +31,7 @@ fn code(bytes: &[u8]) -> i32
     }
 }
 
-/// The ten counts of a page and the pointer to the page before.
+// The ten counts of a page and the pointer to the page before.
 fn beginning_of_page<'a>(fields: &[u8]) -> Command<'a>
     requires { length fields.now ≡ 44 }
     ensures { Spells (seen result) (139 ∷ fields.now) }
@@ -53,7 +53,7 @@ fn beginning_of_page<'a>(fields: &[u8]) -> Command<'a>
     }
 }
 
-/// The definition of a font, whose number has the bytes that the other fields leave.
+// The definition of a font, whose number has the bytes that the other fields leave.
 fn definition<'a>(fields: &[u8], name: &'a [u8]) -> Command<'a>
     requires some { 15 ≤ length fields.now }
     requires few { length fields.now ≤ 18 }

@@ -6,7 +6,7 @@ ghost use Rattle.dvi_commands.specs.Reading.{Begins};
 ghost use Rattle.dvi_commands.specs.Spelling.{DviCommand};
 ghost use Rattle.dvi_commands.specs.declared.command.Context.TheVariants as context;
 
-/// How many bytes a plain command has, by its opcode, and 0 for an opcode of no plain command.
+// How many bytes a plain command has, by its opcode, and 0 for an opcode of no plain command.
 static PLAIN_LENGTHS: [u8; 256] = [
     // Set, from 0
     1, 1, 1, 1, 1, 1, 1, 1, 1, 1, 1, 1, 1, 1, 1, 1, 1, 1, 1, 1, 1, 1, 1, 1, 1, 1, 1, 1, 1, 1, 1, 1,

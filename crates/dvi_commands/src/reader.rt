@@ -11,10 +11,10 @@ use big_endian::{signed, unsigned};
 
 const LAST_OPCODE: u8 = 249;
 
-/// The last opcode that is a character by itself.
+// The last opcode that is a character by itself.
 const LAST_SMALL_CHARACTER: u8 = 127;
 
-/// How many bytes the fields of a command have, by its opcode, without a text.
+// How many bytes the fields of a command have, by its opcode, without a text.
 static FIELD_SIZES: [u8; 250] = [
     // Set, from 0
     0, 0, 0, 0, 0, 0, 0, 0, 0, 0, 0, 0, 0, 0, 0, 0, 0, 0, 0, 0, 0, 0, 0, 0, 0, 0, 0, 0, 0, 0, 0, 0,
@@ -38,7 +38,7 @@ static FIELD_SIZES: [u8; 250] = [
     14, 28, 5,
 ];
 
-/// Whether a command with the opcode may stand in the context.
+// Whether a command with the opcode may stand in the context.
 #[inline(always)]
 fn is_allowed(context: Context, opcode: u8) -> bool
     ensures { result ≡ may_stand context opcode }
@@ -52,7 +52,7 @@ fn is_allowed(context: Context, opcode: u8) -> bool
     }
 }
 
-/// How many bytes the fields have, without a text.
+// How many bytes the fields have, without a text.
 #[inline(always)]
 fn field_size(opcode: u8) -> usize
     requires { opcode ≤ LAST_OPCODE }
@@ -61,7 +61,7 @@ fn field_size(opcode: u8) -> usize
     FIELD_SIZES[opcode as usize] as usize
 }
 
-/// How long the text after the fields is, or `None` where the length of a special is negative.
+// How long the text after the fields is, or `None` where the length of a special is negative.
 fn text_length(opcode: u8, fields: &[u8]) -> Option<usize>
     requires known { opcode ≤ LAST_OPCODE }
     requires whole { length fields.now ≡ fixed_size opcode }

@@ -1,6 +1,6 @@
 -- From how a run ends to what its status says.
 use Rattle.std.proofs.Common.{◌≡◌, ◌∙◌, ◌⊎◌, inl, inr, ℕ, List, [], ◌∷◌, Option, Some, None, refl, sym, ap}
-use Rattle.outside.specs.Library.{Files}
+use Rattle.outside.specs.Library.{FileTable}
 use Rattle.page_index.specs.Document.{Reading}
 use Rattle.page_index.specs.Faults.{IsFirstFault}
 use Rattle.page_index.specs.declared.faults.DocFault.{DocFault}
@@ -8,7 +8,7 @@ use Rattle.vf_expand.specs.Faults.{PageFaultSeen}
 use Rattle.vf_expand.specs.Faults as fault
 use Rattle.page_draw.specs.Values.{PageValue}
 use Rattle.dvi_run.specs.Reading.{IsAllRead, OfRead}
-use Rattle.dvi_run.specs.Pages.{FailingPage, Given, IsRun, run_fault}
+use Rattle.dvi_run.specs.Pages.{FailingPage, Setup, IsRun, run_fault}
 use Rattle.dvi_run.specs.Endings.{EndingSeen, Written, Usage, Document, Page, Source, Input, Output, Notes, Memory, EndsPages, IsAmong, IsEnding, IsPlaced, OfRun, Stopped, Wrote, WroteBefore, WroteAll, WrotePrefix, WroteSome, page_status, status_of, statuses}
 use Rattle.dvi_run.specs.Promises.{GoodRunIsWhole, GoodRunIsWritten}
 use Rattle.dvi_run.specs.Laws.{OneReading, OneRun, RunsHaveNoFault}
@@ -83,7 +83,7 @@ is_none n a b c d e f h (inr (inr (inr (inr (inr (inr (inr none))))))) = none
 
 -- ---- what is owed for each, where the input tells its bytes
 
-module _ (old new : Option (List ℕ)) (OutputFailed SourceFailed OutputKept InputFailed : Type 0) (g : Given) (left rest : Option (List ℕ)) where
+module _ (old new : Option (List ℕ)) (OutputFailed SourceFailed OutputKept InputFailed : Type 0) (g : Setup) (left rest : Option (List ℕ)) where
   abbrev Ends : EndingSeen → Type 0
   Ends e = IsEnding old new OutputFailed SourceFailed OutputKept InputFailed g left rest e
 
@@ -131,7 +131,7 @@ module _ (old new : Option (List ℕ)) (OutputFailed SourceFailed OutputKept Inp
         of_each (λ bytes. OfRun g bytes P) (IsRefused Notes) left (λ bytes run f first. absurd (not_both bytes P f run first)) h.1
     refused_by Memory h = of_all (IsRefused Memory) left (λ bytes f first. inr (inr (inl refl)))
 
-    module _ (files : Files) (told : g.library ≡ Some files) where
+    module _ (files : FileTable) (told : g.library ≡ Some files) where
       abbrev IsStopped : EndingSeen → List ℕ → Type 0
       IsStopped e bytes = (r : Reading) (values : List PageValue) (page : FailingPage) → IsRun g bytes r values → run_fault values ≡ Some page
           → IsAmong (status_of e) (page_status page.fault ∷ 5 ∷ 6 ∷ 7 ∷ 9 ∷ [])

@@ -15,7 +15,7 @@ use Rattle.page_draw.specs.Members.{marks_from}
 use Rattle.page_draw.specs.Sheets.{IsDrawable}
 use Rattle.page_draw.specs.Values.{EndsIn, bitmap_of, ended_with}
 use Rattle.page_index.specs.Document.{Reading}
-use Rattle.dvi_run.specs.Pages.{Given, IsValueOf}
+use Rattle.dvi_run.specs.Pages.{Setup, IsValueOf}
 use Rattle.dvi_run.specs.Rounds.{black_of}
 
 few_in_rows : (w n : ℕ) (f : ℕ → List Bool) → ((y : ℕ) → length (f y) ≡ w) → sum_by (λ row. count_by (λ p. p) row) (from_fn n f) ≤ n * w
@@ -41,7 +41,7 @@ drawn c s b (Ends at) page h = ended s.saved at b page h
 drawn c s b (Stops fault at) page h = cc
 
 -- no more than the sheet has
-pub few_on_sheet : (g : Given) (reading : Reading) (i : ℕ) (page : Bitmap) → IsDrawable g.sheet → IsValueOf g reading i (Ok page) → black_count page ≤ 20000 * 20000
+pub few_on_sheet : (g : Setup) (reading : Reading) (i : ℕ) (page : Bitmap) → IsDrawable g.sheet → IsValueOf g reading i (Ok page) → black_count page ≤ 20000 * 20000
 few_on_sheet g reading i page sheet value =
     let has = value.1.has in
     let is : page ≡ bitmap_of (conversion value.1.units) g.sheet has.members = drawn (conversion value.1.units) has.state (bitmap_of (conversion value.1.units) g.sheet has.members) has.to page has.ends in

@@ -3,7 +3,7 @@ use Rattle.std.proofs.Common.{◌≡◌, ◌∙◌, ◌⊎◌, inl, inr, ℕ, �
 use Rattle.std.proofs.lemmas.Bool.{cases_lt}
 use Rattle.std.proofs.lemmas.List.{ext_get_or}
 use Rattle.outside.specs.Counts.{Rose}
-use Rattle.outside.specs.Library.{Files}
+use Rattle.outside.specs.Library.{FileTable}
 use Rattle.cache_core.specs.declared.calls.Call.{Call}
 use Rattle.cache_core.specs.Histories.{own}
 use Rattle.font_decode.specs.Desks.{misses}
@@ -11,7 +11,7 @@ use Rattle.font_decode.specs.Loads.{RoseUpTo}
 use Rattle.outside.specs.declared.keys.FontKey.{FontKey}
 use Rattle.page_index.specs.Document.{Reading, pages_begun}
 use Rattle.page_workers.specs.declared.worker.Worker.{Worker}
-use Rattle.dvi_run.specs.Pages.{Given, finding}
+use Rattle.dvi_run.specs.Pages.{Setup, finding}
 use Rattle.dvi_run.specs.Endings.{EndingSeen, Source, IsAmong}
 use Rattle.dvi_run.specs.Looked.{BrokenLooks, WholeLooks}
 use Rattle.dvi_run.specs.Rounds.{FailedAt, indexed_of}
@@ -37,7 +37,7 @@ never_rose before now none (inr at) = omega (arith, at, none)
 -- ---- one worker
 
 module _ {F G : Type 0} (mine : Worker G) (was now : Worker F) (h : WasHanded mine was now) where
-  worked_handed : (glibrary : G → Option Files) (gfaults gloads : G → ℕ) (gtold : Option Files) (library : F → Option Files) (faults loads : F → ℕ) (told : Option Files) (pages n status : ℕ) (history : List Call) (k : ℕ) (first : Worker G)
+  worked_handed : (glibrary : G → Option FileTable) (gfaults gloads : G → ℕ) (gtold : Option FileTable) (library : F → Option FileTable) (faults loads : F → ℕ) (told : Option FileTable) (pages n status : ℕ) (history : List Call) (k : ℕ) (first : Worker G)
       → first.loads ≡ 0 → IsReady library told was → Worked glibrary gfaults gloads gtold None n status history k first mine → Worked library faults loads told (Some pages) n status history k was now
   worked_handed glibrary gfaults gloads gtold library faults loads told pages n status history k first none ready w = record {
     seat = h.seat ∙ ready.seat;
@@ -54,7 +54,7 @@ module _ {F G : Type 0} (mine : Worker G) (was now : Worker F) (h : WasHanded mi
         (subst (λ (m : ℕ). RoseUpTo (5 * misses (own (k + 1) history)) first.loads m) (sym h.loads) w.loaded.counted);
   }
 
-  answered_handed : (g : Given) (reading : Reading) (capacity n status : ℕ) (history : List Call) (k : ℕ) → Answered g reading capacity n status history k mine → Answered g reading capacity n status history k now
+  answered_handed : (g : Setup) (reading : Reading) (capacity n status : ℕ) (history : List Call) (k : ℕ) → Answered g reading capacity n status history k mine → Answered g reading capacity n status history k now
   answered_handed g reading capacity n status history k a = record {
     keys = a.keys;
     looked = subst (λ (ps : List ℕ). WholeLooks (finding g reading) (indexed_of g reading) g.sheet ps a.keys ⊎ BrokenLooks (finding g reading) (indexed_of g reading) g.sheet ps a.keys) (sym h.pages) a.looked;
@@ -83,8 +83,8 @@ module _ {F G : Type 0} (n : ℕ) (first last : List (Worker G)) (before after :
       | inr le ↦ ap (λ (w : Worker F). w.source) (rest k d le)
     ]
 
-    module _ (library : F → Option Files) (told : Option Files) (ready : (k : ℕ) (d : Worker F) → k < n → IsReady library told (get_or before k d))
-        (glibrary : G → Option Files) (gtold : Option Files) (own_ready : (k : ℕ) (d : Worker G) → k < n → IsReady glibrary gtold (get_or first k d)) where
+    module _ (library : F → Option FileTable) (told : Option FileTable) (ready : (k : ℕ) (d : Worker F) → k < n → IsReady library told (get_or before k d))
+        (glibrary : G → Option FileTable) (gtold : Option FileTable) (own_ready : (k : ℕ) (d : Worker G) → k < n → IsReady glibrary gtold (get_or first k d)) where
       -- where the run's own workers are as they were, the others are too
       same_workers : length before ≡ length after → last ≡ first → after ≡ before
       same_workers sizes same =
@@ -103,7 +103,7 @@ module _ {F G : Type 0} (n : ℕ) (first last : List (Worker G)) (before after :
           let e = at_last 0 some in
           shared_as total n (λ k. (get_or last k e).pages.items) (λ k. (get_or after k d).pages.items) (λ k lt. (handed k e d lt).pages) (shared e)
 
-      pub drew_handed : 0 < n → (g : Given) (counted : Bool) (old new : Option (List ℕ)) (capacity status : ℕ) (e : EndingSeen) (tally : Option Tally) (history : List Call) (bytes : List ℕ) → length before ≡ length after
+      pub drew_handed : 0 < n → (g : Setup) (counted : Bool) (old new : Option (List ℕ)) (capacity status : ℕ) (e : EndingSeen) (tally : Option Tally) (history : List Call) (bytes : List ℕ) → length before ≡ length after
           → DrewTogether g counted old new capacity n status e tally history first last bytes → DrewTogether g counted old new capacity n status e tally history before after bytes
       drew_handed some g counted old new capacity status e tally history bytes sizes (inl idle) = inl (idle.0, idle.1, idle.2, same_workers sizes idle.3)
       drew_handed some g counted old new capacity status e tally history bytes sizes (inr run) =

@@ -13,7 +13,7 @@ use Rattle.page_draw.specs.declared.stop.PageStop.{PageStop}
 use Rattle.page_draw.specs.declared.stop.PageStop.TheVariants as draw
 use Rattle.page_workers.specs.Rounds.{HasBitmap}
 use Rattle.page_workers.specs.declared.worker.PageResult.{PageResult}
-use Rattle.dvi_run.specs.Pages.{AreValues, Given}
+use Rattle.dvi_run.specs.Pages.{AreValues, Setup}
 use Rattle.dvi_run.specs.Endings.{EndingSeen, EndsPages, Source, ending_at}
 use Rattle.dvi_run.specs.Looked.{IsUnbroken}
 use Rattle.dvi_run.specs.Rounds.{IsOutcomeOf, WroteOutcome}
@@ -61,7 +61,7 @@ is_empty (x ∷ xs) e = absurd (omega arith)
 
 -- ---- results by the pages of their document
 
-module _ (g : Given) (reading : Reading) (SomeFailed : ℕ → Type 0) where
+module _ (g : Setup) (reading : Reading) (SomeFailed : ℕ → Type 0) where
   -- this is the result of the page with this number, from 0; where a source failed it failed at
   -- this page, from 1
   pub record IsHeld (page : ℕ) (r : PageResult) : Type 0 where

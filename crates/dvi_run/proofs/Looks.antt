@@ -1,7 +1,7 @@
 -- The keys that a worker looked up, and one page more.
 use Rattle.std.proofs.Common.{◌≡◌, ℕ, inl, inr, List, [], ◌∷◌, ◌++◌, Option, Some, None, refl, sym, ap, ◌∙◌, append_assoc, append-nil}
 use Rattle.std.specs.Option.{option_map}
-use Rattle.outside.specs.Library.{Files}
+use Rattle.outside.specs.Library.{FileTable}
 use Rattle.outside.specs.declared.keys.FontKey.{FontKey}
 use Rattle.page_index.specs.Pages.{Indexed}
 use Rattle.turn_lock.specs.Seats.{SeatView}
@@ -27,7 +27,7 @@ broken_more Finds indexed sheet pages keys p more w one =
 
 -- ---- the keys of a seat
 
-pub keys_are : (told : Option Files) (bench : Bench) (seat : Option SeatView) → Fits told bench seat → asked_at seat ≡ Some (keys_of seat)
+pub keys_are : (told : Option FileTable) (bench : Bench) (seat : Option SeatView) → Fits told bench seat → asked_at seat ≡ Some (keys_of seat)
 keys_are told bench None fits = absurd fits
 keys_are told bench (Some s) fits = refl
 

@@ -4,7 +4,7 @@ use Rattle.std.specs.Prelude.{IsSome, unwrap_or}
 use Rattle.std.proofs.lemmas.Bool.{cases_lt}
 use Rattle.std.proofs.lemmas.List.{length-append}
 use Rattle.std.specs.Io.KnownBytes.{Appends}
-use Rattle.outside.specs.Library.{Files}
+use Rattle.outside.specs.Library.{FileTable}
 use Rattle.outside.specs.declared.keys.FontKey.{FontKey}
 use Rattle.pixel_round.specs.declared.units.Units.{Units}
 use Rattle.page_index.specs.Document.{Reading, pages_begun}
@@ -13,7 +13,7 @@ use Rattle.font_decode.specs.Decoding.{IsFontIn, IsFontOf}
 use Rattle.page_draw.specs.Values.{PageValue}
 use Rattle.page_draw.specs.Drawn.{IsPageValue}
 use Rattle.page_draw.specs.Laws.{PagesHaveOneValue}
-use Rattle.dvi_run.specs.Pages.{FailingPage, Given, HaveValues, IsRun, IsValueOf, IsWholeRun, run_fault, run_text}
+use Rattle.dvi_run.specs.Pages.{FailingPage, Setup, HaveValues, IsRun, IsValueOf, IsWholeRun, run_fault, run_text}
 use Rattle.dvi_run.specs.Laws.{GoodRunsWriteAlike, OneReading, OneRun, RunsHavePrefixes, StoppedRunsWriteAlike}
 use Rattle.dvi_run.proofs.Prefixes.{faults_end_the_run, prefix_is_good}
 
@@ -23,7 +23,7 @@ is_there (Some at) some = refl
 
 -- ---- the first values
 
-first_values : (g : Given) (r : Reading) (i : ℕ) (values rest : List PageValue) → HaveValues g r i (values ++ rest) → HaveValues g r i values
+first_values : (g : Setup) (r : Reading) (i : ℕ) (values rest : List PageValue) → HaveValues g r i (values ++ rest) → HaveValues g r i values
 first_values g r i [] rest have = tt
 first_values g r i (v ∷ values) rest have = (have.0, first_values g r (suc i) values rest have.1)
 
@@ -38,7 +38,7 @@ prefixes g bytes reading values rest run = record {
 
 -- ---- one value
 
-module _ (one : PagesHaveOneValue) (g : Given) (files : Files) (told : g.library ≡ Some files) where
+module _ (one : PagesHaveOneValue) (g : Setup) (files : FileTable) (told : g.library ≡ Some files) where
   abbrev indexed : Reading → Indexed
   indexed r = record { res = g.res; reading = r }
 
@@ -46,7 +46,7 @@ module _ (one : PagesHaveOneValue) (g : Given) (files : Files) (told : g.library
       → IsPageValue (IsFontOf g.library (document_units g.res r)) (indexed r) g.sheet i v looks → IsPageValue (IsFontIn files u) (indexed r) g.sheet i v looks
   found r i v looks u is value =
       subst (λ (m : Option Units). IsPageValue (IsFontOf (Some files) m) (indexed r) g.sheet i v looks) is
-      (subst (λ (o : Option Files). IsPageValue (IsFontOf o (document_units g.res r)) (indexed r) g.sheet i v looks) told value)
+      (subst (λ (o : Option FileTable). IsPageValue (IsFontOf o (document_units g.res r)) (indexed r) g.sheet i v looks) told value)
 
   same_value : (r : Reading) (i : ℕ) (v w : PageValue) → IsValueOf g r i v → IsValueOf g r i w → v ≡ w
   same_value r i v w a b =
@@ -68,7 +68,7 @@ one_run one reading g files bytes r s v w told a b le =
 
 -- ---- two lists of one run
 
-module _ (reading : OneReading) (one : OneRun) (g : Given) (files : Files) (told : g.library ≡ Some files) (bytes : List ℕ) where
+module _ (reading : OneReading) (one : OneRun) (g : Setup) (files : FileTable) (told : g.library ≡ Some files) (bytes : List ℕ) where
   -- one fails where the other does
   pub ends_once : (r s : Reading) (v w : List PageValue) (p q : FailingPage) → IsRun g bytes r v → IsRun g bytes s w → run_fault v ≡ Some p → run_fault w ≡ Some q → p ≡ q
   ends_once r s v w p q a b is other = elim (cases_lt (length v) (length w)) [
@@ -97,7 +97,7 @@ none_after : (v rest : List PageValue) → length (v ++ rest) ≤ length v → r
 none_after v [] le = ap run_text (append-nil v)
 none_after v (x ∷ rest) le = let size = length-append v (x ∷ rest) in absurd (omega (arith, le, size))
 
-module _ (reading : OneReading) (one : OneRun) (g : Given) (files : Files) (told : g.library ≡ Some files) (bytes : List ℕ) where
+module _ (reading : OneReading) (one : OneRun) (g : Setup) (files : FileTable) (told : g.library ≡ Some files) (bytes : List ℕ) where
   -- all pages
   all_alike : (r s : Reading) (v w : List PageValue) → IsRun g bytes r v → IsRun g bytes s w → length v ≡ pages_begun r → length w ≡ pages_begun s → run_text v ≡ run_text w
   all_alike r s v w a b all other =

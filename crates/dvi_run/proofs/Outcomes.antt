@@ -4,11 +4,11 @@ use Rattle.page_index.specs.Document.{IsDocument, Reading}
 use Rattle.page_index.specs.Faults.{IsFirstFault}
 use Rattle.page_draw.specs.Values.{PageValue}
 use Rattle.dvi_run.specs.Reading.{IsRead}
-use Rattle.dvi_run.specs.Pages.{AreValues, Given}
+use Rattle.dvi_run.specs.Pages.{AreValues, Setup}
 use Rattle.dvi_run.specs.Endings.{EndingSeen, Written, Usage, Document, Page, Source, Input, Output, Notes, Memory, EndsBytes, EndsPages, IsEnding, OfRun, Stopped, Wrote, WroteBefore, WrotePrefix, WroteSome}
 use Rattle.dvi_run.proofs.Told.{all_read, of_read}
 
-module _ (old new : Option (List ℕ)) (OutputFailed SourceFailed OutputKept : Type 0) (g : Given) where
+module _ (old new : Option (List ℕ)) (OutputFailed SourceFailed OutputKept : Type 0) (g : Setup) where
   -- the pages of a document were written, or some of them
   pub pages_end : (bytes : List ℕ) (reading : Reading) (values : List PageValue) → IsDocument g.res bytes reading → AreValues g reading values
       → (e : EndingSeen) → EndsPages old new OutputFailed SourceFailed e reading values → EndsBytes old new OutputFailed SourceFailed OutputKept g bytes e

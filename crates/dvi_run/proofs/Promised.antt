@@ -1,6 +1,6 @@
 -- Every end of a run keeps what a run promises.
 use Rattle.std.proofs.Common.{◌≡◌, ◌∙◌, inl, inr, ℕ, List, [], ◌∷◌, Option, refl, sym, subst}
-use Rattle.dvi_run.specs.Pages.{Given}
+use Rattle.dvi_run.specs.Pages.{Setup}
 use Rattle.dvi_run.specs.Endings.{EndingSeen, IsAmong, IsEnding, TellsBy, WroteAll, status_of, statuses}
 use Rattle.dvi_run.specs.Laws.{OneReading, OneRun, RunsHaveNoFault}
 use Rattle.dvi_run.specs.Promises.{FailingPageIsNamed, FaultIsNamed, GoodRunIsWhole, GoodRunIsWritten, HasFailingPage, IsCaused, IsCutShort, IsNoted, IsWritten, StoppedAt}
@@ -9,7 +9,7 @@ use Rattle.dvi_run.proofs.Clauses.{of_all, of_each}
 
 -- ---- how it ended
 
-module _ (old new : Option (List ℕ)) (OutputFailed SourceFailed OutputKept InputFailed : Type 0) (g : Given) (left rest : Option (List ℕ)) where
+module _ (old new : Option (List ℕ)) (OutputFailed SourceFailed OutputKept InputFailed : Type 0) (g : Setup) (left rest : Option (List ℕ)) where
   nothing_by : (e : EndingSeen) → IsEnding old new OutputFailed SourceFailed OutputKept InputFailed g left rest e → IsAmong (status_of e) (2 ∷ 6 ∷ []) → OutputKept
   nothing_by e h (inl two) = (end.document_by old new OutputFailed SourceFailed OutputKept InputFailed g left rest e two h).1
   nothing_by e h (inr (inl six)) = (end.input_by old new OutputFailed SourceFailed OutputKept InputFailed g left rest e six h).1
@@ -99,10 +99,10 @@ not_all : WroteAll 9 → ⊥
 not_all (inl is) = cc
 not_all (inr is) = cc
 
-pub idle_wrote : (g : Given) (left rest old new : Option (List ℕ)) → IsWritten g 9 left rest old new
+pub idle_wrote : (g : Setup) (left rest old new : Option (List ℕ)) → IsWritten g 9 left rest old new
 idle_wrote g left rest old new = record { whole = λ is. absurd (not_all is); read = λ is. absurd (not_read is) }
 
-pub idle_cut_short : (g : Given) (left old new : Option (List ℕ)) (OutputKept : Type 0) → OutputKept → IsCutShort g 9 left old new OutputKept
+pub idle_cut_short : (g : Setup) (left old new : Option (List ℕ)) (OutputKept : Type 0) → OutputKept → IsCutShort g 9 left old new OutputKept
 idle_cut_short g left old new OutputKept kept = record {
   nothing = λ is. absurd (not_early is);
   stopped = λ is. absurd (not_page is);
@@ -111,7 +111,7 @@ idle_cut_short g left old new OutputKept kept = record {
   memory = λ is. inl kept;
 }
 
-pub idle_caused : (g : Given) (left : Option (List ℕ)) (InputFailed SourceFailed OutputFailed NotesFailed : Type 0) → IsCaused g 9 left InputFailed SourceFailed OutputFailed NotesFailed
+pub idle_caused : (g : Setup) (left : Option (List ℕ)) (InputFailed SourceFailed OutputFailed NotesFailed : Type 0) → IsCaused g 9 left InputFailed SourceFailed OutputFailed NotesFailed
 idle_caused g left I S O N = record {
   answers = inr (inr (inr (inr (inr (inr (inr (inr (inl refl))))))));
   document = λ is. cc;

@@ -3,7 +3,7 @@
 use Rattle.std.proofs.Common.{◌≡◌, ◌∙◌, inl, inr, ℕ, Bool, true, false, List, [], ◌∷◌, ◌++◌, Option, Some, None, Result, Ok, Err, refl, sym, ap, get_or}
 use Rattle.std.specs.Prelude.{is_ok}
 use Rattle.outside.specs.Counts.{Rose}
-use Rattle.outside.specs.Library.{Files}
+use Rattle.outside.specs.Library.{FileTable}
 use Rattle.outside.specs.Streams.{Writes}
 use Rattle.cache_core.specs.declared.calls.Call.{Call}
 use Rattle.page_draw.specs.Values.{PageValue}
@@ -11,7 +11,7 @@ use Rattle.page_index.specs.Document.{Reading}
 use Rattle.page_workers.specs.declared.worker.Worker.{Worker}
 use Rattle.vf_expand.specs.Faults.{seen_fault}
 use Rattle.dvi_run.specs.Reading.{OfRead}
-use Rattle.dvi_run.specs.Pages.{Given}
+use Rattle.dvi_run.specs.Pages.{Setup}
 use Rattle.dvi_run.specs.Endings.{EndingSeen, Written, Notes, IsAmong, IsEnding, IsTold, TellsBy, Tells, page_status, seen_ending, status_of, with_notes}
 use Rattle.dvi_run.specs.Lines.{line_of}
 use Rattle.dvi_run.specs.Report.{report_text, told_text}
@@ -25,7 +25,7 @@ use Rattle.dvi_run.proofs.Clauses.{AtPage, at_page, of_each}
 
 -- ---- how it ended
 
-module _ (old new : Option (List ℕ)) (OutputFailed SourceFailed OutputKept InputFailed : Type 0) (g : Given) (left rest : Option (List ℕ)) where
+module _ (old new : Option (List ℕ)) (OutputFailed SourceFailed OutputKept InputFailed : Type 0) (g : Setup) (left rest : Option (List ℕ)) where
   abbrev Ends : EndingSeen → Type 0
   Ends e = IsEnding old new OutputFailed SourceFailed OutputKept InputFailed g left rest e
 
@@ -122,7 +122,7 @@ one_8 capacity n history one = record {
   idle = λ among. absurd (not_idle among);
 }
 
-module _ {F : Type 0} (library : F → Option Files) (faults loads : F → ℕ) (told : Option Files) (sample : Option ℕ) (capacity n : ℕ) (tally : Option Tally) (history : List Call) (before after : List (Worker F)) where
+module _ {F : Type 0} (library : F → Option FileTable) (faults loads : F → ℕ) (told : Option FileTable) (sample : Option ℕ) (capacity n : ℕ) (tally : Option Tally) (history : List Call) (before after : List (Worker F)) where
   worked_8 : (k : ℕ) (was now : Worker F) → Worked library faults loads told sample n 0 history k was now → Worked library faults loads told sample n 8 history k was now
   worked_8 k was now w = record {
     seat = w.seat;
@@ -159,7 +159,7 @@ module _ {F : Type 0} (library : F → Option Files) (faults loads : F → ℕ) 
   done_on (code.Output page) taken h = h
   done_on code.Memory taken h = h
 
-module _ {F : Type 0} (g : Given) (counted : Bool) (old new : Option (List ℕ)) (capacity n : ℕ) (tally : Option Tally) (history : List Call) (before after : List (Worker F)) where
+module _ {F : Type 0} (g : Setup) (counted : Bool) (old new : Option (List ℕ)) (capacity n : ℕ) (tally : Option Tally) (history : List Call) (before after : List (Worker F)) where
   abbrev Drew : EndingSeen → List ℕ → Type 0
   Drew e bytes = DrewTogether g counted old new capacity n (status_of e) e tally history before after bytes
 

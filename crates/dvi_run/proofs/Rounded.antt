@@ -2,7 +2,7 @@
 use Rattle.std.proofs.Common.{◌≡◌, ℕ, ◌+◌, ◌<◌, ◌≤◌, List, [], ◌++◌, length, get_or, Contains, sym, ap, subst, ◌∙◌, arith}
 use Rattle.std.specs.Prelude.{Option}
 use Rattle.std.specs.List.Sorted.{IsStrictlyIncreasing}
-use Rattle.outside.specs.Library.{Files}
+use Rattle.outside.specs.Library.{FileTable}
 use Rattle.page_index.specs.Pages.{Indexed}
 use Rattle.page_draw.specs.declared.sheet.Sheet.{Sheet}
 use Rattle.page_workers.specs.Rounds.{DrewRound, pages_of}
@@ -12,7 +12,7 @@ use Rattle.page_workers.specs.declared.worker.Worker.{Worker}
 use Rattle.page_workers.proofs.Drawn.{drew_results}
 use Rattle.dvi_run.specs.Stacks.{AreResults}
 
-module _ {F : Type 0} (library : F → Option Files) (faults loads : F → ℕ) (bench : Bench) (indexed : Indexed) (sheet : Sheet) (first count : ℕ) (xs mid : List (Worker F))
+module _ {F : Type 0} (library : F → Option FileTable) (faults loads : F → ℕ) (bench : Bench) (indexed : Indexed) (sheet : Sheet) (first count : ℕ) (xs mid : List (Worker F))
     (none : (k : ℕ) (d : Worker F) → k < length xs → (get_or xs k d).results.items ≡ []) (long : length mid ≡ length xs) (drew : DrewRound library faults loads bench indexed sheet first count xs mid) where
   results_are : (k : ℕ) (d : Worker F) → k < length mid → (get_or mid k d).results.items ≡ drew.drawn k
   results_are k d lt =

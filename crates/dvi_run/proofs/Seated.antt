@@ -1,7 +1,7 @@
 -- A worker from its seat to the end of the run.
 use Rattle.std.proofs.Common.{◌≡◌, ◌⊎◌, inl, ℕ, ◌*◌, ◌≤◌, List, [], ◌++◌, Option, Some, None, refl, sym, ap, subst, ◌∙◌, arith}
 use Rattle.std.specs.Prelude.{IfSome}
-use Rattle.outside.specs.Library.{Files}
+use Rattle.outside.specs.Library.{FileTable}
 use Rattle.outside.specs.declared.keys.FontKey.{FontKey}
 use Rattle.cache_core.specs.declared.calls.Call.{Call}
 use Rattle.cache_core.specs.declared.common.Common.{Common}
@@ -16,7 +16,7 @@ use Rattle.page_workers.specs.Seats.{IsAt, Fits, own_calls, asked_at, trail_at, 
 use Rattle.page_workers.specs.Seating.{WasSeated, MayLeave}
 use Rattle.page_workers.specs.Paper.{HasNoPaper}
 use Rattle.page_workers.specs.Rounds.{trail_of}
-use Rattle.dvi_run.specs.Pages.{Given, finding}
+use Rattle.dvi_run.specs.Pages.{Setup, finding}
 use Rattle.dvi_run.specs.Looked.{WholeLooks, BrokenLooks}
 use Rattle.dvi_run.specs.Rounds.{Site, Ended, MayBegin, IsFresh, Ran, keys_of, indexed_of, Trails}
 
@@ -29,8 +29,8 @@ module _ {F : Type 0} (s : Site F) (part : Common) (told : part.library ≡ s.gi
   no_keys : keys_of (Some seated.seat) ≡ []
   no_keys = ap looks seated.new.no_call
 
-  tells : (common : Option Files) → common ≡ s.given.library → IfSome common (λ l. s.library start.source ≡ Some l)
-  tells common e = subst (λ (o : Option Files). IfSome o (λ l. s.library start.source ≡ Some l)) (sym e)
+  tells : (common : Option FileTable) → common ≡ s.given.library → IfSome common (λ l. s.library start.source ≡ Some l)
+  tells common e = subst (λ (o : Option FileTable). IfSome o (λ l. s.library start.source ≡ Some l)) (sym e)
       (subst (λ (x : F). IfSome s.given.library (λ l. s.library x ≡ Some l)) (sym seated.same.source) fresh.tells)
 
   is_at : IsAt (s.library start.source) s.bench seated.seat
@@ -111,7 +111,7 @@ module _ {F : Type 0} (s : Site F) (part : Common) (told : part.library ≡ s.gi
       still_tells =
           let fits : IsAt (s.library now.source) s.bench t = subst (λ (o : Option SeatView). Fits (s.library now.source) s.bench o) is ended.kept.fits in
           subst (λ (x : F). IfSome s.given.library (λ l. s.library x ≡ Some l)) (sym source)
-          (subst (λ (o : Option Files). IfSome o (λ l. s.library now.source ≡ Some l)) told_here fits.tells)
+          (subst (λ (o : Option FileTable). IfSome o (λ l. s.library now.source ≡ Some l)) told_here fits.tells)
 
       pub ran : (Whole : Type 0) → (Whole → NoneReleased (own_calls t))
           → (Whole → WholeLooks (finding s.given s.reading) (indexed_of s.given s.reading) s.given.sheet now.pages.items (keys_of now.seat)) → Ran Whole s.library s.faults s.loads s.given s.reading history k w after
@@ -147,7 +147,7 @@ module _ {F : Type 0} (s : Site F) (part : Common) (told : part.library ≡ s.gi
   may_leave now ended = leaves now ended now.seat refl ended.kept.fits
 
 -- a worker of a run in which no cache was made
-pub unused : {F : Type 0} (library : F → Option Files) (faults loads : F → ℕ) (g : Given) (reading : Reading) (number : ℕ) (w : Worker F) → IsFresh library g.library w → w.seat ≡ None
+pub unused : {F : Type 0} (library : F → Option FileTable) (faults loads : F → ℕ) (g : Setup) (reading : Reading) (number : ℕ) (w : Worker F) → IsFresh library g.library w → w.seat ≡ None
     → (Whole : Type 0) → Ran Whole library faults loads g reading [] number w w
 unused library faults loads g reading number w fresh none Whole = record {
   seat = none;

@@ -10,7 +10,7 @@ use Rattle.std.specs.Io.KnownBytes.{Appends}
 use Rattle.pbm_output.specs.Pbm.{page_text}
 use Rattle.page_workers.proofs.Lists.{same_default}
 use Rattle.outside.specs.Counts.{Rose}
-use Rattle.outside.specs.Library.{Files}
+use Rattle.outside.specs.Library.{FileTable}
 use Rattle.outside.proofs.Growth.{rose_later}
 use Rattle.outside.specs.declared.keys.FontKey.{FontKey}
 use Rattle.pixel_round.specs.declared.units.Units.{Units}
@@ -30,17 +30,17 @@ use Rattle.page_workers.specs.declared.worker.Worker.{Worker}
 use Rattle.page_workers.specs.Seats.{Fits, asked_at, library_at, units_at, room_at, trail_at}
 use Rattle.page_workers.specs.Rounds.{BitmapsToLast, Drew, DrewPage, HasBitmap, IsOutcome, Rested, trail_of}
 use Rattle.page_workers.proofs.Drawn.{drew_pages, drew_results}
-use Rattle.dvi_run.specs.Pages.{Given, IsValueOf, finding}
+use Rattle.dvi_run.specs.Pages.{Setup, IsValueOf, finding}
 use Rattle.dvi_run.specs.Endings.{IsWriteStop, Source, ending_at}
 use Rattle.dvi_run.specs.Looked.{WholeLooks, BrokenLooks, IsAllWritten, IsUnbroken}
-use Rattle.dvi_run.specs.Rounds.{Site, Kept, Trails, Settled, Ended, MayBegin, SameBut, WasCleared, FailedAt, IsOutcomeOf, WroteOutcome, black_of, keys_of, indexed_of}
+use Rattle.dvi_run.specs.Rounds.{Site, IsSteady, Trails, Settled, Ended, MayBegin, SameBut, WasCleared, FailedAt, IsOutcomeOf, WroteOutcome, black_of, keys_of, indexed_of}
 use Rattle.dvi_run.specs.declared.pages.WriteStop.{WriteStop}
 use Rattle.dvi_run.specs.declared.pages.WriteStop.TheVariants as stop
 use Rattle.dvi_run.proofs.Looks.{whole_more, broken_more, keys_are, keys_grew, broken_keys}
 
 -- ---- one page that was drawn
 
-value_of : (g : Given) (reading : Reading) (i : ℕ) (outcome : Result Bitmap PageStop) (old new : Option (List FontKey))
+value_of : (g : Setup) (reading : Reading) (i : ℕ) (outcome : Result Bitmap PageStop) (old new : Option (List FontKey))
     → IsOutcome (finding g reading) (indexed_of g reading) g.sheet i outcome old new → IsOutcomeOf g reading i outcome
 value_of g reading i (Ok page) old new o = (o.0, o.1)
 value_of g reading i (Err (draw.Fault fault at)) old new o = (o.0, o.1)
@@ -48,13 +48,13 @@ value_of g reading i (Err draw.SourceFault) old new o = tt
 value_of g reading i (Err draw.NoMemory) old new o = tt
 
 -- the keys that were looked up for these pages, of which the last had this outcome
-abbrev LooksTo : Result Bitmap PageStop → Finding → Indexed → Given → List ℕ → List FontKey → Type 0
+abbrev LooksTo : Result Bitmap PageStop → Finding → Indexed → Setup → List ℕ → List FontKey → Type 0
 LooksTo (Ok page) Finds indexed g pages keys = WholeLooks Finds indexed g.sheet pages keys
 LooksTo (Err (draw.Fault fault at)) Finds indexed g pages keys = WholeLooks Finds indexed g.sheet pages keys
 LooksTo (Err draw.SourceFault) Finds indexed g pages keys = BrokenLooks Finds indexed g.sheet pages keys
 LooksTo (Err draw.NoMemory) Finds indexed g pages keys = BrokenLooks Finds indexed g.sheet pages keys
 
-looks_to : (g : Given) (reading : Reading) (i : ℕ) (outcome : Result Bitmap PageStop) (old new : Option SeatView) (before after : List ℕ) → asked_at old ≡ Some (keys_of old)
+looks_to : (g : Setup) (reading : Reading) (i : ℕ) (outcome : Result Bitmap PageStop) (old new : Option SeatView) (before after : List ℕ) → asked_at old ≡ Some (keys_of old)
     → asked_at new ≡ Some (keys_of new) → IsOutcome (finding g reading) (indexed_of g reading) g.sheet i outcome (asked_at old) (asked_at new)
     → WholeLooks (finding g reading) (indexed_of g reading) g.sheet before (keys_of old) → after ≡ before ++ i ∷ []
     → LooksTo outcome (finding g reading) (indexed_of g reading) g after (keys_of new)
@@ -82,7 +82,7 @@ looks_to g reading i (Err draw.NoMemory) old new before after e h o w is =
     (subst (λ (ks : List FontKey). BrokenLooks Finds ix g.sheet (before ++ i ∷ []) ks) (sym b.1) (broken_more Finds ix g.sheet before (keys_of old) i b.0 w b.2))
 
 -- why a page isn't written, by what came of it
-module _ (counted : Bool) (before after : Option (List ℕ)) (OutputFails SourceFails : Type 0) (g : Given) (reading : Reading) (i : ℕ) where
+module _ (counted : Bool) (before after : Option (List ℕ)) (OutputFails SourceFails : Type 0) (g : Setup) (reading : Reading) (i : ℕ) where
   abbrev pub Why : WriteStop → Type 0
   Why why = IsWriteStop before after OutputFails SourceFails (IsValueOf g reading i) (Unit {0}) why
 
@@ -129,7 +129,7 @@ whole_outcome counted before after OutputFails page (Err draw.NoMemory) (stop.Dr
 whole_outcome counted before after OutputFails page (Err draw.NoMemory) stop.Output wrote u = absurd wrote
 
 -- a page that was written
-pub wrote_it : (counted : Bool) (before after : Option (List ℕ)) (OutputFails : Type 0) (g : Given) (reading : Reading) (i : ℕ) (done : ℕ) (outcome : Result Bitmap PageStop) → IsOutcomeOf g reading i outcome
+pub wrote_it : (counted : Bool) (before after : Option (List ℕ)) (OutputFails : Type 0) (g : Setup) (reading : Reading) (i : ℕ) (done : ℕ) (outcome : Result Bitmap PageStop) → IsOutcomeOf g reading i outcome
     → WroteOutcome counted before after OutputFails outcome (Ok done) → (page : Bitmap) × IsValueOf g reading i (Ok page) × Appends before after (page_text page) × (done ≡ black_of counted page)
 wrote_it counted before after OutputFails g reading i done (Ok page) value wrote = (page, value, wrote.0, wrote.1)
 wrote_it counted before after OutputFails g reading i done (Err reason) value wrote = absurd wrote
@@ -167,7 +167,7 @@ bitmap_sound (Err stop) ok failed = absurd cc
 module _ {F : Type 0} (s : Site F) where
   -- ---- a worker whose results alone change
 
-  kept_on : (start a b : Worker F) → b.source ≡ a.source → b.seat ≡ a.seat → Kept s start a → Kept s start b
+  kept_on : (start a b : Worker F) → b.source ≡ a.source → b.seat ≡ a.seat → IsSteady s start a → IsSteady s start b
   kept_on start a b source seat k = record {
     fits = subst (λ (x : F). Fits (s.library x) s.bench b.seat) (sym source)
         (subst (λ (o : Option SeatView). Fits (s.library a.source) s.bench o) (sym seat) k.fits);
@@ -202,7 +202,7 @@ module _ {F : Type 0} (s : Site F) where
   -- ---- a worker that drew some pages, none of which was broken off if W
 
   pub record Drawn (W : Type 0) (start now : Worker F) : Type 0 where
-    pub kept : Kept s start now
+    pub kept : IsSteady s start now
     pub trail : Trails s W start now
     pub looked : EndsLooked now
     pub through : W → Whole now
@@ -258,7 +258,7 @@ module _ {F : Type 0} (s : Site F) where
       finds : IsOutcome (finding s.given s.reading) (indexed_of s.given s.reading) s.given.sheet r.page r.outcome (asked_at old.seat) (asked_at new.seat)
       finds =
           subst (λ (u : Option Units). IsOutcome (IsFontOf s.given.library u) (indexed_of s.given s.reading) s.given.sheet r.page r.outcome (asked_at old.seat) (asked_at new.seat)) (st.kept.units ∙ m.units)
-          (subst (λ (l : Option Files). IsOutcome (IsFontOf l (units_at old.seat)) (indexed_of s.given s.reading) s.given.sheet r.page r.outcome (asked_at old.seat) (asked_at new.seat))
+          (subst (λ (l : Option FileTable). IsOutcome (IsFontOf l (units_at old.seat)) (indexed_of s.given s.reading) s.given.sheet r.page r.outcome (asked_at old.seat) (asked_at new.seat))
           (st.kept.library ∙ m.library) d.value)
 
       looked_so : LooksTo r.outcome (finding s.given s.reading) (indexed_of s.given s.reading) s.given new.pages.items (keys_of new.seat)

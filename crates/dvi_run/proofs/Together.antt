@@ -2,7 +2,7 @@
 use Rattle.std.proofs.Common.{◌≡◌, inl, inr, ℕ, ◌+◌, ◌-◌, ◌<◌, ◌≤◌, Bool, List, [], ◌∷◌, ◌++◌, length, get_or, take, drop, Option, Some, None, refl, sym, ap, subst, ◌∙◌, arith, eq-eqb, ne_eqb}
 use Rattle.std.proofs.lemmas.Bool.{cases_lt}
 use Rattle.std.proofs.lemmas.List.{get_or_append_left, get_or_push, get_or-append-add, get_or-drop, get_or-take, length-take-le}
-use Rattle.outside.specs.Library.{Files}
+use Rattle.outside.specs.Library.{FileTable}
 use mathlib.Core.Logic.{dite}
 use native.Mathlib.Decide.{ℕ_discrete}
 use Rattle.cache_core.specs.declared.calls.Call.{Call}
@@ -15,7 +15,7 @@ use Rattle.turn_lock.specs.Laws.{AloneIsHistory}
 use Rattle.page_index.specs.Document.{IsDocument, Reading, pages_begun}
 use Rattle.page_draw.specs.Values.{PageValue}
 use Rattle.page_workers.specs.declared.worker.Worker.{Worker}
-use Rattle.dvi_run.specs.Pages.{Given}
+use Rattle.dvi_run.specs.Pages.{Setup}
 use Rattle.dvi_run.specs.Sampled.{LoadedBy, given_to}
 use Rattle.dvi_run.specs.Promises.{HasEnded, IsNoted}
 use Rattle.dvi_run.specs.Report.{loads_of, report_text}
@@ -148,7 +148,7 @@ each_kept n (c ∷ calls) made none kept = dite (ℕ_discrete c.seat 0)
 
 -- ---- what a worker did
 
-module _ {F : Type 0} (library : F → Option Files) (faults loads : F → ℕ) (g : Given) (reading : Reading) (n : ℕ) (e : EndingSeen) (history : List Call) (k : ℕ) (before after : Worker F)
+module _ {F : Type 0} (library : F → Option FileTable) (faults loads : F → ℕ) (g : Setup) (reading : Reading) (n : ℕ) (e : EndingSeen) (history : List Call) (k : ℕ) (before after : Worker F)
     (ran : Ran (IsDrawnThrough n e) library faults loads g reading history (k + 1) before after) where
   worked : Worked library faults loads g.library None n (status_of e) history k before after
   worked = record {
@@ -195,7 +195,7 @@ pub one_of : {A : Type 0} (xs : List A) (k : ℕ) → k < length xs → A
 one_of [] k lt = absurd (omega arith)
 one_of (x ∷ xs) k lt = x
 
-pub one_history : {F : Type 0} (library : F → Option Files) (faults loads : F → ℕ) (g : Given) (n capacity : ℕ) (old new : Option (List ℕ)) (P : Type 0) (reading : Reading) (values : List PageValue) (e : EndingSeen)
+pub one_history : {F : Type 0} (library : F → Option FileTable) (faults loads : F → ℕ) (g : Setup) (n capacity : ℕ) (old new : Option (List ℕ)) (P : Type 0) (reading : Reading) (values : List PageValue) (e : EndingSeen)
     (history : List Call) (before after : List (Worker F)) → EndsPages old new P (Unit {0}) e reading values → Legal capacity history → AllMade (n + 1) history → own 0 history ≡ [] → FewClaims history
     → EachUsed n before after (λ k was now. Ran (IsDrawnThrough n e) library faults loads g reading history (k + 1) was now) → ((k : ℕ) → k < n → Worker F) → IsOneHistory capacity n (status_of e) history
 one_history library faults loads g n capacity old new P reading values e history before after ends legal made first few ran some = record {
@@ -209,7 +209,7 @@ one_history library faults loads g n capacity old new P reading values e history
 
 -- ---- the pages of a document
 
-module _ {F : Type 0} (library : F → Option Files) (faults loads : F → ℕ) (g : Given) (counted : Bool) (reading : Reading) (capacity n : ℕ) (old new : Option (List ℕ)) (P : Type 0) (e : EndingSeen) (tally : Option Tally)
+module _ {F : Type 0} (library : F → Option FileTable) (faults loads : F → ℕ) (g : Setup) (counted : Bool) (reading : Reading) (capacity n : ℕ) (old new : Option (List ℕ)) (P : Type 0) (e : EndingSeen) (tally : Option Tally)
     (history : List Call) (before after : List (Worker F)) (drew : DrewPages library faults loads g counted reading capacity n old new P e tally history before after) where
   pub are_done : RestIsKept n before after → AreDone library faults loads g.library None capacity n (status_of e) e tally history before after
   are_done rest = record {
@@ -239,7 +239,7 @@ module _ {F : Type 0} (library : F → Option Files) (faults loads : F → ℕ) 
   ends_used = ends_by old new P (SomeUsed n before after (SourceRose faults)) reading drew.ends.0 e drew.ends.2 (λ page is. some_rose faults n before after page (drew.failed page is))
 
 -- the end of a run
-pub ended_at : {F : Type 0} (faults : F → ℕ) (told : Option Files) (settings : Settings) (e : EndingSeen) (tally : Option Tally) (left old new notes_old notes_new : Option (List ℕ)) (notes_before notes_now : ℕ)
+pub ended_at : {F : Type 0} (faults : F → ℕ) (told : Option FileTable) (settings : Settings) (e : EndingSeen) (tally : Option Tally) (left old new notes_old notes_new : Option (List ℕ)) (notes_before notes_now : ℕ)
     (history : List Call) (before after : List (Worker F))
     → IsNoted (given_to told settings) e left old new notes_old notes_new notes_before notes_now (report_text settings tally (loads_of settings.workers after) history e) → CountsTo tally e
     → ((page : ℕ) → e ≡ Source page → SomeUsed settings.workers before after (FailedAt faults page))
@@ -250,7 +250,7 @@ ended_at faults told settings e tally left old new notes_old notes_new notes_bef
     (record { noted = noted; counted = counted; failed = failed; drew = drew })
 
 -- a worker as it was made is ready for a run that is told no library
-pub ready_untold : {F : Type 0} (library : F → Option Files) (w : Worker F) → IsUnused w → IsReady library None w
+pub ready_untold : {F : Type 0} (library : F → Option FileTable) (w : Worker F) → IsUnused w → IsReady library None w
 ready_untold library w unused = record { fresh = record { tells = tt; none = unused.none; counter = unused.counter; loads = unused.loads; pages = unused.pages }; seat = unused.seat }
 
 -- what is so of each element of a list, and of one more that is added, is so of all then
@@ -275,7 +275,7 @@ idle_loaded None before count = record {
 }
 idle_loaded (Some pages) before count = record { most = omega arith; never_falls = omega arith }
 
-idle_worked : {F : Type 0} (library : F → Option Files) (faults loads : F → ℕ) (told : Option Files) (sample : Option ℕ) (n status k : ℕ) (w : Worker F) → IsReady library told w
+idle_worked : {F : Type 0} (library : F → Option FileTable) (faults loads : F → ℕ) (told : Option FileTable) (sample : Option ℕ) (n status k : ℕ) (w : Worker F) → IsReady library told w
     → Worked library faults loads told sample n status [] k w w
 idle_worked library faults loads told sample n status k w ready = record {
   seat = ready.seat;
@@ -294,7 +294,7 @@ idle_worked library faults loads told sample n status k w ready = record {
 not_source : (e : EndingSeen) → IsIdle e → (page : ℕ) → e ≡ Source page → ⊥
 not_source e idle page is = subst IsIdle is idle
 
-pub idle_done : {F : Type 0} (library : F → Option Files) (faults loads : F → ℕ) (told : Option Files) (sample : Option ℕ) (capacity n status : ℕ) (e : EndingSeen) (history : List Call) (ws : List (Worker F))
+pub idle_done : {F : Type 0} (library : F → Option FileTable) (faults loads : F → ℕ) (told : Option FileTable) (sample : Option ℕ) (capacity n status : ℕ) (e : EndingSeen) (history : List Call) (ws : List (Worker F))
     → ((k : ℕ) (d : Worker F) → k < n → IsReady library told (get_or ws k d)) → IsIdle e → history ≡ [] → AreDone library faults loads told sample capacity n status e None history ws ws
 idle_done library faults loads told sample capacity n status e history ws ready idle none =
     subst (λ (h : List Call). AreDone library faults loads told sample capacity n status e None h ws ws) (sym none) (record {
@@ -306,14 +306,14 @@ idle_done library faults loads told sample capacity n status e history ws ready 
       rest = λ k d le. refl;
     })
 
-pub idle_drew : {F : Type 0} (g : Given) (counted : Bool) (old new : Option (List ℕ)) (capacity n status : ℕ) (e : EndingSeen) (history : List Call) (ws : List (Worker F)) (left : Option (List ℕ)) → IsIdle e → history ≡ []
+pub idle_drew : {F : Type 0} (g : Setup) (counted : Bool) (old new : Option (List ℕ)) (capacity n status : ℕ) (e : EndingSeen) (history : List Call) (ws : List (Worker F)) (left : Option (List ℕ)) → IsIdle e → history ≡ []
     → OfRead left (DrewTogether g counted old new capacity n status e None history ws ws)
 idle_drew g counted old new capacity n status e history ws None idle none = tt
 idle_drew g counted old new capacity n status e history ws (Some bytes) idle none = inl (idle, refl, none, refl)
 
 -- ---- the first of some workers
 
-module _ {F : Type 0} (library : F → Option Files) (faults loads : F → ℕ) (g : Given) (counted : Bool) (reading : Reading) (capacity : ℕ) (old new : Option (List ℕ)) (P : Type 0) (e : EndingSeen) (tally : Option Tally)
+module _ {F : Type 0} (library : F → Option FileTable) (faults loads : F → ℕ) (g : Setup) (counted : Bool) (reading : Reading) (capacity : ℕ) (old new : Option (List ℕ)) (P : Type 0) (e : EndingSeen) (tally : Option Tally)
     (history : List Call) (n : ℕ) (before prefix rest : List (Worker F)) (long : length prefix ≡ n) where
   was : (k : ℕ) (d : Worker F) → k < n → get_or (take n before) k d ≡ get_or before k d
   was k d lt = get_or-take n before k d lt
@@ -363,7 +363,7 @@ module _ {F : Type 0} (n : ℕ) (ws : List (Worker F)) (there : n ≤ length ws)
   prefix_at : (k : ℕ) (d : Worker F) → k < length (take n ws) → (k < n) × (get_or (take n ws) k d ≡ get_or ws k d)
   prefix_at k d lt = let below : k < n = subst (λ (m : ℕ). k < m) long_prefix lt in (below, get_or-take n ws k d below)
 
-module _ {F : Type 0} (library : F → Option Files) (told : Option Files) (n : ℕ) (ws : List (Worker F)) (there : n ≤ length ws)
+module _ {F : Type 0} (library : F → Option FileTable) (told : Option FileTable) (n : ℕ) (ws : List (Worker F)) (there : n ≤ length ws)
     (ready : (k : ℕ) (d : Worker F) → k < n → IsReady library told (get_or ws k d)) where
   pub prefix_fresh : (k : ℕ) (d : Worker F) → k < length (take n ws) → IsFresh library told (get_or (take n ws) k d)
   prefix_fresh k d lt = let at = prefix_at n ws there k d lt in subst (λ (w : Worker F). IsFresh library told w) (sym at.1) (ready k d at.0).fresh

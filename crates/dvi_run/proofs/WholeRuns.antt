@@ -3,7 +3,7 @@ use Rattle.std.proofs.Common.{◌≡◌, ◌<◌, ℕ, zero, suc, List, [], ◌�
 use Rattle.std.specs.Prelude.{IsSome, slice_index}
 use Rattle.std.specs.Option.{option_map}
 use Rattle.std.proofs.lemmas.List.{length-append}
-use Rattle.outside.specs.Library.{Files}
+use Rattle.outside.specs.Library.{FileTable}
 use Rattle.pixel_round.specs.declared.units.Units.{Units}
 use Rattle.dvi_commands.specs.Spelling.{DviCommand, Preamble, Pre, Spells}
 use Rattle.dvi_commands.specs.Reading.{Placed, command_of}
@@ -15,7 +15,7 @@ use Rattle.font_decode.specs.Laws.{AreByteFiles}
 use Rattle.page_draw.specs.Values.{PageValue}
 use Rattle.page_draw.specs.Drawn.{IsPageValue}
 use Rattle.page_draw.specs.Laws.{EachPageHasOneValue}
-use Rattle.dvi_run.specs.Pages.{Given, HaveValues, IsRun, IsValueOf}
+use Rattle.dvi_run.specs.Pages.{Setup, HaveValues, IsRun, IsValueOf}
 use Rattle.dvi_run.specs.Laws.{EachDocumentHasOneRun, OneReading, OneRun}
 
 -- ---- a document begins with a preamble, and so has units
@@ -52,7 +52,7 @@ has_units res bytes (p ∷ before) d =
 
 -- ---- a value for each page
 
-module _ (exactly : EachPageHasOneValue) (g : Given) (files : Files) (told : g.library ≡ Some files) (byte_files : AreByteFiles files)
+module _ (exactly : EachPageHasOneValue) (g : Setup) (files : FileTable) (told : g.library ≡ Some files) (byte_files : AreByteFiles files)
     (r : Reading) (u : Units) (is : document_units g.res r ≡ Some u) where
   abbrev indexed : Indexed
   indexed = record { res = g.res; reading = r }
@@ -63,7 +63,7 @@ module _ (exactly : EachPageHasOneValue) (g : Given) (files : Files) (told : g.l
         one.value,
         (
           one.looks,
-          subst (λ (o : Option Files). IsPageValue (IsFontOf o (document_units g.res r)) indexed g.sheet i one.value one.looks) (sym told)
+          subst (λ (o : Option FileTable). IsPageValue (IsFontOf o (document_units g.res r)) indexed g.sheet i one.value one.looks) (sym told)
               (subst (λ (m : Option Units). IsPageValue (IsFontOf (Some files) m) indexed g.sheet i one.value one.looks) (sym is) one.has),
         ),
       )
@@ -77,7 +77,7 @@ module _ (exactly : EachPageHasOneValue) (g : Given) (files : Files) (told : g.l
 
 -- ---- exactly one
 
-same_length : (one : OneRun) (g : Given) (files : Files) (bytes : List ℕ) (r s : Reading) (v w : List PageValue) → g.library ≡ Some files
+same_length : (one : OneRun) (g : Setup) (files : FileTable) (bytes : List ℕ) (r s : Reading) (v w : List PageValue) → g.library ≡ Some files
     → IsRun g bytes r v → IsRun g bytes s w → length v ≡ length w → w ≡ v
 same_length one g files bytes r s v w told a b same =
     let more = one g files bytes r s v w told a b (omega (arith, same)) in

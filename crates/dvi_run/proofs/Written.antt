@@ -14,7 +14,7 @@ use Rattle.vf_expand.specs.Faults.{seen_fault}
 use Rattle.page_draw.specs.Values.{PageValue, PlacedFault}
 use Rattle.page_draw.specs.declared.stop.PageStop.TheVariants as draw
 use Rattle.pbm_output.specs.Pbm.{page_text}
-use Rattle.dvi_run.specs.Pages.{AreValues, Given, HaveValues, IsValueOf, failing_page, run_text, whole_pages}
+use Rattle.dvi_run.specs.Pages.{AreValues, Setup, HaveValues, IsValueOf, failing_page, run_text, whole_pages}
 use Rattle.dvi_run.specs.Laws.{good}
 use Rattle.dvi_run.specs.Endings.{EndingSeen, EndsPages, IsWriteStop, Stopped, Wrote, WroteBefore, Written, WrotePrefix, WroteSome, ending_at}
 use Rattle.dvi_run.specs.Rounds.{black_of}
@@ -25,7 +25,7 @@ use Rattle.dvi_run.proofs.Prefixes.{runs_end, runs_of_good_pages, whole_all, who
 
 -- ---- one value more
 
-values_more : (g : Given) (r : Reading) (i n : ℕ) (values : List PageValue) (v : PageValue) → HaveValues g r i values → n ≡ i + length values → IsValueOf g r n v
+values_more : (g : Setup) (r : Reading) (i n : ℕ) (values : List PageValue) (v : PageValue) → HaveValues g r i values → n ≡ i + length values → IsValueOf g r n v
     → HaveValues g r i (values ++ v ∷ [])
 values_more g r i n [] v have is value =
     let here : n ≡ i = omega (arith, is) in
@@ -36,21 +36,21 @@ values_more g r i n (w ∷ values) v have is value =
 
 -- the pages before the one with a number, from 0, have bitmaps, and they were written; with their
 -- black dots, where they are counted
-pub record IsWrittenTo (g : Given) (r : Reading) (old now : Option (List ℕ)) (i : ℕ) (counted : Bool) (black : ℕ) : Type 0 where
+pub record IsWrittenTo (g : Setup) (r : Reading) (old now : Option (List ℕ)) (i : ℕ) (counted : Bool) (black : ℕ) : Type 0 where
   pub pages : List Bitmap
   pub count : length pages ≡ i
   pub values : HaveValues g r 0 (map good pages)
   pub grew : Appends old now (flat_map page_text pages)
   pub dots : counted ≡ true → black ≡ sum_by black_count pages
 
-unfoldable pub written_none : (g : Given) (r : Reading) (old : Option (List ℕ)) (counted : Bool) → IsWrittenTo g r old old 0 counted 0
+unfoldable pub written_none : (g : Setup) (r : Reading) (old : Option (List ℕ)) (counted : Bool) → IsWrittenTo g r old old 0 counted 0
 written_none g r old counted = record { pages = []; count = refl; values = tt; grew = grown_none old; dots = λ is. refl }
 
 -- where they are counted
 pub all_black : (counted : Bool) (page : Bitmap) → counted ≡ true → black_of counted page ≡ black_count page
 all_black counted page is = ap (λ (b : Bool). black_of b page) is
 
-module _ (g : Given) (r : Reading) (old now : Option (List ℕ)) (i : ℕ) (counted : Bool) (black : ℕ) (w : IsWrittenTo g r old now i counted black) where
+module _ (g : Setup) (r : Reading) (old now : Option (List ℕ)) (i : ℕ) (counted : Bool) (black : ℕ) (w : IsWrittenTo g r old now i counted black) where
   pub size : length (map good w.pages) ≡ i
   size = length-map w.pages good ∙ w.count
 

@@ -13,7 +13,7 @@ use Rattle.page_draw.specs.Values.{PageValue, fault_at}
 use Rattle.page_draw.specs.declared.stop.PageStop.TheVariants as draw
 use Rattle.pbm_output.specs.Pbm.{page_text}
 use Rattle.dvi_run.specs.Reading.{IsAllRead, OfRead}
-use Rattle.dvi_run.specs.Pages.{FailingPage, Given, IsRun, run_fault, run_text, whole_pages}
+use Rattle.dvi_run.specs.Pages.{FailingPage, Setup, IsRun, run_fault, run_text, whole_pages}
 use Rattle.dvi_run.specs.declared.ending.Ending.{Ending}
 use Rattle.dvi_run.specs.declared.ending.Ending.TheVariants as code
 use Rattle.dvi_run.specs.declared.pages.WriteStop.{WriteStop}
@@ -124,7 +124,7 @@ pub record WroteSome (old new : Option (List ℕ)) (values : List PageValue) : T
   pub grew : Appends old new (flat_map page_text (take count (whole_pages values)))
 
 -- the bytes are a document, and its reading and the values of its first pages have P
-abbrev pub OfRun : Given → List ℕ → (Reading → List PageValue → Type 0) → Type 0
+abbrev pub OfRun : Setup → List ℕ → (Reading → List PageValue → Type 0) → Type 0
 OfRun g bytes P =
     (reading : Reading) × (values : List PageValue) × IsRun g bytes reading values
     × P reading values
@@ -140,7 +140,7 @@ module _ {F : Type 0} (faults : F → ℕ) where
 -- ---- the line and its cause
 
 -- what the line says is so, where the input tells its bytes
-abbrev pub IsPlaced : Given → EndingSeen → Option (List ℕ) → Option (List ℕ) → Option (List ℕ)
+abbrev pub IsPlaced : Setup → EndingSeen → Option (List ℕ) → Option (List ℕ) → Option (List ℕ)
     → Type 0
 IsPlaced g (Document fault) left old new = OfRead left (λ bytes. IsFirstFault g.res bytes fault)
 IsPlaced g (Page page) left old new =
@@ -202,7 +202,7 @@ module _ (old new : Option (List ℕ)) (OutputFailed SourceFailed : Type 0) wher
 
   -- what holds of bytes that were read and led to this end; nothing was written where the output is
   -- kept
-  abbrev pub EndsBytes : (OutputKept : Type 0) → Given → List ℕ → EndingSeen → Type 0
+  abbrev pub EndsBytes : (OutputKept : Type 0) → Setup → List ℕ → EndingSeen → Type 0
   EndsBytes OutputKept g bytes Written = OfRun g bytes (Wrote old new)
   EndsBytes OutputKept g bytes (Document fault) = IsFirstFault g.res bytes fault × OutputKept
   EndsBytes OutputKept g bytes (Page page) = OfRun g bytes (λ _. Stopped old new page)
@@ -216,7 +216,7 @@ module _ (old new : Option (List ℕ)) (OutputFailed SourceFailed : Type 0) wher
 
   -- what holds of a run that ends so; `left` and `rest` are what the input has left before and
   -- after
-  abbrev pub IsEnding : (OutputKept InputFailed : Type 0) → Given → Option (List ℕ)
+  abbrev pub IsEnding : (OutputKept InputFailed : Type 0) → Setup → Option (List ℕ)
       → Option (List ℕ) → EndingSeen → Type 0
   IsEnding OutputKept InputFailed g left rest Written =
       IsAllRead left rest × OfRead left (λ bytes. OfRun g bytes (Wrote old new))

@@ -2,7 +2,7 @@
 use Rattle.std.specs.Prelude.{◌≡◌, ◌<◌, ◌≤◌, ℕ, suc, Option, List, [], ◌∷◌, ◌++◌, length, map, Some, None, Ok, Err, unwrap_or}
 use Rattle.std.specs.List.{flat_map}
 use Rattle.std.specs.Io.KnownBytes.{Appends}
-use Rattle.outside.specs.Library.{Files}
+use Rattle.outside.specs.Library.{FileTable}
 use Rattle.packed_rows.specs.Bitmap.{Bitmap}
 use Rattle.page_index.specs.Document.{IsDocument, Reading}
 use Rattle.page_index.specs.Pages.{eop_at}
@@ -15,7 +15,7 @@ use Rattle.sample_maker.specs.Sample.{sample_document}
 use Rattle.dvi_run.specs.Reading.{read_of}
 use Rattle.dvi_run.specs.Shares.{AreShared, EachPageIsDrawnOnce}
 use Rattle.dvi_run.specs.Endings.{OfRun, Stopped, Wrote}
-use Rattle.dvi_run.specs.Pages.{FailingPage, Given, IsRun, IsWholeRun, failing_page, run_fault, run_text}
+use Rattle.dvi_run.specs.Pages.{FailingPage, Setup, IsRun, IsWholeRun, failing_page, run_fault, run_text}
 
 abbrev pub good : Bitmap → PageValue
 good page = Ok page
@@ -44,19 +44,19 @@ FaultsEndTheRun = (values rest : List PageValue) (page : FailingPage) → run_fa
 
 -- bytes are one document
 abbrev pub OneReading : Type 0
-OneReading = (g : Given) (bytes : List ℕ) (r s : Reading) (v w : List PageValue) → IsRun g bytes r v
+OneReading = (g : Setup) (bytes : List ℕ) (r s : Reading) (v w : List PageValue) → IsRun g bytes r v
     → IsRun g bytes s w → r ≡ s
 
 -- where the font files are told, its pages have one value each: of two lists the longer one begins
 -- with the other
 abbrev pub OneRun : Type 0
-OneRun = (g : Given) (files : Files) (bytes : List ℕ) (r s : Reading) (v w : List PageValue)
+OneRun = (g : Setup) (files : FileTable) (bytes : List ℕ) (r s : Reading) (v w : List PageValue)
     → g.library ≡ Some files
     → IsRun g bytes r v → IsRun g bytes s w → length v ≤ length w
     → (rest : List PageValue) × (w ≡ v ++ rest)
 
 -- these are the values of all pages of a document, and there are no others
-pub record HasOneRun (g : Given) (bytes : List ℕ) (reading : Reading) : Type 0 where
+pub record HasOneRun (g : Setup) (bytes : List ℕ) (reading : Reading) : Type 0 where
   pub values : List PageValue
   pub whole : IsWholeRun g bytes reading values
   pub only : (s : Reading) (others : List PageValue) → IsWholeRun g bytes s others
@@ -65,28 +65,28 @@ pub record HasOneRun (g : Given) (bytes : List ℕ) (reading : Reading) : Type 0
 -- where the font files are told, and are files of bytes, a document has exactly one list of the
 -- values of all its pages
 abbrev pub EachDocumentHasOneRun : Type 0
-EachDocumentHasOneRun = (g : Given) (files : Files) (bytes : List ℕ) (reading : Reading)
+EachDocumentHasOneRun = (g : Setup) (files : FileTable) (bytes : List ℕ) (reading : Reading)
     → AreByteFiles files → g.library ≡ Some files → IsDocument g.res bytes reading
     → HasOneRun g bytes reading
 
 -- the first of some values are values too
 abbrev pub RunsHavePrefixes : Type 0
 RunsHavePrefixes =
-    (g : Given) (bytes : List ℕ) (reading : Reading) (values rest : List PageValue)
+    (g : Setup) (bytes : List ℕ) (reading : Reading) (values rest : List PageValue)
     → IsRun g bytes reading (values ++ rest)
     → IsRun g bytes reading values
 
 -- each page has an end, so that its value is that of commands up to there
 abbrev pub EachPageHasItsEop : Type 0
 EachPageHasItsEop =
-    (g : Given) (bytes : List ℕ) (reading : Reading) (values : List PageValue) (i : ℕ)
+    (g : Setup) (bytes : List ℕ) (reading : Reading) (values : List PageValue) (i : ℕ)
     → IsRun g bytes reading values → i < length values
     → eop_at i reading ≡ Some (unwrap_or (eop_at i reading) 0)
 
 -- and no bytes are a document and have a fault
 abbrev pub RunsHaveNoFault : Type 0
 RunsHaveNoFault =
-    (g : Given) (bytes : List ℕ) (reading : Reading) (values : List PageValue) (fault : DocFault)
+    (g : Setup) (bytes : List ℕ) (reading : Reading) (values : List PageValue) (fault : DocFault)
     → IsRun g bytes reading values
     → IsFirstFault g.res bytes fault → ⊥
 
@@ -100,7 +100,7 @@ GrewAlike old new other later = (text : List ℕ) × Appends old new text × App
 -- whatever their workers, caches and schedules
 abbrev pub GoodRunsWriteAlike : Type 0
 GoodRunsWriteAlike =
-    (g : Given) (files : Files) (bytes : List ℕ) (old new other later : Option (List ℕ))
+    (g : Setup) (files : FileTable) (bytes : List ℕ) (old new other later : Option (List ℕ))
     → g.library ≡ Some files
     → OfRun g bytes (Wrote old new) → OfRun g bytes (Wrote other later)
     → GrewAlike old new other later
@@ -109,7 +109,7 @@ GoodRunsWriteAlike =
 -- one text
 abbrev pub StoppedRunsWriteAlike : Type 0
 StoppedRunsWriteAlike =
-    (g : Given) (files : Files) (bytes : List ℕ) (old new other later : Option (List ℕ))
+    (g : Setup) (files : FileTable) (bytes : List ℕ) (old new other later : Option (List ℕ))
     (p q : FailingPage) → g.library ≡ Some files
     → OfRun g bytes (λ _. Stopped old new p) → OfRun g bytes (λ _. Stopped other later q)
     → (p ≡ q) × GrewAlike old new other later

@@ -2,7 +2,7 @@
 use Rattle.std.specs.Prelude.{◌≡◌, ◌≤◌, ℕ, suc, List, [], ◌∷◌, length, Option, Some, None, Ok, Err}
 use Rattle.std.specs.Option.{option_map}
 use Rattle.std.specs.List.{flat_map}
-use Rattle.outside.specs.Library.{Files}
+use Rattle.outside.specs.Library.{FileTable}
 use Rattle.outside.specs.declared.keys.FontKey.{FontKey}
 use Rattle.packed_rows.specs.Bitmap.{Bitmap}
 use Rattle.page_index.specs.Document.{IsDocument, Reading, pages_begun}
@@ -18,46 +18,46 @@ use Rattle.command_line.specs.declared.settings.Settings.{Settings}
 
 -- what a run is given besides its document: all the font files, where they are told, the dots for
 -- an inch, and the sheet
-pub record Given : Type 0 where
-  pub library : Option Files
+pub record Setup : Type 0 where
+  pub library : Option FileTable
   pub res : ℕ
   pub sheet : Sheet
 
-abbrev pub given_by : Option Files → Settings → Given
-given_by library settings = record { library = library; res = settings.res; sheet = settings.sheet }
+abbrev pub setup_by : Option FileTable → Settings → Setup
+setup_by library settings = record { library = library; res = settings.res; sheet = settings.sheet }
 
 -- ---- the values of the pages
 
 -- what is found for a key, with the units of the document
-abbrev pub finding : Given → Reading → Finding
+abbrev pub finding : Setup → Reading → Finding
 finding g reading = IsFontOf g.library (document_units g.res reading)
 
 -- the page with a number, from 0, has this value, by some look-ups. Where the font files are told
 -- it has no other
-abbrev pub IsValueOf : Given → Reading → ℕ → PageValue → Type 0
+abbrev pub IsValueOf : Setup → Reading → ℕ → PageValue → Type 0
 IsValueOf g reading i value =
     (looks : List FontKey) × IsPageValue (finding g reading)
     (record { res = g.res; reading = reading }) g.sheet i value looks
 
 -- the pages from a number on have these values, as far as the list goes
-abbrev pub HaveValues : Given → Reading → ℕ → List PageValue → Type 0
+abbrev pub HaveValues : Setup → Reading → ℕ → List PageValue → Type 0
 HaveValues g reading i [] = Unit {0}
 HaveValues g reading i (value ∷ values) =
     IsValueOf g reading i value × HaveValues g reading (suc i) values
 
 -- these are the values of the document's first pages, in the order of the file
-pub record AreValues (g : Given) (reading : Reading) (values : List PageValue) : Type 0 where
+pub record AreValues (g : Setup) (reading : Reading) (values : List PageValue) : Type 0 where
   pub few : length values ≤ pages_begun reading
   pub are : HaveValues g reading 0 values
 
 -- the bytes are a document, and its first pages have these values
-pub record IsRun (g : Given) (bytes : List ℕ) (reading : Reading)
+pub record IsRun (g : Setup) (bytes : List ℕ) (reading : Reading)
     (values : List PageValue) : Type 0 where
   pub document : IsDocument g.res bytes reading
   pub pages : AreValues g reading values
 
 -- and there are no further pages
-pub record IsWholeRun (g : Given) (bytes : List ℕ) (reading : Reading)
+pub record IsWholeRun (g : Setup) (bytes : List ℕ) (reading : Reading)
     (values : List PageValue) : Type 0 where
   pub run : IsRun g bytes reading values
   pub all : length values ≡ pages_begun reading

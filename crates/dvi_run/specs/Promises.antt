@@ -1,7 +1,7 @@
 -- What holds of a run: why it ended as its status says, what it wrote and noted, and what was
 -- drawn.
 use Rattle.std.specs.Prelude.{◌≡◌, ◌⊎◌, ◌≤◌, ℕ, List, [], ◌∷◌, Option, Some, None}
-use Rattle.outside.specs.Library.{Files}
+use Rattle.outside.specs.Library.{FileTable}
 use Rattle.cache_core.specs.declared.calls.Call.{Call}
 use Rattle.page_index.specs.Document.{Reading}
 use Rattle.page_index.specs.Faults.{IsFirstFault}
@@ -9,7 +9,7 @@ use Rattle.page_index.specs.declared.faults.DocFault.{DocFault}
 use Rattle.page_draw.specs.Values.{PageValue}
 use Rattle.page_workers.specs.declared.worker.Worker.{Worker}
 use Rattle.dvi_run.specs.Reading.{IsAllRead, OfRead}
-use Rattle.dvi_run.specs.Pages.{FailingPage, Given, IsRun, IsWholeRun, run_fault}
+use Rattle.dvi_run.specs.Pages.{FailingPage, Setup, IsRun, IsWholeRun, run_fault}
 use Rattle.dvi_run.specs.Lines.{line_of}
 use Rattle.dvi_run.specs.Report.{loads_of, report_text}
 use Rattle.dvi_run.specs.Tally.{CountsTo}
@@ -23,22 +23,22 @@ use Rattle.dvi_run.specs.declared.tally.Tally.{Tally}
 -- ---- parts of the claims: what holds of the bytes that were read
 
 -- they have a first fault
-abbrev pub HasFault : Given → List ℕ → Type 0
+abbrev pub HasFault : Setup → List ℕ → Type 0
 HasFault g bytes = (fault : DocFault) × IsFirstFault g.res bytes fault
 
 -- if they have a first fault the status is 2, 6 or 9
-abbrev pub FaultIsNamed : Given → ℕ → List ℕ → Type 0
+abbrev pub FaultIsNamed : Setup → ℕ → List ℕ → Type 0
 FaultIsNamed g status bytes =
     (fault : DocFault) → IsFirstFault g.res bytes fault → IsAmong status (2 ∷ 6 ∷ 9 ∷ [])
 
 -- they are a document with a page that has no bitmap, which has this status
-abbrev pub HasFailingPage : Given → ℕ → List ℕ → Type 0
+abbrev pub HasFailingPage : Setup → ℕ → List ℕ → Type 0
 HasFailingPage g status bytes = (page : FailingPage) × (status ≡ page_status page.fault)
     × OfRun g bytes (λ _ values. run_fault values ≡ Some page)
 
 -- if they are a document with a page that has no bitmap the status is the first such page's, or
 -- something failed before
-abbrev pub FailingPageIsNamed : Given → ℕ → List ℕ → Type 0
+abbrev pub FailingPageIsNamed : Setup → ℕ → List ℕ → Type 0
 FailingPageIsNamed g status bytes =
     (reading : Reading) (values : List PageValue) (page : FailingPage)
     → IsRun g bytes reading values → run_fault values ≡ Some page
@@ -46,28 +46,28 @@ FailingPageIsNamed g status bytes =
 
 -- if they are a document whose pages all have a bitmap all of them are written: the status is 0, or
 -- 8, unless memory runs out
-abbrev pub GoodRunIsWritten : Given → ℕ → List ℕ → Type 0
+abbrev pub GoodRunIsWritten : Setup → ℕ → List ℕ → Type 0
 GoodRunIsWritten g status bytes = (reading : Reading) (values : List PageValue)
     → IsWholeRun g bytes reading values → run_fault values ≡ None → IsAmong status (0 ∷ 8 ∷ 9 ∷ [])
 
 -- if they are a document whose pages all have a bitmap the status is 0 or 9
-abbrev pub GoodRunIsWhole : Given → ℕ → List ℕ → Type 0
+abbrev pub GoodRunIsWhole : Setup → ℕ → List ℕ → Type 0
 GoodRunIsWhole g status bytes = (reading : Reading) (values : List PageValue)
     → IsWholeRun g bytes reading values → run_fault values ≡ None → IsAmong status (0 ∷ 9 ∷ [])
 
 -- they are a document, and all pages before the first that has no bitmap were written, and nothing
 -- else
-abbrev pub StoppedAt : Given → ℕ → (old new : Option (List ℕ)) → List ℕ → Type 0
+abbrev pub StoppedAt : Setup → ℕ → (old new : Option (List ℕ)) → List ℕ → Type 0
 StoppedAt g status old new bytes = (page : FailingPage) × (status ≡ page_status page.fault)
     × OfRun g bytes (λ _. Stopped old new page)
 
 -- they are a document, and the pages before some page were written, which have bitmaps
-abbrev pub StoppedBefore : Given → (old new : Option (List ℕ)) → List ℕ → Type 0
+abbrev pub StoppedBefore : Setup → (old new : Option (List ℕ)) → List ℕ → Type 0
 StoppedBefore g old new bytes = (page : ℕ) × OfRun g bytes (WroteBefore old new page)
 
 -- they are a document, and the pages before some page were written, and a prefix of its own text;
 -- it and they have bitmaps
-abbrev pub StoppedIn : Given → (old new : Option (List ℕ)) → List ℕ → Type 0
+abbrev pub StoppedIn : Setup → (old new : Option (List ℕ)) → List ℕ → Type 0
 StoppedIn g old new bytes = (page : ℕ) × OfRun g bytes (λ _. WrotePrefix old new page)
 
 -- ---- the claims
@@ -76,7 +76,7 @@ StoppedIn g old new bytes = (page : ℕ) × OfRun g bytes (λ _. WrotePrefix old
 -- the count of faults of the input, the fonts' source, the output and the notes rose in this run.
 -- Notes that fail decide nothing but between 0 and 8: `refused`, `stopped` and `whole` don't ask
 -- about them.
-pub record IsCaused (g : Given) (status : ℕ) (left : Option (List ℕ))
+pub record IsCaused (g : Setup) (status : ℕ) (left : Option (List ℕ))
     (InputFailed SourceFailed OutputFailed NotesFailed : Type 0) : Type 0 where
   -- which statuses there are
   pub answers : IsAmong status statuses
@@ -86,7 +86,8 @@ pub record IsCaused (g : Given) (status : ℕ) (left : Option (List ℕ))
   -- 3 and 4: exactly where a page of the document has no bitmap, 4 where the fault is its font's,
   -- and neither a write nor the source failed before
   pub page : IsAmong status (3 ∷ 4 ∷ []) → OfRead left (HasFailingPage g status)
-  pub stopped : (files : Files) → g.library ≡ Some files → OfRead left (FailingPageIsNamed g status)
+  pub stopped : (files : FileTable) → g.library ≡ Some files
+      → OfRead left (FailingPageIsNamed g status)
   -- 5: only where the source failed
   pub source : status ≡ 5 → SourceFailed
   -- 6: only where the input failed
@@ -96,16 +97,16 @@ pub record IsCaused (g : Given) (status : ℕ) (left : Option (List ℕ))
   -- 8: only where the notes failed
   pub notes : status ≡ 8 → NotesFailed
   -- 0 or 8, but for want of memory: where all pages have a bitmap and nothing failed but the notes
-  pub whole : (files : Files) → g.library ≡ Some files
+  pub whole : (files : FileTable) → g.library ≡ Some files
       → ¬ InputFailed → ¬ SourceFailed → ¬ OutputFailed → OfRead left (GoodRunIsWritten g status)
   -- 0, but for want of memory: where all pages have a bitmap and nothing failed
-  pub complete : (files : Files) → g.library ≡ Some files
+  pub complete : (files : FileTable) → g.library ≡ Some files
       → ¬ InputFailed → ¬ SourceFailed → ¬ OutputFailed → ¬ NotesFailed
       → OfRead left (GoodRunIsWhole g status)
 
 -- What was read, and written where the run ended well. `left` and `rest` are what the input had
 -- left before and after, `old` and `new` what the output told.
-pub record IsWritten (g : Given) (status : ℕ) (left rest old new : Option (List ℕ)) : Type 0 where
+pub record IsWritten (g : Setup) (status : ℕ) (left rest old new : Option (List ℕ)) : Type 0 where
   -- 0 and 8: exactly the texts of all pages, which have a bitmap
   pub whole : WroteAll status → OfRead left (λ bytes. OfRun g bytes (Wrote old new))
   -- 0, 2 to 5, 7 and 8: the input was read to its end, or to the limit of a document and one byte
@@ -114,7 +115,7 @@ pub record IsWritten (g : Given) (status : ℕ) (left rest old new : Option (Lis
 
 -- What was written where the run was refused, by the status. Nothing was written where the output
 -- was kept.
-pub record IsCutShort (g : Given) (status : ℕ) (left old new : Option (List ℕ))
+pub record IsCutShort (g : Setup) (status : ℕ) (left old new : Option (List ℕ))
     (OutputKept : Type 0) : Type 0 where
   -- 2 and 6: nothing
   pub nothing : IsAmong status (2 ∷ 6 ∷ []) → OutputKept
@@ -129,7 +130,7 @@ pub record IsCutShort (g : Given) (status : ℕ) (left old new : Option (List �
       → OutputKept ⊎ OfRead left (λ bytes. OfRun g bytes (λ _. WroteSome old new))
 
 -- What the notes took of the report of a run that ends so, and that its last line is true.
-pub record IsNoted (g : Given) (e : EndingSeen) (left old new notes_old notes_new : Option (List ℕ))
+pub record IsNoted (g : Setup) (e : EndingSeen) (left old new notes_old notes_new : Option (List ℕ))
     (notes_before notes_now : ℕ) (report : List ℕ) : Type 0 where
   -- what the line names is the document's: its first fault, its page without a bitmap with the
   -- fault and its place, or the page that the source or the output failed at
@@ -140,7 +141,7 @@ pub record IsNoted (g : Given) (e : EndingSeen) (left old new notes_old notes_ne
 
 -- The end of a run over the workers that its settings name: what it noted, whose source failed,
 -- what was written whole, and what was drawn.
-pub record HasEnded {F : Type 0} (faults : F → ℕ) (told : Option Files) (settings : Settings)
+pub record HasEnded {F : Type 0} (faults : F → ℕ) (told : Option FileTable) (settings : Settings)
     (status : ℕ) (e : EndingSeen)
     (tally : Option Tally) (left old new notes_old notes_new : Option (List ℕ))
     (notes_before notes_now : ℕ)

@@ -2,7 +2,7 @@
 use Rattle.std.specs.Prelude.{◌≡◌, ◌⊎◌, ℕ, ◌+◌, ◌*◌, ◌^◌, ◌≤◌, Bool, cond, List, [], ◌∷◌, ◌++◌, Option, Some, None, Result, Ok, Err, IfSome}
 use Rattle.std.specs.Io.KnownBytes.{Appends}
 use Rattle.outside.specs.Counts.{Rose}
-use Rattle.outside.specs.Library.{Files}
+use Rattle.outside.specs.Library.{FileTable}
 use Rattle.outside.specs.Streams.{AppendsPrefix}
 use Rattle.outside.specs.declared.keys.FontKey.{FontKey}
 use Rattle.packed_rows.specs.Bitmap.{Bitmap}
@@ -24,21 +24,24 @@ use Rattle.page_workers.specs.declared.worker.Worker.{Worker}
 use Rattle.page_workers.specs.Seats.{Fits, asked_at, library_at, units_at, room_at, own_calls}
 use Rattle.page_workers.specs.Paper.{HasNoPaper}
 use Rattle.page_workers.specs.Rounds.{trail_of}
-use Rattle.dvi_run.specs.Pages.{Given, IsValueOf, finding}
+use Rattle.dvi_run.specs.Pages.{Setup, IsValueOf, finding}
 use Rattle.dvi_run.specs.Looked.{BrokenLooks, WholeLooks}
 use Rattle.dvi_run.specs.declared.pages.WriteStop.{WriteStop}
 use Rattle.dvi_run.specs.declared.pages.WriteStop.TheVariants as stop
+use Rattle.page_index.specs.Limits.{MOST_PAGES}
+use Rattle.vf_expand.specs.Course.{MOST_FLAT}
 
 -- what all of a run's rounds have in common
 pub record Site (F : Type 0) : Type 0 where
-  pub library : F → Option Files
+  pub library : F → Option FileTable
   pub faults : F → ℕ
   pub loads : F → ℕ
   pub bench : Bench
-  pub given : Given
+  pub given : Setup
   pub reading : Reading
 
-abbrev pub site : {F : Type 0} → (F → Option Files) → (F → ℕ) → (F → ℕ) → Bench → Option Files
+abbrev pub site : {F : Type 0} → (F → Option FileTable) → (F → ℕ) → (F → ℕ) → Bench
+    → Option FileTable
     → Indexed → Sheet → Site F
 site library faults loads bench told indexed sheet =
     record {
@@ -55,11 +58,11 @@ abbrev pub keys_of : Option SeatView → List FontKey
 keys_of None = []
 keys_of (Some s) = looks (own_calls s)
 
-abbrev pub indexed_of : Given → Reading → Indexed
+abbrev pub indexed_of : Setup → Reading → Indexed
 indexed_of g reading = record { res = g.res; reading = reading }
 
 -- what came of a page is the page's own
-abbrev pub IsOutcomeOf : Given → Reading → ℕ → Result Bitmap PageStop → Type 0
+abbrev pub IsOutcomeOf : Setup → Reading → ℕ → Result Bitmap PageStop → Type 0
 IsOutcomeOf g reading i (Ok page) = IsValueOf g reading i (Ok page)
 IsOutcomeOf g reading i (Err (draw.Fault fault at)) =
     IsValueOf g reading i (fault_at (seen_fault fault) at)
@@ -68,7 +71,7 @@ IsOutcomeOf g reading i (Err draw.NoMemory) = Unit {0}
 
 module _ {F : Type 0} (s : Site F) where
   -- what holds of a worker throughout
-  pub record Kept (start now : Worker F) : Type 0 where
+  pub record IsSteady (start now : Worker F) : Type 0 where
     pub fits : Fits (s.library now.source) s.bench now.seat
     pub library : library_at now.seat ≡ library_at start.seat
     pub units : units_at now.seat ≡ units_at start.seat
@@ -81,7 +84,7 @@ module _ {F : Type 0} (s : Site F) where
 
   -- the worker has no result, and each page that it drew had a bitmap
   pub record Settled (start now : Worker F) : Type 0 where
-    pub kept : Kept start now
+    pub kept : IsSteady start now
     pub none : now.results.items ≡ []
     pub counter : now.counter ≡ None
     pub trail : Trails (Unit {0}) start now
@@ -90,7 +93,7 @@ module _ {F : Type 0} (s : Site F) where
 
   -- what is so of a worker when the rounds are over
   pub record Ended (start now : Worker F) : Type 0 where
-    pub kept : Kept start now
+    pub kept : IsSteady start now
     pub none : now.results.items ≡ []
     pub counter : now.counter ≡ None
     pub trail : Trails ⊥ start now
@@ -108,7 +111,7 @@ pub record MayBegin {F : Type 0} (s : Site F) (w : Worker F) : Type 0 where
   pub counter : w.counter ≡ None
   pub pages : w.pages.items ≡ []
   pub keys : keys_of w.seat ≡ []
-  pub room : 1000000 * 2 ^ 24 ≤ room_at w.loads w.seat
+  pub room : MOST_PAGES * MOST_FLAT ≤ room_at w.loads w.seat
 
 -- ---- a result that is written
 
@@ -151,7 +154,7 @@ pub record FailedAt {F : Type 0} (faults : F → ℕ) (page : ℕ) (start now : 
 -- ---- a whole run's pages
 
 -- a worker that was not used yet; it tells what the run is told
-pub record IsFresh {F : Type 0} (library : F → Option Files) (told : Option Files)
+pub record IsFresh {F : Type 0} (library : F → Option FileTable) (told : Option FileTable)
     (w : Worker F) : Type 0 where
   pub tells : IfSome told (λ l. library w.source ≡ Some l)
   pub none : w.results.items ≡ []
@@ -163,8 +166,8 @@ pub record IsFresh {F : Type 0} (library : F → Option Files) (told : Option Fi
 -- the pages that it drew, a claim is given up at their end alone, and nowhere where the run is
 -- whole, nor is a page broken off then, and it loaded at most five files for each look that was no
 -- hit. It has neither a seat nor a result any more, and its source tells what the run was told
-pub record Ran {F : Type 0} (Whole : Type 0) (library : F → Option Files) (faults loads : F → ℕ)
-    (g : Given) (reading : Reading) (history : List Call) (number : ℕ)
+pub record Ran {F : Type 0} (Whole : Type 0) (library : F → Option FileTable) (faults loads : F → ℕ)
+    (g : Setup) (reading : Reading) (history : List Call) (number : ℕ)
     (before after : Worker F) : Type 0 where
   pub seat : after.seat ≡ None
   pub none : after.results.items ≡ []

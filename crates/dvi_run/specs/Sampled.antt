@@ -2,19 +2,19 @@
 -- files are the sample's, and neither the input nor the sources that were handed in are used; else
 -- it is what these tell.
 use Rattle.std.specs.Prelude.{◌≡◌, ℕ, List, [], ◌∷◌, Option, Some, None, slice_index_or}
-use Rattle.outside.specs.Library.{Files}
+use Rattle.outside.specs.Library.{FileTable}
 use Rattle.font_decode.specs.Desks.{Loaded}
 use Rattle.font_decode.specs.Loads.{RoseUpTo}
 use Rattle.sample_maker.specs.Sample.{sample_document, sample_files}
 use Rattle.page_workers.specs.declared.worker.Worker.{Worker}
 use Rattle.command_line.specs.declared.settings.Settings.{Settings}
-use Rattle.dvi_run.specs.Pages.{Given, given_by}
+use Rattle.dvi_run.specs.Pages.{Setup, setup_by}
 use Rattle.dvi_run.specs.Endings.{IsAmong}
 
 -- ---- by how many pages a sample is asked for, if one is
 
 -- the font files, where they are told
-abbrev pub library_by : Option ℕ → Option Files → Option Files
+abbrev pub library_by : Option ℕ → Option FileTable → Option FileTable
 library_by None told = told
 library_by (Some pages) told = Some sample_files
 
@@ -41,8 +41,8 @@ LoadedBy (Some pages) most before now count count_now = RoseUpTo most count coun
 
 -- ---- by the settings
 
-abbrev pub given_to : (told : Option Files) → Settings → Given
-given_to told s = given_by (library_by s.sample told) s
+abbrev pub given_to : (told : Option FileTable) → Settings → Setup
+given_to told s = setup_by (library_by s.sample told) s
 
 abbrev pub document_to : Settings → (left : Option (List ℕ)) → Option (List ℕ)
 document_to s left = document_by s.sample left

@@ -2,7 +2,7 @@
 -- how they are written.
 use Rattle.std.specs.Prelude.{◌≡◌, ◌⊎◌, ℕ, suc, ◌+◌, ◌-◌, ◌*◌, ◌<◌, ◌≤◌, ◌++◌, Bool, List, [], ◌∷◌, length, reverse, Contains, IfOk, Option, None, Some, Ok, Err, slice_index_or}
 use Rattle.std.specs.List.Sorted.{IsStrictlyIncreasing}
-use Rattle.outside.specs.Library.{Files}
+use Rattle.outside.specs.Library.{FileTable}
 use Rattle.packed_rows.specs.Changes.{black_count}
 use Rattle.page_index.specs.Document.{pages_begun}
 use Rattle.page_index.specs.Pages.{Indexed, document_units}
@@ -17,6 +17,7 @@ use Rattle.dvi_run.specs.Rounds.{WasCleared, WroteOutcome}
 use Rattle.dvi_run.specs.declared.pages.WriteStop.{WriteStop}
 use Rattle.dvi_run.specs.declared.pages.WriteStop.TheVariants as stop
 use Rattle.dvi_run.specs.declared.tally.Tally.{Tally}
+use Rattle.raster_page.specs.Limits.{LONGEST_PAGE_SIDE}
 
 -- ---- a round's results, taken out of the workers
 
@@ -60,7 +61,7 @@ pub record Collected {F : Type 0} (first count : ℕ) (before after : List (Work
       → Contains (slice_index_or before k d).results.items r → Contains results r
 
 -- some workers may draw n pages from `first` on
-pub record MayDrawRound {F : Type 0} (library : F → Option Files) (bench : Bench)
+pub record MayDrawRound {F : Type 0} (library : F → Option FileTable) (bench : Bench)
     (indexed : Indexed) (sheet : Sheet) (first count : ℕ) (workers : List (Worker F)) : Type 0 where
   pub some_worker : 1 ≤ length workers
   pub few_workers : length workers ≤ 32
@@ -77,7 +78,7 @@ abbrev pub NoCounters : {F : Type 0} → List (Worker F) → Type 0
 NoCounters {F} workers = (k : ℕ) (d : Worker F) → k < length workers
     → (slice_index_or workers k d).counter ≡ None
 
-module _ {F : Type 0} (library : F → Option Files) (faults loads : F → ℕ) where
+module _ {F : Type 0} (library : F → Option FileTable) (faults loads : F → ℕ) where
   -- some workers drew a round, and its results stand on a stack
   pub record DrewStack (bench : Bench) (indexed : Indexed) (sheet : Sheet) (first count : ℕ)
       (before after : List (Worker F)) (stack : List PageResult) : Type 0 where
@@ -90,7 +91,7 @@ module _ {F : Type 0} (library : F → Option Files) (faults loads : F → ℕ) 
 
 -- no page has more black pixels than the largest sheet has dots
 abbrev pub HasFewDots : PageResult → Type 0
-HasFewDots r = IfOk r.outcome (λ page. black_count page ≤ 20000 * 20000)
+HasFewDots r = IfOk r.outcome (λ page. black_count page ≤ LONGEST_PAGE_SIDE * LONGEST_PAGE_SIDE)
 
 -- the texts of these results' pages were written, one after another, with n black pixels,
 -- where they are counted
@@ -132,7 +133,8 @@ AllRested {F} before after = (k : ℕ) (d : Worker F) → k < length before
 abbrev pub StoppedAhead : {F : Type 0} (DrewNext : List PageResult → Type 0) (counted : Bool)
     (old new : Option (List ℕ)) (OutputFails : Type 0) (results : List PageResult)
     (tally_before tally_after : Tally) (before after : List (Worker F)) → WriteStop → Type 0
-StoppedAhead DrewNext counted old new OutputFails results tally_before tally_after before after why =
+StoppedAhead DrewNext counted old new OutputFails results tally_before tally_after before after
+    why =
     (WroteUpTo counted old new OutputFails results tally_before tally_after why
     × (AllRested before after ⊎ ((2 ≤ length before) × (later : List PageResult) × DrewNext later)))
     ⊎ (WroteWhole counted old new results tally_before tally_after

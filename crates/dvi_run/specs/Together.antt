@@ -1,7 +1,7 @@
 -- A run over workers: what each of them did, and how their calls make one history.
 use Rattle.std.specs.Prelude.{◌≡◌, ◌⊎◌, ℕ, ◌+◌, ◌*◌, ◌<◌, ◌≤◌, Bool, List, [], ◌∷◌, Option, Some, None, IfSome, slice_index_or}
 use Rattle.outside.specs.Counts.{Rose}
-use Rattle.outside.specs.Library.{Files}
+use Rattle.outside.specs.Library.{FileTable}
 use Rattle.outside.specs.declared.keys.FontKey.{FontKey}
 use Rattle.cache_core.specs.declared.calls.Call.{Call}
 use Rattle.cache_core.specs.Histories.{own, SeatCalls, NoneReleased}
@@ -14,7 +14,7 @@ use Rattle.page_index.specs.Document.{Reading, pages_begun}
 use Rattle.page_draw.specs.Values.{PageValue}
 use Rattle.page_workers.specs.Paper.{HasNoPaper}
 use Rattle.page_workers.specs.declared.worker.Worker.{Worker}
-use Rattle.dvi_run.specs.Pages.{AreValues, Given, finding}
+use Rattle.dvi_run.specs.Pages.{AreValues, Setup, finding}
 use Rattle.dvi_run.specs.Endings.{EndingSeen, Source, EndsPages, IsAmong, OfRun, WroteAll, status_of}
 use Rattle.dvi_run.specs.Looked.{BrokenLooks, IsDrawnThrough, IsIdle, IsUnbrokenBy, WholeLooks}
 use Rattle.dvi_run.specs.Rounds.{FailedAt, IsFresh, Ran, indexed_of}
@@ -46,7 +46,7 @@ SourceRose faults before after = Rose (faults before.source) (faults after.sourc
 
 -- a worker that a run may use: it has no seat, and was not used yet, and where the run is told a
 -- library its source tells it
-pub record IsReady {F : Type 0} (library : F → Option Files) (told : Option Files)
+pub record IsReady {F : Type 0} (library : F → Option FileTable) (told : Option FileTable)
     (w : Worker F) : Type 0 where
   pub fresh : IsFresh library told w
   pub seat : w.seat ≡ None
@@ -76,8 +76,8 @@ pub record IsOneHistory (capacity n status : ℕ) (history : List Call) : Type 0
 
 -- What a used worker did, by the calls of its seat in the history, in a run of the sample or of
 -- what the outside gives.
-pub record Worked {F : Type 0} (library : F → Option Files) (faults loads : F → ℕ)
-    (told : Option Files) (sample : Option ℕ) (n status : ℕ) (history : List Call) (k : ℕ)
+pub record Worked {F : Type 0} (library : F → Option FileTable) (faults loads : F → ℕ)
+    (told : Option FileTable) (sample : Option ℕ) (n status : ℕ) (history : List Call) (k : ℕ)
     (before after : Worker F) : Type 0 where
   -- it has neither a seat nor a result any more, and no paper, unless it had some before
   pub seat : after.seat ≡ None
@@ -98,7 +98,7 @@ pub record Worked {F : Type 0} (library : F → Option Files) (faults loads : F 
   pub loaded : LoadedBy sample (5 * misses (own (k + 1) history)) (loads before.source)
       (loads after.source) before.loads after.loads
 
-module _ {F : Type 0} (g : Given) (reading : Reading) where
+module _ {F : Type 0} (g : Setup) (reading : Reading) where
   -- the calls of a used worker answer the look-ups of the pages that it drew, one page after
   -- another
   pub record Answered (capacity n status : ℕ) (history : List Call) (k : ℕ)
@@ -121,7 +121,7 @@ module _ {F : Type 0} (g : Given) (reading : Reading) where
 -- that were written and the one named, and none after its round, or where its write failed after
 -- the next one; the calls of each answer what its pages looked up; and the tally is that of the
 -- pages written whole, with their black pixels where they were counted.
-abbrev pub DrewTogether : {F : Type 0} → Given → (counted : Bool) → (old new : Option (List ℕ))
+abbrev pub DrewTogether : {F : Type 0} → Setup → (counted : Bool) → (old new : Option (List ℕ))
     → (capacity n status : ℕ) → EndingSeen → Option Tally → List Call
     → (before after : List (Worker F)) → List ℕ → Type 0
 DrewTogether g counted old new capacity n status e tally history before after bytes =
@@ -134,7 +134,8 @@ DrewTogether g counted old new capacity n status e tally history before after by
 -- ---- the parts of a run
 
 -- the pages of a document were drawn by n workers, and it ended so
-pub record DrewPages {F : Type 0} (library : F → Option Files) (faults loads : F → ℕ) (g : Given)
+pub record DrewPages {F : Type 0} (library : F → Option FileTable) (faults loads : F → ℕ)
+    (g : Setup)
     (counted : Bool) (reading : Reading) (capacity n : ℕ) (old new : Option (List ℕ))
     (OutputFailed : Type 0) (e : EndingSeen) (tally : Option Tally) (history : List Call)
     (before after : List (Worker F)) : Type 0 where
@@ -148,8 +149,8 @@ pub record DrewPages {F : Type 0} (library : F → Option Files) (faults loads :
       library faults loads g reading history (k + 1) was now)
 
 -- what holds of the workers after any run that ended so
-pub record AreDone {F : Type 0} (library : F → Option Files) (faults loads : F → ℕ)
-    (told : Option Files) (sample : Option ℕ) (capacity n status : ℕ) (e : EndingSeen)
+pub record AreDone {F : Type 0} (library : F → Option FileTable) (faults loads : F → ℕ)
+    (told : Option FileTable) (sample : Option ℕ) (capacity n status : ℕ) (e : EndingSeen)
     (tally : Option Tally) (history : List Call) (before after : List (Worker F)) : Type 0 where
   pub counts : CountsTo tally e
   pub failed : (page : ℕ) → e ≡ Source page → SomeUsed n before after (FailedAt faults page)

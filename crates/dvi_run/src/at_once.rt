@@ -1,7 +1,7 @@
 //! All pages of a document by workers that share one cache of fonts.
 ghost use Rattle.std.specs.Prelude.{◌≡◌, ◌+◌, ◌<◌, ◌≤◌, [], ℕ, List, Option, None, Some, length, slice_index_or};
 ghost use Rattle.outside.specs.Counts.{Rose};
-ghost use Rattle.outside.specs.Library.{Files};
+ghost use Rattle.outside.specs.Library.{FileTable};
 ghost use Rattle.cache_core.specs.Histories.{own};
 ghost use Rattle.cache_core.specs.Machine.{Legal};
 ghost use Rattle.cache_core.specs.Views.{calls_of};
@@ -48,7 +48,7 @@ pub fn draw_over<R: Threads + Wait + Sync, F: FontSource + Send, O: Output>(
     out: &mut O,
     counted: bool,
 ) -> (Ending, Tally, Vec<Entry>)
-    ghost told: { Option Files }
+    ghost told: { Option FileTable }
     requires some { 1 ≤ length workers.old }
     requires few { length workers.old ≤ 32 }
     requires sheet { IsDrawable sheet.now }
@@ -108,7 +108,7 @@ pub fn draw_at_once<R: Threads + Wait + Sync, F: FontSource + Send, O: Output>(
     history: &mut Vec<Entry>,
     counted: bool,
 ) -> (Ending, Option<Tally>)
-    ghost told: { Option Files }
+    ghost told: { Option FileTable }
     requires some { 1 ≤ length workers.old }
     requires few { length workers.old ≤ 32 }
     requires some_font { 1 ≤ capacity }

@@ -3,6 +3,7 @@ ghost use Rattle.std.specs.Prelude.{◌≡◌, ◌↔◌, ℕ, ◌+◌, ◌^◌,
 ghost use Rattle.page_workers.specs.declared.worker.PageResult.{PageResult};
 ghost use Rattle.dvi_run.specs.Rounds.{SameBut};
 ghost use Rattle.dvi_run.specs.Stacks.{AreResults, Collected, HasOnTop};
+ghost use Rattle.page_index.specs.Limits.{MOST_PAGES};
 
 use outside::FontSource;
 use page_workers::{PageResult, Worker};
@@ -55,7 +56,7 @@ pub fn collect<F: FontSource>(
     count: usize,
     stack: &mut Vec<PageResult>,
 )
-    requires pages { first + count ≤ 1000000 }
+    requires pages { first + count ≤ MOST_PAGES }
     requires empty { stack.old.items ≡ [] }
     requires room { vec_len stack.old + count ≤ vec_capacity stack.old }
     ensures { (pages : ℕ) → pages ≤ count → AreResults first pages workers.old

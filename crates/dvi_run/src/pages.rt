@@ -4,6 +4,8 @@ ghost use Rattle.outside.specs.Counts.{Rose};
 ghost use Rattle.dvi_run.specs.Endings.{ending_at, seen_ending};
 ghost use Rattle.dvi_run.specs.Rounds.{WroteOutcome};
 ghost use Rattle.dvi_run.specs.Stacks.{HasFewDots, WroteUpTo, WroteWhole};
+ghost use Rattle.raster_page.specs.Limits.{LONGEST_PAGE_SIDE};
+ghost use Rattle.page_index.specs.Limits.{MOST_PAGES};
 
 use crate::ending::Ending;
 use crate::tally::Tally;
@@ -24,7 +26,7 @@ pub enum WriteStop {
 
 // How a run ends that doesn't write the page with this number, from 0.
 pub(crate) fn stopped(i: usize, stop: WriteStop) -> Ending
-    requires { i < 1000000 }
+    requires { i < MOST_PAGES }
     ensures { seen_ending result ≡ ending_at (i + 1) stop }
 {
     let page = i + 1;
@@ -73,14 +75,14 @@ pub fn write_stack<O: Output>(
     spare: &mut Vec<Page>,
 ) -> Result<(), WriteStop>
     requires dots { All HasFewDots stack.old.items }
-    requires few { tally.old.pages + length stack.old.items ≤ 1000000 }
-    requires black { tally.old.black ≤ tally.old.pages * (20000 * 20000) }
+    requires few { tally.old.pages + length stack.old.items ≤ MOST_PAGES }
+    requires black { tally.old.black ≤ tally.old.pages * (LONGEST_PAGE_SIDE * LONGEST_PAGE_SIDE) }
     ensures written { OnOk result (WroteWhole counted (O.written out.old) (O.written out.new)
         (reverse stack.old.items) tally.old tally.new) }
     ensures stopped { IfErr result (λ why. WroteUpTo counted (O.written out.old) (O.written out.new)
         (Rose (O.faults out.old) (O.faults out.new)) (reverse stack.old.items) tally.old tally.new
         why) }
-    ensures black { tally.new.black ≤ tally.new.pages * (20000 * 20000) }
+    ensures black { tally.new.black ≤ tally.new.pages * (LONGEST_PAGE_SIDE * LONGEST_PAGE_SIDE) }
     ensures output { O.faults out.old ≤ O.faults out.new }
 {
     while let Some(drawn) = stack.pop() {

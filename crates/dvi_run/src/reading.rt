@@ -8,10 +8,10 @@ ghost use Rattle.dvi_run.specs.declared.reading.ReadStop.TheVariants.{Failed as 
 use outside::{Failed, Input};
 use std::alloc::{AllocError, Global};
 
-/// One byte more than a document may have.
-const MOST: usize = 67_108_865;
+// One byte more than a document may have.
+const LONGEST_READ: usize = 67_108_865;
 
-/// How much room a first read has, in bytes.
+// How much room a first read has, in bytes.
 const PIECE: usize = 65_536;
 
 /// Why an input was not read.
@@ -58,7 +58,7 @@ fn make_room(bytes: &mut Vec<u8>, len: usize) -> Result<(), AllocError>
     ensures room { OnOk result (len < length bytes.new.items) }
 {
     if bytes.len() == len {
-        bytes.resize((2 * len).max(PIECE).min(MOST), 0u8)?;
+        bytes.resize((2 * len).max(PIECE).min(LONGEST_READ), 0u8)?;
     }
     Ok(())
 }
@@ -89,7 +89,7 @@ pub fn read_all<I: Input>(alloc: Global, input: &mut I) -> Result<Vec<u8>, ReadS
 {
     let mut bytes = Vec::new(alloc);
     let mut len: usize = 0;
-    while len < MOST {
+    while len < LONGEST_READ {
         let n = read_more(input, &mut bytes, len)?;
         if n == 0 {
             bytes.truncate(len);

@@ -1,7 +1,7 @@
 //! Draws the pages of a document in rounds, and writes them in their order.
 ghost use Rattle.std.specs.Prelude.{◌≡◌, ◌↔◌, ℕ, ◌+◌, ◌*◌, ◌<◌, ◌≤◌, List, Option, Some, All, IfErr, IfOk, IsTrue, OnErr, OnOk, length, reverse, slice_index_or};
 ghost use Rattle.outside.specs.Counts.{Rose};
-ghost use Rattle.outside.specs.Library.{Files};
+ghost use Rattle.outside.specs.Library.{FileTable};
 ghost use Rattle.page_index.specs.Document.{pages_begun};
 ghost use Rattle.page_index.specs.Pages.{document_units};
 ghost use Rattle.page_draw.specs.Sheets.{IsDrawable};
@@ -14,6 +14,8 @@ ghost use Rattle.dvi_run.specs.Shares.{DrewShares};
 ghost use Rattle.dvi_run.specs.Stacks.{AllRested, DrewStack, HasFewDots, MayDrawRound, NoCounters, StoppedAhead, WroteUpTo, WroteWhole};
 ghost use Rattle.dvi_run.specs.Tally.{IsTally};
 ghost use Rattle.dvi_run.specs.Rounds.{Ended, FailedAt, MayBegin, Settled, site};
+ghost use Rattle.raster_page.specs.Limits.{LONGEST_PAGE_SIDE};
+ghost use Rattle.page_index.specs.Limits.{MOST_PAGES};
 
 use crate::collecting::collect;
 use crate::ending::Ending;
@@ -29,7 +31,7 @@ use std::sync::Wait;
 use std::thread::Threads;
 use std::{mem, thread};
 
-/// How many pages a round of several workers has.
+// How many pages a round of several workers has.
 const ROUND: usize = 32;
 
 // How many pages a round has: one where there is one worker, whose pages are written as soon as
@@ -89,8 +91,8 @@ fn draw_beside<R: Threads + Wait + Sync, F: FontSource + Send, O: Output>(
 ) -> (Result<Vec<PageResult>, NoMemory>, Result<(), WriteStop>)
     requires ready { MayDrawRound F.library bench.now index.now sheet.now first count workers.old }
     requires dots { All HasFewDots stack.old.items }
-    requires few { tally.old.pages + length stack.old.items ≤ 1000000 }
-    requires black { tally.old.black ≤ tally.old.pages * (20000 * 20000) }
+    requires few { tally.old.pages + length stack.old.items ≤ MOST_PAGES }
+    requires black { tally.old.black ≤ tally.old.pages * (LONGEST_PAGE_SIDE * LONGEST_PAGE_SIDE) }
     ensures drawn { IfOk result.0 (λ later. DrewStack F.library F.faults F.loads bench.now index.now
         sheet.now first count workers.old workers.new later.items) }
     ensures refused { OnErr result.0 (AllRested workers.old workers.new) }
@@ -100,7 +102,7 @@ fn draw_beside<R: Threads + Wait + Sync, F: FontSource + Send, O: Output>(
     ensures stopped { IfErr result.1 (λ why. WroteUpTo counted (O.written out.old)
         (O.written out.new) (Rose (O.faults out.old) (O.faults out.new))
         (reverse stack.old.items) tally.old tally.new why) }
-    ensures black { tally.new.black ≤ tally.new.pages * (20000 * 20000) }
+    ensures black { tally.new.black ≤ tally.new.pages * (LONGEST_PAGE_SIDE * LONGEST_PAGE_SIDE) }
     ensures output { O.faults out.old ≤ O.faults out.new }
 {
     thread::join_mut(
@@ -141,8 +143,8 @@ fn write_and_draw<R: Threads + Wait + Sync, F: FontSource + Send, O: Output>(
 ) -> Result<Vec<PageResult>, WriteStop>
     requires ready { MayDrawRound F.library bench.now index.now sheet.now first count workers.old }
     requires dots { All HasFewDots stack.old.items }
-    requires few { tally.old.pages + length stack.old.items ≤ 1000000 }
-    requires black { tally.old.black ≤ tally.old.pages * (20000 * 20000) }
+    requires few { tally.old.pages + length stack.old.items ≤ MOST_PAGES }
+    requires black { tally.old.black ≤ tally.old.pages * (LONGEST_PAGE_SIDE * LONGEST_PAGE_SIDE) }
     ensures written { OnOk result (WroteWhole counted (O.written out.old) (O.written out.new)
         (reverse stack.old.items) tally.old tally.new) }
     ensures drawn { IfOk result (λ later. DrewStack F.library F.faults F.loads bench.now index.now
@@ -153,7 +155,7 @@ fn write_and_draw<R: Threads + Wait + Sync, F: FontSource + Send, O: Output>(
         (Rose (O.faults out.old) (O.faults out.new))
         (reverse stack.old.items) tally.old tally.new workers.old workers.new why) }
     ensures no_counter { NoCounters workers.new }
-    ensures black { tally.new.black ≤ tally.new.pages * (20000 * 20000) }
+    ensures black { tally.new.black ≤ tally.new.pages * (LONGEST_PAGE_SIDE * LONGEST_PAGE_SIDE) }
     ensures output { O.faults out.old ≤ O.faults out.new }
 {
     if workers.len() == 1 {
@@ -192,7 +194,7 @@ pub fn write_rounds<R: Threads + Wait + Sync, F: FontSource + Send, O: Output>(
     out: &mut O,
     counted: bool,
 ) -> (Ending, Tally)
-    ghost told: { Option Files }
+    ghost told: { Option FileTable }
     requires some { 1 ≤ length workers.old }
     requires few { length workers.old ≤ 32 }
     requires sheet { IsDrawable sheet.now }

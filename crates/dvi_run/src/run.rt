@@ -1,7 +1,7 @@
 //! The run.
 ghost use Rattle.std.specs.Prelude.{◌≡◌, ◌≤◌, ◌<◌, ℕ, Option, Some, None, [], IfSome, length, map, slice_index_or, string_bytes};
 ghost use Rattle.outside.specs.Counts.{Rose};
-ghost use Rattle.outside.specs.Library.{Files};
+ghost use Rattle.outside.specs.Library.{FileTable};
 ghost use Rattle.cache_core.specs.Views.{calls_of};
 ghost use Rattle.command_line.specs.Line.{settings_of};
 ghost use Rattle.command_line.specs.Settings.{AreSettings};
@@ -78,7 +78,7 @@ pub fn run_with<R: Threads + Wait + Sync, I: Input, F: FontSource + Send, O: Out
     notes: &mut N,
     history: &mut Vec<Entry>,
 ) -> u8
-    ghost told: { Option Files }
+    ghost told: { Option FileTable }
     requires settings { AreSettings settings.now }
     requires there { settings.now.workers ≤ length workers.old }
     requires ready { (k : ℕ) (d : _) → k < settings.now.workers
@@ -157,7 +157,7 @@ pub fn dvipbm_run<R: Threads + Wait + Sync, I: Input, F: FontSource + Send, O: O
     notes: &mut N,
     history: &mut Vec<Entry>,
 ) -> u8
-    ghost told: { Option Files }
+    ghost told: { Option FileTable }
     requires some { 1 ≤ length workers.old }
     requires few { length workers.old ≤ 32 }
     requires ready { (k : ℕ) (d : _) → k < length workers.old

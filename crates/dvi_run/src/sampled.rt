@@ -1,7 +1,7 @@
 //! Runs of the sample, which the run makes itself, and draws over workers of its own.
 ghost use Rattle.std.specs.Prelude.{◌≡◌, ◌≤◌, ◌<◌, ℕ, Option, [], ◌∷◌, Some, IfSome, length, slice_index_or};
 ghost use Rattle.outside.specs.Counts.{Rose};
-ghost use Rattle.outside.specs.Library.{Files};
+ghost use Rattle.outside.specs.Library.{FileTable};
 ghost use Rattle.cache_core.specs.Views.{calls_of};
 ghost use Rattle.command_line.specs.Settings.{AreSettings};
 ghost use Rattle.page_index.specs.Faults.{IsFirstFault};
@@ -9,7 +9,7 @@ ghost use Rattle.page_index.specs.Limits.{LONGEST};
 ghost use Rattle.page_index.specs.declared.faults.DocFault.{DocFault};
 ghost use Rattle.sample_maker.specs.Sample.{sample_document, sample_files};
 ghost use Rattle.dvi_run.specs.Reading.{OfRead};
-ghost use Rattle.dvi_run.specs.Pages.{given_by};
+ghost use Rattle.dvi_run.specs.Pages.{setup_by};
 ghost use Rattle.dvi_run.specs.Endings.{IsEnding, seen_ending, status_of};
 ghost use Rattle.dvi_run.specs.Sampled.{FailedTo, UsesTheSample, document_to, given_to, rest_to};
 ghost use Rattle.dvi_run.specs.Together.{AreDone, DrewTogether, IsReady, SomeUsed, SourceRose};
@@ -42,7 +42,7 @@ fn draw_by_own<R: Threads + Wait + Sync, F: FontSource + Send, O: Output, G: Fon
     out: &mut O,
     history: &mut Vec<Entry>,
 ) -> (Ending, Option<Tally>)
-    ghost told: { Option Files }
+    ghost told: { Option FileTable }
     requires settings { AreSettings settings.now }
     requires fits { length document.now ≤ LONGEST }
     requires good { (fault : DocFault) → IsFirstFault settings.now.res document.now fault → ⊥ }
@@ -56,14 +56,14 @@ fn draw_by_own<R: Threads + Wait + Sync, F: FontSource + Send, O: Output, G: Fon
     requires empty { history.old.items ≡ [] }
     ensures ends { IsEnding (O.written out.old) (O.written out.new)
         (Rose (O.faults out.old) (O.faults out.new))
-        ⊥ (out.new ≡ out.old) ⊥ (given_by (Some sample_files) settings.now) (Some document.now)
+        ⊥ (out.new ≡ out.old) ⊥ (setup_by (Some sample_files) settings.now) (Some document.now)
         (Some []) (seen_ending result.0) }
     ensures done { (pages : ℕ) → AreDone F.library F.faults F.loads told (Some pages)
         settings.now.cache settings.now.workers (status_of (seen_ending result.0))
         (seen_ending result.0) result.1
         (calls_of history.new.items) workers.old workers.new }
     ensures drew { OfRead (Some document.now)
-        (DrewTogether (given_by (Some sample_files) settings.now)
+        (DrewTogether (setup_by (Some sample_files) settings.now)
         settings.now.summary (O.written out.old) (O.written out.new) settings.now.cache
         settings.now.workers (status_of (seen_ending result.0)) (seen_ending result.0) result.1
         (calls_of history.new.items) workers.old workers.new) }
@@ -87,7 +87,7 @@ fn draw_sample<R: Threads + Wait + Sync, F: FontSource + Send, O: Output>(
     out: &mut O,
     history: &mut Vec<Entry>,
 ) -> (Ending, Option<Tally>)
-    ghost told: { Option Files }
+    ghost told: { Option FileTable }
     requires settings { AreSettings settings.now }
     requires some { 1 ≤ pages }
     requires few { pages ≤ 1000 }
@@ -97,13 +97,13 @@ fn draw_sample<R: Threads + Wait + Sync, F: FontSource + Send, O: Output>(
     requires empty { history.old.items ≡ [] }
     ensures ends { IsEnding (O.written out.old) (O.written out.new)
         (Rose (O.faults out.old) (O.faults out.new))
-        ⊥ (out.new ≡ out.old) ⊥ (given_by (Some sample_files) settings.now)
+        ⊥ (out.new ≡ out.old) ⊥ (setup_by (Some sample_files) settings.now)
         (Some (sample_document pages)) (Some []) (seen_ending result.0) }
     ensures done { AreDone F.library F.faults F.loads told (Some pages) settings.now.cache
         settings.now.workers (status_of (seen_ending result.0)) (seen_ending result.0) result.1
         (calls_of history.new.items) workers.old workers.new }
     ensures drew { OfRead (Some (sample_document pages))
-        (DrewTogether (given_by (Some sample_files) settings.now)
+        (DrewTogether (setup_by (Some sample_files) settings.now)
         settings.now.summary (O.written out.old) (O.written out.new) settings.now.cache
         settings.now.workers (status_of (seen_ending result.0)) (seen_ending result.0) result.1
         (calls_of history.new.items) workers.old workers.new) }
@@ -136,7 +136,7 @@ pub fn draw_asked<R: Threads + Wait + Sync, I: Input, F: FontSource + Send, O: O
     out: &mut O,
     history: &mut Vec<Entry>,
 ) -> (Ending, Option<Tally>)
-    ghost told: { Option Files }
+    ghost told: { Option FileTable }
     requires settings { AreSettings settings.now }
     requires there { settings.now.workers ≤ length workers.old }
     requires ready { (k : ℕ) (d : _) → k < settings.now.workers

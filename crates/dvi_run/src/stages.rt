@@ -1,11 +1,11 @@
 //! The stages of a run: the input is read, the pages are found, and the workers draw them.
 ghost use Rattle.std.specs.Prelude.{◌≡◌, ◌≤◌, ◌<◌, ℕ, Option, None, [], length, slice_index_or};
 ghost use Rattle.outside.specs.Counts.{Rose};
-ghost use Rattle.outside.specs.Library.{Files};
+ghost use Rattle.outside.specs.Library.{FileTable};
 ghost use Rattle.cache_core.specs.Views.{calls_of};
 ghost use Rattle.command_line.specs.Settings.{AreSettings};
 ghost use Rattle.dvi_run.specs.Reading.{OfRead};
-ghost use Rattle.dvi_run.specs.Pages.{given_by};
+ghost use Rattle.dvi_run.specs.Pages.{setup_by};
 ghost use Rattle.dvi_run.specs.Endings.{EndsBytes, IsEnding, seen_ending, status_of};
 ghost use Rattle.dvi_run.specs.Together.{AreDone, DrewPages, DrewTogether, IsReady, RestIsKept, SomeUsed, SourceRose};
 
@@ -35,14 +35,14 @@ fn draw_pages<R: Threads + Wait + Sync, F: FontSource + Send, O: Output>(
     out: &mut O,
     history: &mut Vec<Entry>,
 ) -> (Ending, Option<Tally>)
-    ghost told: { Option Files }
+    ghost told: { Option FileTable }
     requires settings { AreSettings settings.now }
     requires there { settings.now.workers ≤ length workers.old }
     requires ready { (k : ℕ) (d : _) → k < settings.now.workers
         → IsReady F.library told (slice_index_or workers.old k d) }
     requires empty { history.old.items ≡ [] }
     requires resolution { index.now.res ≡ settings.now.res }
-    ensures drew { DrewPages F.library F.faults F.loads (given_by told settings.now)
+    ensures drew { DrewPages F.library F.faults F.loads (setup_by told settings.now)
         settings.now.summary index.now.reading
         settings.now.cache settings.now.workers (O.written out.old) (O.written out.new)
         (Rose (O.faults out.old) (O.faults out.new)) (seen_ending result.0) result.1
@@ -74,7 +74,7 @@ pub fn draw_document<R: Threads + Wait + Sync, F: FontSource + Send, O: Output>(
     out: &mut O,
     history: &mut Vec<Entry>,
 ) -> (Ending, Option<Tally>)
-    ghost told: { Option Files }
+    ghost told: { Option FileTable }
     requires settings { AreSettings settings.now }
     requires there { settings.now.workers ≤ length workers.old }
     requires ready { (k : ℕ) (d : _) → k < settings.now.workers
@@ -84,12 +84,12 @@ pub fn draw_document<R: Threads + Wait + Sync, F: FontSource + Send, O: Output>(
         (Rose (O.faults out.old) (O.faults out.new))
         (SomeUsed settings.now.workers workers.old workers.new (SourceRose F.faults))
         (out.new ≡ out.old)
-        (given_by told settings.now) bytes.now (seen_ending result.0) }
+        (setup_by told settings.now) bytes.now (seen_ending result.0) }
     ensures done { AreDone F.library F.faults F.loads told None settings.now.cache
         settings.now.workers (status_of (seen_ending result.0)) (seen_ending result.0) result.1
         (calls_of history.new.items)
         workers.old workers.new }
-    ensures drew { DrewTogether (given_by told settings.now) settings.now.summary
+    ensures drew { DrewTogether (setup_by told settings.now) settings.now.summary
         (O.written out.old) (O.written out.new)
         settings.now.cache settings.now.workers (status_of (seen_ending result.0))
         (seen_ending result.0) result.1
@@ -116,7 +116,7 @@ pub fn draw_input<R: Threads + Wait + Sync, I: Input, F: FontSource + Send, O: O
     out: &mut O,
     history: &mut Vec<Entry>,
 ) -> (Ending, Option<Tally>)
-    ghost told: { Option Files }
+    ghost told: { Option FileTable }
     requires settings { AreSettings settings.now }
     requires there { settings.now.workers ≤ length workers.old }
     requires ready { (k : ℕ) (d : _) → k < settings.now.workers
@@ -126,14 +126,14 @@ pub fn draw_input<R: Threads + Wait + Sync, I: Input, F: FontSource + Send, O: O
         (Rose (O.faults out.old) (O.faults out.new))
         (SomeUsed settings.now.workers workers.old workers.new (SourceRose F.faults))
         (out.new ≡ out.old)
-        (Rose (I.faults input.old) (I.faults input.new)) (given_by told settings.now)
+        (Rose (I.faults input.old) (I.faults input.new)) (setup_by told settings.now)
         (I.left input.old) (I.left input.new) (seen_ending result.0) }
     ensures done { AreDone F.library F.faults F.loads told None settings.now.cache
         settings.now.workers (status_of (seen_ending result.0)) (seen_ending result.0) result.1
         (calls_of history.new.items)
         workers.old workers.new }
     ensures drew { OfRead (I.left input.old)
-        (DrewTogether (given_by told settings.now) settings.now.summary (O.written out.old)
+        (DrewTogether (setup_by told settings.now) settings.now.summary (O.written out.old)
         (O.written out.new) settings.now.cache settings.now.workers
         (status_of (seen_ending result.0))
         (seen_ending result.0) result.1 (calls_of history.new.items) workers.old workers.new) }

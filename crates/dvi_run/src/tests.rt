@@ -9,6 +9,7 @@ mod crews;
 mod desks;
 mod drawing;
 mod entries;
+mod entries_of_two;
 mod failing_notes;
 mod faults;
 mod files;
@@ -32,11 +33,12 @@ use one::{run_alone, run_by_words};
 use outside::{FontSource, Library, MemInput, MemOutput, SureFonts, SureInput};
 use page_draw::Sheet;
 use std::alloc::Global;
+use std::process::Abort;
 use std::sync::{Arc, Wait};
 use std::test::Fail;
 use std::thread::Threads;
 
-/// A page with a put rule of height 4 and width 6, which is 2 rows of 3 dots.
+// A page with a put rule of height 4 and width 6, which is 2 rows of 3 dots.
 static PUT_RULE: [u8; 112] = [
     0xf7, 2, 0, 0, 4, 0xf6, 0, 0, 0, 3, 0, 0, 3, 0xe8, 0, // pre
     0x8b, 0, 0, 0, 1, 0, 0, 0, 0, 0, 0, 0, 0, 0, 0, 0, 0, 0, 0, 0, 0, 0, 0, 0, 0, // bop
@@ -108,9 +110,35 @@ fn no_fonts(alloc: Global) -> Result<SureFonts, Fail> {
     Ok(SureFonts::new(Arc::new(alloc, Library::new(alloc))?))
 }
 
-// Whether a run of these bytes with n bytes for a read and for a write, where the listed reads and
-// writes fail, ends with this status, output and line.
-fn ends<R: Threads + Wait + Sync>(
+// The first place at which two texts differ, with the byte of each there.
+fn first_difference(left: &[u8], right: &[u8]) -> Option<(usize, u8, u8)> {
+    for (at, (a, b)) in left.iter().zip(right).enumerate() {
+        if a != b {
+            return Some((at, *a, *b));
+        }
+    }
+    None
+}
+
+// A run came to this status, output and line.
+fn assert_came_to<R: Abort>(
+    rt: &R,
+    answer: u8,
+    out: &[u8],
+    notes: &[u8],
+    status: u8,
+    written: &[u8],
+    line: &[u8],
+) {
+    assert_eq!(rt; notes, line);
+    assert_eq!(rt; answer, status);
+    assert_eq!(rt; out.len(), written.len());
+    assert_eq!(rt; first_difference(out, written), None);
+}
+
+// A run of these bytes with n bytes for a read and for a write, where the listed reads and writes
+// fail, ends with this status, output and line.
+fn assert_ends<R: Abort + Threads + Wait + Sync>(
     rt: &R,
     alloc: Global,
     bytes: &[u8],
@@ -119,7 +147,7 @@ fn ends<R: Threads + Wait + Sync>(
     status: u8,
     written: &[u8],
     line: &[u8],
-) -> Result<bool, Fail>
+) -> Result<(), Fail>
     requires { (1 ≤ pieces.0) × (1 ≤ pieces.1) }
 {
     let text = Vec::from_slice(alloc, bytes)?;
@@ -138,29 +166,38 @@ fn ends<R: Threads + Wait + Sync>(
         &mut notes,
         &mut history,
     )?;
-    Ok(answer == status && out.bytes() == written && notes.bytes() == line)
+    assert_came_to(
+        rt,
+        answer,
+        out.bytes(),
+        notes.bytes(),
+        status,
+        written,
+        line,
+    );
+    Ok(())
 }
 
 // A document with this page is drawn with these dots black, and no others.
-fn draws<R: Threads + Wait + Sync>(
+fn assert_draws<R: Abort + Threads + Wait + Sync>(
     rt: &R,
     alloc: Global,
     page: &[u8],
     dots: &[(usize, usize)],
-) -> Result<bool, Fail> {
+) -> Result<(), Fail> {
     let bytes = document(alloc, &[], &[page])?;
     let text = page_text(alloc, dots)?;
-    ends(rt, alloc, &bytes, (4096, 65536), (&[], &[]), 0, &text, b"")
+    assert_ends(rt, alloc, &bytes, (4096, 65536), (&[], &[]), 0, &text, b"")
 }
 
-// Whether a run of these bytes is refused with status 2 and this line.
-fn is_refused<R: Threads + Wait + Sync>(
+// A run of these bytes is refused with status 2 and this line.
+fn assert_refused<R: Abort + Threads + Wait + Sync>(
     rt: &R,
     alloc: Global,
     bytes: &[u8],
     line: &[u8],
-) -> Result<bool, Fail> {
-    ends(rt, alloc, bytes, (4096, 4096), (&[], &[]), 2, b"", line)
+) -> Result<(), Fail> {
+    assert_ends(rt, alloc, bytes, (4096, 4096), (&[], &[]), 2, b"", line)
 }
 
 // The settings of a run without words, but for the sheet.
@@ -180,9 +217,8 @@ fn on(sheet: Sheet) -> Settings
     }
 }
 
-// Whether a run of these bytes with these settings and fonts ends with this status, output and
-// line.
-fn ends_on<R: Threads + Wait + Sync, F: FontSource + Send>(
+// A run of these bytes with these settings and fonts ends with this status, output and line.
+fn assert_ends_on<R: Abort + Threads + Wait + Sync, F: FontSource + Send>(
     rt: &R,
     alloc: Global,
     settings: &Settings,
@@ -191,7 +227,7 @@ fn ends_on<R: Threads + Wait + Sync, F: FontSource + Send>(
     status: u8,
     written: &[u8],
     line: &[u8],
-) -> Result<bool, Fail>
+) -> Result<(), Fail>
     requires settings { AreSettings settings.now }
     requires one { settings.now.workers ≡ 1 }
 {
@@ -209,5 +245,14 @@ fn ends_on<R: Threads + Wait + Sync, F: FontSource + Send>(
         &mut notes,
         &mut history,
     )?;
-    Ok(answer == status && out.bytes() == written && notes.bytes() == line)
+    assert_came_to(
+        rt,
+        answer,
+        out.bytes(),
+        notes.bytes(),
+        status,
+        written,
+        line,
+    );
+    Ok(())
 }

@@ -15,10 +15,10 @@ use std::path::PathBuf;
 use std::process::ExitCode;
 use workers::workers_over;
 
-/// Memory runs out for the arguments, for the folder's name or for the workers.
+// Memory runs out for the arguments, for the folder's name or for the workers.
 const NO_MEMORY: u8 = 9;
 
-/// The words or the folder's name can't be had. No run ends so.
+// The words or the folder's name can't be had. No run ends so.
 const NO_WORDS: u8 = 10;
 
 // The words after the program's name.

@@ -8,7 +8,7 @@ use std::alloc::{AllocError as NoMemory, Global};
 use std::path::PathBuf;
 use std::rt::Files;
 
-/// How many workers a run may use.
+// How many workers a run may use.
 const WORKERS: usize = 32;
 
 /// Workers over a folder of font files, 32 of them.

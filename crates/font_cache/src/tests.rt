@@ -6,7 +6,7 @@ ghost use Rattle.turn_lock.specs.declared.view.Stage.TheVariants.{Idle};
 
 use crate::{CacheSeat, FontCache};
 use cache_core::{Entry, Look, Stands};
-use one_key::{OneKey, fits, is_told};
+use one_key::{OneKey, assert_told, fits};
 use outside::{FontKey, FontName};
 use std::alloc::{AllocError as NoMemory, Global};
 use std::sync::atomic::{AtomicU32, Ordering};
@@ -244,7 +244,7 @@ fn one_key_and_two_seats(rt: HostRuntime) -> Result<(), Fail> {
     assert!(rt; nothing_left);
     assert_eq!(rt; number, 7);
     let expected = [(1, 'c'), (2, 'b'), (1, 'f'), (2, 'h')];
-    assert!(rt; is_told(&entries, &expected));
+    assert_told(&rt, &entries, &expected);
     Ok(())
 }
 
@@ -254,7 +254,7 @@ fn a_claim_given_up(rt: HostRuntime) -> Result<(), Fail> {
     assert_eq!(rt; drawn, 3);
     assert_eq!(rt; number, 8);
     let expected = [(0, 'c'), (1, 'b'), (0, 'r'), (1, 'c'), (1, 'f'), (0, 'h')];
-    assert!(rt; is_told(&entries, &expected));
+    assert_told(&rt, &entries, &expected);
     Ok(())
 }
 

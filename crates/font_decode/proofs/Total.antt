@@ -133,7 +133,7 @@ module _ (u : Units) (k : FontKey) where
 
 -- ---- in a library
 
-first_bytes : (l : library.Files) (names : List (List ℕ)) → AreByteFiles l → IfSome (first_there l names) AreBytes
+first_bytes : (l : library.FileTable) (names : List (List ℕ)) → AreByteFiles l → IfSome (first_there l names) AreBytes
 first_bytes l [] h = tt
 first_bytes l (name ∷ names) h = by (get l name) (first_there l names) (h name) (first_bytes l names h)
   where

@@ -17,7 +17,7 @@ use Rattle.outside.specs.declared.keys.FontKey.{FontKey}
 use Rattle.pixel_round.specs.declared.units.Units.{Units}
 use Rattle.font_decode.specs.Names.{is_valid_name, dpi, is_resolution}
 use Rattle.font_decode.specs.Files.{FontFiles, IsFound, IsInOrder}
-use Rattle.font_decode.specs.Fonts.{FontSeen, width_of, glyph_at, is_virtual_of, packet_of, local_of, first_local_of}
+use Rattle.font_decode.specs.Fonts.{FontSeen, scaled_width_of, glyph_at, is_virtual_of, packet_of, local_of, first_local_of}
 use Rattle.font_decode.specs.Locals.{are_local_sizes, local_key}
 use Rattle.font_decode.specs.declared.decoded.Decoded.{Decoded}
 use Rattle.font_decode.specs.declared.decoded.Decoded.TheVariants.{Font, Fault}
@@ -33,7 +33,7 @@ scaled_width size tfm c = option_map (λ w. scale w size) (tfm_width tfm c)
 -- the font of a key with these two files, each of which is sound
 pub record IsPackedFont (k : FontKey) (tfm pk : List ℕ) (f : FontSeen) : Type 0 where
   pub size : f.size ≡ k.size
-  pub widths : (c : ℤ) → width_of f c ≡ scaled_width k.size tfm c
+  pub widths : (c : ℤ) → scaled_width_of f c ≡ scaled_width k.size tfm c
   pub packed : IsFalse (is_virtual_of f)
   pub items : List (List ℕ)
   pub file : IsPkFile pk items
@@ -44,14 +44,15 @@ pub record IsPackedFont (k : FontKey) (tfm pk : List ℕ) (f : FontSeen) : Type 
 pub record IsVirtualFont (u : Units) (k : FontKey) (tfm : List ℕ) (items : List (List ℕ))
     (f : FontSeen) : Type 0 where
   pub size : f.size ≡ k.size
-  pub widths : (c : ℤ) → width_of f c ≡ scaled_width k.size tfm c
+  pub widths : (c : ℤ) → scaled_width_of f c ≡ scaled_width k.size tfm c
   pub virtual : IsTrue (is_virtual_of f)
   pub packets : (c : ℕ) → packet_of f c ≡ program_with items c
   pub locals : (n : ℤ) → local_of f n ≡ option_map (local_key u k.size) (local_with
       (locals_of items) n)
   pub first : first_local_of f ≡ option_map (λ local. local.number) (slice_get (locals_of items) 0)
 
--- ---- what a key's files come to: each definition goes on where the one after it has found no fault
+-- ---- what a key's files come to: each definition goes on where the one after it has found no
+-- fault
 
 -- more than 8,388,608 bytes, whatever they are
 abbrev pub is_too_long : List ℕ → Bool
@@ -109,7 +110,7 @@ IsDecodingOf u k files d = MatchBool (is_valid_name k)
 -- ---- in a library
 
 -- the font of a key, by the files that a library has of it
-pub record IsFontIn (l : library.Files) (u : Units) (k : FontKey) (d : Decoded) : Type 0 where
+pub record IsFontIn (l : library.FileTable) (u : Units) (k : FontKey) (d : Decoded) : Type 0 where
   pub files : FontFiles
   pub found : IsFound l u k files
   pub decoding : IsDecodingOf u k files d
@@ -122,7 +123,7 @@ pub record IsFontBySome (u : Units) (k : FontKey) (d : Decoded) : Type 0 where
 
 -- by the files of the library where it is told, and else by some files, with the units of the
 -- document
-abbrev pub IsFontOf : Option library.Files → Option Units → FontKey → Decoded → Type 0
+abbrev pub IsFontOf : Option library.FileTable → Option Units → FontKey → Decoded → Type 0
 IsFontOf told units k d =
     IfSome units (λ u. MatchOption told (IsFontBySome u k d) (λ l. IsFontIn l u k d))
 
@@ -130,7 +131,7 @@ IsFontOf told units k d =
 
 pub record AreAlikeFonts (f g : FontSeen) : Type 0 where
   pub size : f.size ≡ g.size
-  pub widths : (c : ℤ) → width_of f c ≡ width_of g c
+  pub widths : (c : ℤ) → scaled_width_of f c ≡ scaled_width_of g c
   pub virtual : is_virtual_of f ≡ is_virtual_of g
   pub glyphs : (c : ℕ) → glyph_at f c ≡ glyph_at g c
   pub packets : (c : ℕ) → packet_of f c ≡ packet_of g c

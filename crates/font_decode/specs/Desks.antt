@@ -37,16 +37,16 @@ ReleasedLast [] = Unit {0}
 ReleasedLast (c ∷ calls) = (calls ≡ []) ⊎ ((c.done ≢ Released) × ReleasedLast calls)
 
 -- the looks that found no font in the cache, each of which loads the files anew
-abbrev pub missed : Done → ℕ
-missed Claimed = 1
-missed Busy = 1
-missed Hit = 0
-missed (Filled _) = 0
-missed Released = 0
+abbrev pub miss_count : Done → ℕ
+miss_count Claimed = 1
+miss_count Busy = 1
+miss_count Hit = 0
+miss_count (Filled _) = 0
+miss_count Released = 0
 
 abbrev pub misses : List Call → ℕ
 misses [] = 0
-misses (c ∷ calls) = missed c.done + misses calls
+misses (c ∷ calls) = miss_count c.done + misses calls
 
 -- two counts of the same loads: both rose by n at most, and by the same, unless the first stands at
 -- the last number of a `u64`

@@ -24,12 +24,12 @@ bytes_of f = record {
 }
 
 -- the first file that is there
-abbrev pub first_there : library.Files → List (List ℕ) → Option (List ℕ)
+abbrev pub first_there : library.FileTable → List (List ℕ) → Option (List ℕ)
 first_there l [] = None
 first_there l (name ∷ names) = option_or (get l name) (first_there l names)
 
 -- the names in order, up to the first of a file that is there
-abbrev pub up_to_there : library.Files → List (List ℕ) → List (List ℕ)
+abbrev pub up_to_there : library.FileTable → List (List ℕ) → List (List ℕ)
 up_to_there l [] = []
 up_to_there l (name ∷ names) = name ∷ (if is_some (get l name) then [] else up_to_there l names)
 
@@ -38,13 +38,13 @@ abbrev pub pk_choices : Units → FontKey → List (List ℕ)
 pk_choices u k = if is_resolution (dpi u k) then pk_names u k else []
 
 -- the files of a font
-pub record IsFound (l : library.Files) (u : Units) (k : FontKey) (f : FontFiles) : Type 0 where
+pub record IsFound (l : library.FileTable) (u : Units) (k : FontKey) (f : FontFiles) : Type 0 where
   pub tfm : f.tfm ≡ (if is_valid_name k then get l (tfm_name k) else None)
   pub vf : f.vf ≡ (if is_some f.tfm then get l (vf_name k) else None)
   pub pk : f.pk ≡ (if is_some f.tfm && is_none f.vf then first_there l (pk_choices u k) else None)
 
 -- the names looked for, in order
-abbrev pub looked_for : library.Files → Units → FontKey → List (List ℕ)
+abbrev pub looked_for : library.FileTable → Units → FontKey → List (List ℕ)
 looked_for l u k =
     if not (is_valid_name k) then []
     else if is_none (get l (tfm_name k)) then tfm_name k ∷ []

@@ -24,8 +24,8 @@ pub record FontSeen : Type 0 where
   pub shapes : Shapes
 
 -- the width of a code
-abbrev pub width_of : FontSeen → ℤ → Option ℤ
-width_of f c = tfm.width_of f.widths c
+abbrev pub scaled_width_of : FontSeen → ℤ → Option ℤ
+scaled_width_of f c = tfm.width_of f.widths c
 
 -- ---- what its characters are
 

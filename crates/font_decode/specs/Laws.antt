@@ -42,11 +42,11 @@ NamesAreDistinct =
 
 -- a library has one answer
 abbrev pub OneIsFound : Type 0
-OneIsFound = (l : library.Files) (u : Units) (k : FontKey) (f g : FontFiles) → IsFound l u k f
+OneIsFound = (l : library.FileTable) (u : Units) (k : FontKey) (f g : FontFiles) → IsFound l u k f
     → IsFound l u k g → f ≡ g
 
 abbrev pub FiveAtMost : Type 0
-FiveAtMost = (l : library.Files) (u : Units) (k : FontKey) → length (looked_for l u k) ≤ 5
+FiveAtMost = (l : library.FileTable) (u : Units) (k : FontKey) → length (looked_for l u k) ≤ 5
 
 -- files come to one font, or have one first fault
 abbrev pub OneOfItsFiles : Type 0
@@ -57,17 +57,17 @@ OneOfItsFiles =
 -- and so does a key in a library
 abbrev pub OneInALibrary : Type 0
 OneInALibrary =
-    (l : library.Files) (u : Units) (k : FontKey) (d e : Decoded) → IsFontIn l u k d
+    (l : library.FileTable) (u : Units) (k : FontKey) (d e : Decoded) → IsFontIn l u k d
     → IsFontIn l u k e → AreAlike d e
 
 -- every file of a library has bytes
-abbrev pub AreByteFiles : library.Files → Type 0
+abbrev pub AreByteFiles : library.FileTable → Type 0
 AreByteFiles l = (name : List ℕ) → IfSome (get l name) AreBytes
 
 -- each key has a decoding in a library
 abbrev pub EachKeyIsDecoded : Type 0
 EachKeyIsDecoded =
-    (l : library.Files) (u : Units) (k : FontKey) → AreByteFiles l
+    (l : library.FileTable) (u : Units) (k : FontKey) → AreByteFiles l
     → (d : Decoded) × IsFontIn l u k d
 
 -- the decoding of files is told by one list of rows: the fault of the first row that holds, and

@@ -29,7 +29,7 @@ pub trait Desk: Drop {
     type Shared;
 
     /// All the font files, where they are told. No call changes them.
-    ghost library: { Self → Option library.Files } = { λ _. None };
+    ghost library: { Self → Option library.FileTable } = { λ _. None };
 
     /// The units of the document, where they are told. No call changes them.
     ghost units: { Self → Option Units } = { λ _. None };

@@ -2,7 +2,7 @@
 ghost use Rattle.std.specs.Prelude.{◌≡◌, ◌≤◌, ◌<◌, ◌^◌, ℕ, pos, length, unsigned_abs, IfSome, IsSome, MatchOption, None, Some};
 ghost use Rattle.std.specs.Arc.{arc_value};
 ghost use Rattle.outside.specs.FontKeys.{IsFontKey};
-ghost use Rattle.font_decode.specs.Fonts.{AreShapes, AreWidths, IsProgram, first_local_of, glyph_at, is_virtual_of, local_of, packet_of, width_of};
+ghost use Rattle.font_decode.specs.Fonts.{AreShapes, AreWidths, IsProgram, first_local_of, glyph_at, is_virtual_of, local_of, packet_of, scaled_width_of};
 
 use crate::shapes::Shapes;
 use outside::FontKey;
@@ -12,7 +12,8 @@ use std::sync::Arc;
 
 /// A font at a size: its widths, and its glyphs in dots or, of a virtual font, its packets of
 /// commands and its local fonts. A contract sees it as its size, the widths of the codes from 0 on,
-/// and what its characters are; `width_of`, `glyph_at` and `packet_of` say which ones a code has,
+/// and what its characters are; `scaled_width_of`, `glyph_at` and `packet_of` say which ones a code
+/// has,
 /// and `local_of` which font a number.
 #[derive(Drop)]
 pub struct Font {
@@ -54,7 +55,7 @@ impl Font {
     /// without a character.
     #[inline(always)]
     pub fn width(&self, c: i32) -> Option<i64>
-        ensures width { result ≡ width_of self.now c }
+        ensures width { result ≡ scaled_width_of self.now c }
         ensures number { IfSome result (λ w. unsigned_abs w ≤ 2 ^ 31) }
         ensures byte { IfSome result (λ _. (n : ℕ) × (c ≡ pos n) × (n < 256)) }
     {

@@ -7,10 +7,11 @@ mod decodings;
 mod virtual_fonts;
 
 use crate::names::is_resolution;
-use crate::{Files, dpi, fetch, file_name, is_valid_name, laws};
+use crate::{dpi, fetch, file_name, is_valid_name, laws};
 use outside::{FileName, FontKey, FontName, FontSource, Library, LoadStop, MemFonts, SureFonts};
 use pixel_round::Units;
 use std::alloc::Global;
+use std::process::Abort;
 use std::sync::Arc;
 use std::test::Fail;
 
@@ -23,19 +24,19 @@ const UNITS: Units = Units {
 };
 
 // A font of a design size of 128 units.
-fn key(rt: &HostRuntime, name: &[u8], size: u32) -> Result<FontKey, Fail>
+fn key(alloc: Global, name: &[u8], size: u32) -> Result<FontKey, Fail>
     requires { (1 ≤ size) × (size < 2 ^ 27) }
     ensures { IfOk result IsFontKey }
 {
     Ok(FontKey {
         area: 0,
-        name: FontName::new(rt.alloc(), name)?,
+        name: FontName::new(alloc, name)?,
         size,
         design: 128,
     })
 }
 
-fn library(rt: &HostRuntime) -> Result<Arc<Library>, Fail> {
+fn library(alloc: Global) -> Result<Arc<Library>, Fail> {
     let files: [&[u8]; 10] = [
         b"dot.tfm",
         b"dot.300pk",
@@ -48,52 +49,62 @@ fn library(rt: &HostRuntime) -> Result<Arc<Library>, Fail> {
         b"duo.vf",
         b"duo.300pk",
     ];
-    let mut library = Library::new(rt.alloc());
+    let mut library = Library::new(alloc);
     for file in files {
-        library.add(FileName::new(rt.alloc(), file)?, file.to_vec(rt.alloc())?)?;
+        library.add(FileName::new(alloc, file)?, file.to_vec(alloc)?)?;
     }
-    Ok(Arc::new(rt.alloc(), library)?)
+    Ok(Arc::new(alloc, library)?)
 }
 
-// Whether the file has these bytes, or isn't there where they are none.
-fn is_file(file: &Option<Vec<u8>>, bytes: &[u8]) -> bool {
+// The bytes of a file, none where it isn't there.
+fn bytes_of(file: &Option<Vec<u8>>) -> &[u8] {
     match file {
-        Some(found) => found.as_slice() == bytes,
-        None => bytes.is_empty(),
+        Some(found) => found,
+        None => b"",
     }
 }
 
-// Whether these three files are found by n loads: the next load is the one that fails.
-fn finds(rt: &HostRuntime, key: &FontKey, loads: u64, files: [&[u8]; 3]) -> Result<bool, Fail>
+// These three files are found by n loads: the next load is the one that fails.
+fn assert_finds(
+    rt: &impl Abort,
+    alloc: Global,
+    key: &FontKey,
+    loads: u64,
+    files: [&[u8]; 3],
+) -> Result<(), Fail>
     requires { IsFontKey key.now }
 {
-    let fails = vec![in rt.alloc(); loads.saturating_add(1)]?;
-    let mut source = MemFonts::new(library(rt)?, fails);
-    let Files { tfm, vf, pk } = fetch(rt.alloc(), &mut source, key, &UNITS)?;
-    let next = source.load(&FileName::new(rt.alloc(), b"dot.tfm")?);
-    let [tfm_bytes, vf_bytes, pk_bytes] = files;
-    Ok(
-        matches!(next, Err(LoadStop::Failed))
-            && is_file(&tfm, tfm_bytes)
-            && is_file(&vf, vf_bytes)
-            && is_file(&pk, pk_bytes),
-    )
+    let fails = vec![in alloc; loads.saturating_add(1)]?;
+    let mut source = MemFonts::new(library(alloc)?, fails);
+    let found = fetch(alloc, &mut source, key, &UNITS)?;
+    let [tfm, vf, pk] = files;
+    assert_eq!(rt; bytes_of(&found.tfm), tfm);
+    assert_eq!(rt; bytes_of(&found.vf), vf);
+    assert_eq!(rt; bytes_of(&found.pk), pk);
+    let next = source.load(&FileName::new(alloc, b"dot.tfm")?);
+    assert!(rt;
+        matches!(next, Err(LoadStop::Failed)),
+        "load {loads} is not the last"
+    );
+    Ok(())
 }
 
-fn is_named(rt: &HostRuntime, which: usize, bytes: &[u8]) -> Result<bool, Fail>
+// This is the name of a file of the font `dot`.
+fn assert_named(rt: &impl Abort, alloc: Global, which: usize, bytes: &[u8]) -> Result<(), Fail>
     requires { which < 5 }
 {
-    let key = key(rt, b"dot", 128)?;
+    let key = key(alloc, b"dot", 128)?;
     if !is_valid_name(&key) || !is_resolution(dpi(&UNITS, &key)) {
-        return Ok(false);
+        return Err(Fail::from("no file of the font is looked for"));
     }
-    let name = file_name(rt.alloc(), &key, &UNITS, which)?;
-    Ok(name.bytes() == bytes)
+    let name = file_name(alloc, &key, &UNITS, which)?;
+    assert_eq!(rt; name.bytes(), bytes);
+    Ok(())
 }
 
 #[test]
 fn resolutions_of_packed_fonts(rt: HostRuntime) -> Result<(), Fail> {
-    let mut dot = key(&rt, b"dot", 128)?;
+    let mut dot = key(rt.alloc(), b"dot", 128)?;
     assert_eq!(rt; dpi(&UNITS, &dot), 300);
     let twice = Units {
         num: 1270,
@@ -112,71 +123,63 @@ fn resolutions_of_packed_fonts(rt: HostRuntime) -> Result<(), Fail> {
 
 #[test]
 fn names_of_files(rt: HostRuntime) -> Result<(), Fail> {
-    assert!(rt; is_named(&rt, 0, b"dot.tfm")?);
-    assert!(rt; is_named(&rt, 1, b"dot.vf")?);
-    assert!(rt; is_named(&rt, 2, b"dot.300pk")?);
-    assert!(rt; is_named(&rt, 3, b"dot.301pk")?);
-    assert!(rt; is_named(&rt, 4, b"dot.299pk")?);
+    assert_named(&rt, rt.alloc(), 0, b"dot.tfm")?;
+    assert_named(&rt, rt.alloc(), 1, b"dot.vf")?;
+    assert_named(&rt, rt.alloc(), 2, b"dot.300pk")?;
+    assert_named(&rt, rt.alloc(), 3, b"dot.301pk")?;
+    assert_named(&rt, rt.alloc(), 4, b"dot.299pk")?;
     Ok(())
 }
 
 #[test]
 fn a_packed_font(rt: HostRuntime) -> Result<(), Fail> {
-    let dot = key(&rt, b"dot", 128)?;
-    assert!(rt; finds(&rt, &dot, 3, [b"dot.tfm", b"", b"dot.300pk"])?);
-    let near = key(&rt, b"near", 128)?;
-    assert!(rt;
-        finds(&rt, &near, 4, [b"near.tfm", b"", b"near.301pk"])?,
-        "above comes first"
-    );
-    let low = key(&rt, b"low", 128)?;
-    assert!(rt;
-        finds(&rt, &low, 5, [b"low.tfm", b"", b"low.299pk"])?,
-        "below comes last"
-    );
-    let twice = key(&rt, b"dot", 256)?;
-    assert!(rt;
-        finds(&rt, &twice, 5, [b"dot.tfm", b"", b""])?,
-        "none at 600"
-    );
-    Ok(())
+    let dot = key(rt.alloc(), b"dot", 128)?;
+    assert_finds(&rt, rt.alloc(), &dot, 3, [b"dot.tfm", b"", b"dot.300pk"])?;
+    // The resolution above comes first, the one below last.
+    let near = key(rt.alloc(), b"near", 128)?;
+    assert_finds(&rt, rt.alloc(), &near, 4, [b"near.tfm", b"", b"near.301pk"])?;
+    let low = key(rt.alloc(), b"low", 128)?;
+    assert_finds(&rt, rt.alloc(), &low, 5, [b"low.tfm", b"", b"low.299pk"])?;
+    // There is none at 600.
+    let twice = key(rt.alloc(), b"dot", 256)?;
+    assert_finds(&rt, rt.alloc(), &twice, 5, [b"dot.tfm", b"", b""])
 }
 
 #[test]
 fn fonts_without_a_look_for_packed_files(rt: HostRuntime) -> Result<(), Fail> {
-    let duo = key(&rt, b"duo", 128)?;
-    assert!(rt;
-        finds(&rt, &duo, 2, [b"duo.tfm", b"duo.vf", b""])?,
-        "a virtual font"
-    );
-    let missing = key(&rt, b"none", 128)?;
-    assert!(rt; finds(&rt, &missing, 1, [b"", b"", b""])?);
-    let huge = key(&rt, b"dot", 500_000)?;
-    assert!(rt;
-        finds(&rt, &huge, 2, [b"dot.tfm", b"", b""])?,
-        "1,171,875 dots to the inch"
-    );
-    Ok(())
+    let duo = key(rt.alloc(), b"duo", 128)?;
+    assert_finds(&rt, rt.alloc(), &duo, 2, [b"duo.tfm", b"duo.vf", b""])?;
+    let missing = key(rt.alloc(), b"none", 128)?;
+    assert_finds(&rt, rt.alloc(), &missing, 1, [b"", b"", b""])?;
+    // At 1,171,875 dots to the inch.
+    let huge = key(rt.alloc(), b"dot", 500_000)?;
+    assert_finds(&rt, rt.alloc(), &huge, 2, [b"dot.tfm", b"", b""])
 }
 
 #[test]
 fn names_that_are_not_looked_for(rt: HostRuntime) -> Result<(), Fail> {
     let names: [&[u8]; 4] = [b"", b".dot", b"../dot", b"d\xf6t"];
     for name in names {
-        assert!(rt; finds(&rt, &key(&rt, name, 128)?, 0, [b"", b"", b""])?);
+        assert_finds(
+            &rt,
+            rt.alloc(),
+            &key(rt.alloc(), name, 128)?,
+            0,
+            [b"", b"", b""],
+        )?;
     }
     Ok(())
 }
 
 #[test]
 fn a_failed_load_ends_a_fetch(rt: HostRuntime) -> Result<(), Fail> {
-    let dot = key(&rt, b"dot", 128)?;
-    let mut source = MemFonts::new(library(&rt)?, vec![in rt.alloc(); 2]?);
+    let dot = key(rt.alloc(), b"dot", 128)?;
+    let mut source = MemFonts::new(library(rt.alloc())?, vec![in rt.alloc(); 2]?);
     let failed = fetch(rt.alloc(), &mut source, &dot, &UNITS);
     assert!(rt; matches!(failed, Err(LoadStop::Failed)));
-    let mut sure = SureFonts::new(library(&rt)?);
+    let mut sure = SureFonts::new(library(rt.alloc())?);
     let found = fetch(rt.alloc(), &mut sure, &dot, &UNITS)?;
-    assert!(rt; is_file(&found.pk, b"dot.300pk"));
+    assert_eq!(rt; bytes_of(&found.pk), b"dot.300pk".as_slice());
     Ok(())
 }
 
@@ -210,9 +213,9 @@ impl FontSource for OutOfMemory {
 
 #[test]
 fn each_load_may_stop_a_fetch(rt: HostRuntime) -> Result<(), Fail> {
-    let dot = key(&rt, b"dot", 256)?;
+    let dot = key(rt.alloc(), b"dot", 256)?;
     for n in 1..6u64 {
-        let mut source = MemFonts::new(library(&rt)?, vec![in rt.alloc(); n]?);
+        let mut source = MemFonts::new(library(rt.alloc())?, vec![in rt.alloc(); n]?);
         let failed = fetch(rt.alloc(), &mut source, &dot, &UNITS);
         assert!(rt; matches!(failed, Err(LoadStop::Failed)), "load {n}");
         let mut without_memory = OutOfMemory {
@@ -264,7 +267,7 @@ impl FontSource for Listening {
 
 #[test]
 fn files_are_asked_for_in_order(rt: HostRuntime) -> Result<(), Fail> {
-    let dot = key(&rt, b"dot", 128)?;
+    let dot = key(rt.alloc(), b"dot", 128)?;
     for pk_at in 3..7u64 {
         let mut source = Listening {
             alloc: rt.alloc(),
@@ -286,7 +289,12 @@ fn a_file_of_any_length_is_loaded(rt: HostRuntime) -> Result<(), Fail> {
     let long = vec![in rt.alloc(); 0u8; 8_388_609]?;
     library.add(FileName::new(rt.alloc(), b"dot.tfm")?, long)?;
     let mut source = SureFonts::new(Arc::new(rt.alloc(), library)?);
-    let found = fetch(rt.alloc(), &mut source, &key(&rt, b"dot", 128)?, &UNITS)?;
+    let found = fetch(
+        rt.alloc(),
+        &mut source,
+        &key(rt.alloc(), b"dot", 128)?,
+        &UNITS,
+    )?;
     let length = match &found.tfm {
         Some(tfm) => tfm.len(),
         None => 0,

@@ -20,7 +20,8 @@ pub fn paint(page: &mut Page, raster: &Raster, x: i64, y: i64)
     ensures ink { page.new ≡ with_mark page.old (Dots raster.now x y) }
     ensures dots { (column row : ℕ) → column < page.old.width → row < page.old.height →
         is_black page.new column row
-        ≡ (is_black_at raster.now (pos column -ℤ x) (pos row -ℤ y) || is_black page.old column row) }
+        ≡ (is_black_at raster.now (pos column -ℤ x) (pos row -ℤ y)
+        || is_black page.old column row) }
     ensures width { page.new.width ≡ page.old.width }
     ensures height { page.new.height ≡ page.old.height }
     ensures marks { (marks : List Inked) → page.old ≡ page_of page.old.width page.old.height marks →

@@ -41,34 +41,40 @@ fn long(alloc: Global) -> Result<Raster, RunStop> {
 }
 
 #[test]
-fn a_long_row_over_word_borders(rt: HostRuntime) -> Result<(), Fail> {
+fn a_long_row_at_the_right(rt: HostRuntime) -> Result<(), Fail> {
     let bar = long(rt.alloc())?;
-    let mut right = Page::blank(rt.alloc(), 200, 1)?;
-    paint(&mut right, &bar, 63, 0);
-    assert_eq!(rt;
-        right.row(0),
-        [
-            0, 0, 0, 0, 0, 0, 0, 0x01, 0xff, 0xff, 0xff, 0xff, 0xff, 0xff, 0xff, 0xff, 0xff, 0xff,
-            0xff, 0xff, 0xff, 0xff, 0xff, 0xff, 0x80,
-        ]
-        .as_slice()
-    );
-    assert_eq!(rt; right.count(), 130);
-    let mut left = Page::blank(rt.alloc(), 200, 1)?;
-    paint(&mut left, &bar, -65, 0);
-    assert_eq!(rt;
-        left.row(0),
-        [
-            0xff, 0xff, 0xff, 0xff, 0xff, 0xff, 0xff, 0xff, 0x80, 0, 0, 0, 0, 0, 0, 0, 0, 0, 0, 0,
-            0, 0, 0, 0, 0,
-        ]
-        .as_slice()
-    );
-    assert_eq!(rt; left.count(), 65);
-    let mut narrow = Page::blank(rt.alloc(), 5, 1)?;
-    paint(&mut narrow, &bar, 0, 0);
-    assert_eq!(rt; narrow.padded(0), [0xf8, 0, 0, 0, 0, 0, 0, 0].as_slice());
-    assert_eq!(rt; narrow.count(), 5);
+    let mut page = Page::blank(rt.alloc(), 200, 1)?;
+    paint(&mut page, &bar, 63, 0);
+    let row = [
+        0, 0, 0, 0, 0, 0, 0, 0x01, 0xff, 0xff, 0xff, 0xff, 0xff, 0xff, 0xff, 0xff, 0xff, 0xff,
+        0xff, 0xff, 0xff, 0xff, 0xff, 0xff, 0x80,
+    ];
+    assert_eq!(rt; page.row(0), row.as_slice());
+    assert_eq!(rt; page.count(), 130);
+    Ok(())
+}
+
+#[test]
+fn a_long_row_at_the_left(rt: HostRuntime) -> Result<(), Fail> {
+    let bar = long(rt.alloc())?;
+    let mut page = Page::blank(rt.alloc(), 200, 1)?;
+    paint(&mut page, &bar, -65, 0);
+    let row = [
+        0xff, 0xff, 0xff, 0xff, 0xff, 0xff, 0xff, 0xff, 0x80, 0, 0, 0, 0, 0, 0, 0, 0, 0, 0, 0, 0,
+        0, 0, 0, 0,
+    ];
+    assert_eq!(rt; page.row(0), row.as_slice());
+    assert_eq!(rt; page.count(), 65);
+    Ok(())
+}
+
+#[test]
+fn a_long_row_on_a_narrow_page(rt: HostRuntime) -> Result<(), Fail> {
+    let bar = long(rt.alloc())?;
+    let mut page = Page::blank(rt.alloc(), 5, 1)?;
+    paint(&mut page, &bar, 0, 0);
+    assert_eq!(rt; page.padded(0), [0xf8, 0, 0, 0, 0, 0, 0, 0].as_slice());
+    assert_eq!(rt; page.count(), 5);
     Ok(())
 }
 
@@ -196,29 +202,31 @@ fn beside_the_page(rt: HostRuntime) -> Result<(), Fail> {
     Ok(())
 }
 
+// The rows of a page of 5 by 2 dots on which a raster is set at this place.
+fn on_a_small_page(alloc: Global, glyph: &Raster, column: i8, row: i8) -> Result<Vec<u8>, Fail> {
+    let mut page = Page::blank(alloc, 5, 2)?;
+    paint(&mut page, glyph, i64::from(column), i64::from(row));
+    rows_of(alloc, &page)
+}
+
 #[test]
-fn larger_than_the_page_and_empty(rt: HostRuntime) -> Result<(), Fail> {
+fn larger_than_the_page(rt: HostRuntime) -> Result<(), Fail> {
     let glyph = wide(rt.alloc())?;
-    let mut inner = Page::blank(rt.alloc(), 5, 2)?;
-    paint(&mut inner, &glyph, -4, -1);
-    assert_eq!(rt;
-        rows_of(rt.alloc(), &inner)?.as_slice(),
-        [0, 0xa0].as_slice()
-    );
-    let mut upper = Page::blank(rt.alloc(), 5, 2)?;
-    paint(&mut upper, &glyph, 0, 0);
-    assert_eq!(rt;
-        rows_of(rt.alloc(), &upper)?.as_slice(),
-        [0xf8, 0x80].as_slice()
-    );
+    let inner = on_a_small_page(rt.alloc(), &glyph, -4, -1)?;
+    assert_eq!(rt; inner.as_slice(), [0, 0xa0].as_slice());
+    let upper = on_a_small_page(rt.alloc(), &glyph, 0, 0)?;
+    assert_eq!(rt; upper.as_slice(), [0xf8, 0x80].as_slice());
+    Ok(())
+}
+
+#[test]
+fn empty_rasters_set_nothing(rt: HostRuntime) -> Result<(), Fail> {
     let low = raster(rt.alloc(), &[], 14, true, 5, 0)?;
-    paint(&mut upper, &low, 0, 0);
+    let rows = on_a_small_page(rt.alloc(), &low, 0, 0)?;
+    assert_eq!(rt; rows.as_slice(), [0, 0].as_slice());
     let narrow = raster(rt.alloc(), &[], 14, true, 0, 2)?;
-    paint(&mut upper, &narrow, 0, 0);
-    assert_eq!(rt;
-        rows_of(rt.alloc(), &upper)?.as_slice(),
-        [0xf8, 0x80].as_slice()
-    );
+    let rows = on_a_small_page(rt.alloc(), &narrow, 0, 0)?;
+    assert_eq!(rt; rows.as_slice(), [0, 0].as_slice());
     Ok(())
 }
 

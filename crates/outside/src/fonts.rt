@@ -2,7 +2,7 @@
 ghost use Rattle.std.specs.Prelude.{◌≡◌, ◌<◌, ◌^◌, ℕ, List, Option, None, IfOk, IsErrOf};
 ghost use Rattle.std.specs.Option.{option_map};
 ghost use Rattle.outside.specs.Counts.{HasCause, next_count};
-ghost use Rattle.outside.specs.Library.{AskedFor, Files, IsFileOf};
+ghost use Rattle.outside.specs.Library.{AskedFor, FileTable, IsFileOf};
 
 use crate::FileName;
 use std::alloc::AllocError;
@@ -32,7 +32,7 @@ impl From<AllocError> for LoadStop {
 /// Where font files come from.
 pub trait FontSource: Drop {
     /// All the files, where they are told. No call changes them.
-    ghost library: { Self → Option Files } = { λ _. None };
+    ghost library: { Self → Option FileTable } = { λ _. None };
 
     /// How often it failed.
     ghost faults: { Self → ℕ };

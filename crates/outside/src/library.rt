@@ -19,9 +19,9 @@ impl Model for Library {
     ghost use Rattle.std.specs.Prelude.{map as each};
     ghost use Rattle.std.specs.FinMap as map;
     ghost use Rattle.std.specs.Coded.{coded_list, coded_ℕ};
-    ghost use Rattle.outside.specs.Library.{Files};
+    ghost use Rattle.outside.specs.Library.{FileTable};
 
-    ghost Value = { Files };
+    ghost Value = { FileTable };
 
     ghost coded = { map.code (coded_list coded_ℕ) (coded_list coded_ℕ) };
 

@@ -4,6 +4,7 @@ use crate::{
     MemInput, MemOutput, Output, PIECE, PickyFonts, SureFonts, SureInput, SureOutput, laws,
     write_all,
 };
+use std::alloc::Global;
 use std::sync::Arc;
 use std::test::Fail;
 
@@ -84,67 +85,100 @@ fn a_failed_write_ends_a_gathered_text(rt: HostRuntime) -> Result<(), Fail> {
     Ok(())
 }
 
+// The key of a font of 10 points without an area.
+fn ten_points(name: FontName) -> FontKey {
+    FontKey {
+        area: 0,
+        name,
+        size: 655360,
+        design: 655360,
+    }
+}
+
 #[test]
 fn keys_are_compared_by_value(rt: HostRuntime) -> Result<(), Fail> {
-    let name = FontName::new(rt.alloc(), b"cmr10")?;
-    let key = FontKey {
-        area: 0,
-        name: laws::font_again(&name)?,
-        size: 655360,
-        design: 655360,
-    };
-    let same = laws::key_again(&key)?;
-    let other = FontKey {
-        area: 0,
-        name: FontName::new(rt.alloc(), b"cmr9")?,
-        size: 655360,
-        design: 655360,
-    };
-    assert!(rt; laws::are_equal_keys(&key, &same));
-    assert!(rt; !laws::are_equal_keys(&key, &other));
+    let key = ten_points(FontName::new(rt.alloc(), b"cmr10")?);
+    let other = ten_points(FontName::new(rt.alloc(), b"cmr9")?);
+    let again = laws::key_again(&key)?;
+    let equal = (
+        laws::are_equal_keys(&key, &again),
+        laws::are_equal_keys(&key, &other),
+    );
+    assert_eq!(rt; equal, (true, false));
     assert!(rt; key < other);
-    assert!(rt; laws::are_equal_fonts(&name, &key.name));
-    assert_eq!(rt; name.bytes(), b"cmr10".as_slice());
-    let file = FileName::new(rt.alloc(), b"cmr10.tfm")?;
-    assert!(rt; laws::are_equal_files(&file, &laws::file_again(&file)?));
-    assert_eq!(rt; file.bytes(), b"cmr10.tfm".as_slice());
     Ok(())
 }
 
 #[test]
-fn sources_load_the_later_file(rt: HostRuntime) -> Result<(), Fail> {
-    let name = FileName::new(rt.alloc(), b"cmr10.tfm")?;
-    let missing = FileName::new(rt.alloc(), b"cmr10.vf")?;
-    let mut library = Library::new(rt.alloc());
-    library.add(laws::file_again(&name)?, b"first".to_vec(rt.alloc())?)?;
-    library.add(laws::file_again(&name)?, b"second".to_vec(rt.alloc())?)?;
-    assert_eq!(rt; library.get(&name), Some(b"second".as_slice()));
-    assert_eq!(rt; library.get(&missing), None);
-    let library = Arc::new(rt.alloc(), library)?;
-    let mut sure = SureFonts::new(library.clone()?);
-    assert_eq!(rt;
-        sure.load(&name)?.ok_or("no file")?.as_slice(),
-        b"second".as_slice()
-    );
-    assert!(rt; sure.load(&missing)?.is_none());
-    let mut fonts = MemFonts::new(library, vec![in rt.alloc(); 1, 3]?);
-    assert!(rt; matches!(fonts.load(&name), Err(LoadStop::Failed)));
-    assert_eq!(rt;
-        fonts.load(&name)?.ok_or("no file")?.as_slice(),
-        b"second".as_slice()
-    );
-    assert!(rt; matches!(fonts.load(&missing), Err(LoadStop::Failed)));
-    assert!(rt; fonts.load(&missing)?.is_none());
-    let asked = fonts.asked().ok_or("no names")?;
-    assert_eq!(rt; asked.len(), 4, "loads that fail are asked for too");
-    for (name, expected) in asked.iter().zip([
-        b"cmr10.tfm".as_slice(),
-        b"cmr10.tfm",
-        b"cmr10.vf",
-        b"cmr10.vf",
-    ]) {
-        assert_eq!(rt; name.bytes(), expected);
+fn names_are_compared_by_value(rt: HostRuntime) -> Result<(), Fail> {
+    let font = FontName::new(rt.alloc(), b"cmr10")?;
+    let font_again = laws::font_again(&font)?;
+    assert!(rt; laws::are_equal_fonts(&font, &font_again));
+    let file = FileName::new(rt.alloc(), b"cmr10.tfm")?;
+    let file_again = laws::file_again(&file)?;
+    assert!(rt; laws::are_equal_files(&file, &file_again));
+    assert_eq!(rt; font_again.bytes(), b"cmr10".as_slice());
+    assert_eq!(rt; file_again.bytes(), b"cmr10.tfm".as_slice());
+    Ok(())
+}
+
+// A library to which a file of one name was added twice.
+fn replaced(alloc: Global) -> Result<Arc<Library>, Fail> {
+    let mut library = Library::new(alloc);
+    for text in [b"first".as_slice(), b"second"] {
+        library.add(FileName::new(alloc, b"cmr10.tfm")?, text.to_vec(alloc)?)?;
     }
+    Ok(Arc::new(alloc, library)?)
+}
+
+// The bytes that loads of these names give one after another, `none` where there is no file and
+// `failed` where a load fails, with a space after each.
+fn loads<F: FontSource>(alloc: Global, fonts: &mut F, names: &[&[u8]]) -> Result<Vec<u8>, Fail> {
+    let mut told = Vec::new(alloc);
+    for name in names {
+        let name = FileName::new(alloc, name)?;
+        match fonts.load(&name) {
+            Ok(Some(bytes)) => told.extend_from_slice(&bytes)?,
+            Ok(None) => told.extend_from_slice(b"none")?,
+            Err(LoadStop::Failed) => told.extend_from_slice(b"failed")?,
+            Err(LoadStop::NoMemory) => Err("no memory")?,
+        }
+        told.push(b' ')?;
+    }
+    Ok(told)
+}
+
+#[test]
+fn sources_load_the_later_file(rt: HostRuntime) -> Result<(), Fail> {
+    let mut fonts = SureFonts::new(replaced(rt.alloc())?);
+    let told = loads(rt.alloc(), &mut fonts, &[b"cmr10.tfm", b"cmr10.vf"])?;
+    assert_eq!(rt; told.as_slice(), b"second none ".as_slice());
+    Ok(())
+}
+
+#[test]
+fn a_library_has_the_later_file(rt: HostRuntime) -> Result<(), Fail> {
+    let library = replaced(rt.alloc())?;
+    let name = FileName::new(rt.alloc(), b"cmr10.tfm")?;
+    assert_eq!(rt; library.get(&name), Some(b"second".as_slice()));
+    let missing = FileName::new(rt.alloc(), b"cmr10.vf")?;
+    assert_eq!(rt; library.get(&missing), None);
+    Ok(())
+}
+
+#[test]
+fn a_listed_load_fails_and_is_asked_for(rt: HostRuntime) -> Result<(), Fail> {
+    let mut fonts = MemFonts::new(replaced(rt.alloc())?, vec![in rt.alloc(); 1, 3]?);
+    let names: [&[u8]; 4] = [b"cmr10.tfm", b"cmr10.tfm", b"cmr10.vf", b"cmr10.vf"];
+    let told = loads(rt.alloc(), &mut fonts, &names)?;
+    assert_eq!(rt; told.as_slice(), b"failed second failed none ".as_slice());
+    let mut asked = Vec::new(rt.alloc());
+    for name in fonts.asked().ok_or("no names")? {
+        asked.extend_from_slice(name.bytes())?;
+        asked.push(b' ')?;
+    }
+    let all = b"cmr10.tfm cmr10.tfm cmr10.vf cmr10.vf ";
+    assert_eq!(rt; asked.as_slice(), all.as_slice());
     Ok(())
 }
 

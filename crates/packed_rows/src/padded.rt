@@ -216,7 +216,8 @@ impl PaddedBitmap {
     /// The bytes of all rows, one after another, where no padding stands between them: where a row
     /// takes whole words by itself. `None` where it does.
     pub fn rows(&self) -> Option<&[u8]>
-        ensures some { IsSome result ↔ (div_ceil self.now.width 8 ≡ 8 * div_ceil self.now.width 64) }
+        ensures some { IsSome result
+            ↔ (div_ceil self.now.width 8 ≡ 8 * div_ceil self.now.width 64) }
         ensures text { IfSome result (λ bytes. bytes.now ≡ flat_map row_text self.now.rows) }
     {
         let stride = padded_bytes(self.width);

@@ -53,7 +53,8 @@ fn stamp_part(
     ensures dots { (x y : ℕ) → x < 8 * row_len → y * row_len + row_len ≤ length bytes.old →
         pixel (row_at row_len bytes.new y) x ≡ (is_within rows.from rows.until y
         && part_over upper.now ((y + down.skipped - down.start) * stride + from)
-        across.start across.skipped part.from part.until x || pixel (row_at row_len bytes.old y) x) }
+        across.start across.skipped part.from part.until x
+        || pixel (row_at row_len bytes.old y) x) }
 {
     let first = across.start + part.from;
     if part.from == part.until || first < across.skipped {

@@ -2,7 +2,7 @@
 use Rattle.std.proofs.Common.{◌≡◌, inl, inr, ℕ, ◌*◌, nat_eq, List, [], ◌∷◌, ◌++◌, Option, Some, None, refl, sym, ap, subst, ◌∙◌, arith, append_assoc, append-nil}
 use Rattle.std.specs.Prelude.{Result, Ok, Err, IfOk, IsOk, OnOk, OnErr}
 use Rattle.std.specs.Map.{remove_entry}
-use Rattle.outside.specs.Library.{Files}
+use Rattle.outside.specs.Library.{FileTable}
 use Rattle.outside.specs.declared.keys.FontKey.{FontKey}
 use Rattle.pixel_round.specs.declared.units.Units.{Units}
 use Rattle.cache_core.specs.declared.calls.Call.{Call}
@@ -43,13 +43,13 @@ module _ (c d : Cache Decoded) (calls : List Call) (grew : d.history ≡ c.histo
   )
 
   -- the seat is alone afterwards
-  pub alone_later : (l m : Option Files) (u : Units) → IsAlone l u c → m ≡ l → claim_of 1 d.claims ≡ None → AreOf 1 calls
+  pub alone_later : (l m : Option FileTable) (u : Units) → IsAlone l u c → m ≡ l → claim_of 1 d.claims ≡ None → AreOf 1 calls
       → (StateStands stands_so c (part_of l u c.capacity) → StateStands stands_so d (part_of l u c.capacity)) → IsAlone m u d
   alone_later l m u h told free mine stands = record {
     units = h.units;
     free = free;
     own = subst (AreOf 1) (sym grew) (of_more 1 c.history calls h.own mine);
-    stands = subst (λ (o : Option Files). StateStands stands_so d (part_of o u d.capacity)) (sym told)
+    stands = subst (λ (o : Option FileTable). StateStands stands_so d (part_of o u d.capacity)) (sym told)
         (subst (λ (n : ℕ). StateStands stands_so d (part_of l u n)) (sym same) (stands h.stands));
   }
 
@@ -104,7 +104,7 @@ module _ (k : FontKey) (c u d : Cache Decoded) (claimed : u.history ≡ c.histor
   ended_asked done none ended =
       asked_grew c d (call 1 k Claimed ∷ call 1 k done ∷ []) (two_calls k done c u d claimed ended) capacity (k ∷ []) (ap (λ (l : List FontKey). k ∷ (l ++ [])) none)
 
-  pub ended_alone : (done : Done) (l m : Option Files) (v : Units) → IsAlone l v c → m ≡ l
+  pub ended_alone : (done : Done) (l m : Option FileTable) (v : Units) → IsAlone l v c → m ≡ l
       → u.claims ≡ (1, k) ∷ c.claims → d.claims ≡ remove_entry (nat_eq 1) u.claims → d.history ≡ u.history ++ call 1 k done ∷ []
       → (StateStands stands_so c (part_of l v c.capacity) → StateStands stands_so d (part_of l v c.capacity)) → IsAlone m v d
   ended_alone done l m v h same taken freed ended stands =

@@ -11,27 +11,27 @@ use Rattle.font_decode.proofs.Alike.{one_in_a_library}
 use Rattle.vf_expand.specs.Course.{Course, Gives, Asks, course_of}
 use Rattle.vf_expand.proofs.Similar.{Similar, course_similar}
 use Rattle.vf_expand.proofs.PageLists.{looks_append}
-use Rattle.page_draw.specs.Members.{Member, Flat, Look, Finding, Leads, looks_of, last_state}
+use Rattle.page_draw.specs.Members.{Member, Flat, LookUp, Finding, Unfolds, looks_of, last_state}
 use Rattle.page_draw.specs.Laws.{BrokenPagesBegin}
 use Rattle.page_draw.proofs.Lists.{apart}
 use Rattle.page_draw.proofs.OneValue.{IsAtEnd, at_end, goes_on, moved_both, same_flat, same_look, similar_end}
 
 module _ (Finds : Finding) (c : Fraction) (alike : (k : FontKey) (d e : Decoded) → Finds k d → Finds k e → AreAlike d e) where
   -- of two lists of similar courses, one of which comes to an end, the other is the beginning
-  begins : (from from' : Course) (s : State) (ms ns : List Member) (to to' : Course) (t t' : State) → Similar from from' → Leads Finds from ms to → Leads Finds from' ns to'
+  begins : (from from' : Course) (s : State) (ms ns : List Member) (to to' : Course) (t t' : State) → Similar from from' → Unfolds Finds from ms to → Unfolds Finds from' ns to'
       → last_state c s ms ≡ Ok t → last_state c s ns ≡ Ok t' → IsAtEnd c t to
-      → (more : List Member) × (ms ≡ ns ++ more) × (past : Course) × Similar past to' × Leads Finds past more to
+      → (more : List Member) × (ms ≡ ns ++ more) × (past : Course) × Similar past to' × Unfolds Finds past more to
   begins from from' s ms [] to to' t t' similar first second moved moved' ends = (ms, refl, from, moved_both from from' from to' refl second similar, first)
   begins from from' s [] (Flat f g at ∷ ns) to to' t t' similar first second moved moved' ends =
       let there = apart c (after c s f) ns t' moved' in
       let here : t ≡ s = cc in
       let next = moved_both from from' to (Gives f g at second.0) first second.1 similar in
       absurd (goes_on c s there.0 f g at second.0 there.1 (similar_end c s to (Gives f g at second.0) next (subst (λ (x : State). IsAtEnd c x to) here ends)))
-  begins from from' s [] (Look k at ∷ ns) to to' t t' similar first second moved moved' ends =
+  begins from from' s [] (LookUp k at ∷ ns) to to' t t' similar first second moved moved' ends =
       absurd (similar_end c t to (Asks k at second.0) (moved_both from from' to (Asks k at second.0) first second.2 similar) ends)
-  begins from from' s (Flat f g at ∷ ms) (Look k at' ∷ ns) to to' t t' similar first second moved moved' ends =
+  begins from from' s (Flat f g at ∷ ms) (LookUp k at' ∷ ns) to to' t t' similar first second moved moved' ends =
       absurd (moved_both from from' (Gives f g at first.0) (Asks k at' second.0) first.1 second.2 similar)
-  begins from from' s (Look k at ∷ ms) (Flat f g at' ∷ ns) to to' t t' similar first second moved moved' ends =
+  begins from from' s (LookUp k at ∷ ms) (Flat f g at' ∷ ns) to to' t t' similar first second moved moved' ends =
       absurd (moved_both from from' (Asks k at first.0) (Gives f g at' second.0) first.2 second.1 similar)
   begins from from' s (Flat f g at ∷ ms) (Flat f' g' at' ∷ ns) to to' t t' similar first second moved moved' ends =
       let next = moved_both from from' (Gives f g at first.0) (Gives f' g' at' second.0) first.1 second.1 similar in
@@ -42,7 +42,7 @@ module _ (Finds : Finding) (c : Fraction) (alike : (k : FontKey) (d e : Decoded)
       let others = begins first.0 second.0 there.0 ms ns to to' t t' next.3 first.2 second.2
       there.2 (subst (λ (x : State). last_state c x ns ≡ Ok t') states there'.2) ends in
       (others.0, same_flat f f' g g' at at' ms (ns ++ others.0) next.0 next.1 next.2 others.1, others.2, others.3, others.4)
-  begins from from' s (Look k at ∷ ms) (Look k' at' ∷ ns) to to' t t' similar first second moved moved' ends =
+  begins from from' s (LookUp k at ∷ ms) (LookUp k' at' ∷ ns) to to' t t' similar first second moved moved' ends =
       let next = moved_both from from' (Asks k at first.0) (Asks k' at' second.0) first.2 second.2 similar in
       let found : Finds k second.1 = subst (λ (x : FontKey). Finds x second.1) (sym next.0) second.3 in
       let rests = next.2 first.1 second.1 (alike k first.1 second.1 first.3 found) in
@@ -50,18 +50,18 @@ module _ (Finds : Finding) (c : Fraction) (alike : (k : FontKey) (d e : Decoded)
       (others.0, same_look k k' at at' ms (ns ++ others.0) next.0 next.1 others.1, others.2, others.3, others.4)
 
   -- a look-up that stands where a page was broken off is the page's next
-  next_look : (past to : Course) (more : List Member) (k : FontKey) (at : ℕ) (rest : Decoded → Course) (t : State) → Similar past (Asks k at rest) → Leads Finds past more to
+  next_look : (past to : Course) (more : List Member) (k : FontKey) (at : ℕ) (rest : Decoded → Course) (t : State) → Similar past (Asks k at rest) → Unfolds Finds past more to
       → IsAtEnd c t to → (later : List FontKey) × (looks_of more ≡ k ∷ later)
   next_look past to [] k at rest t similar leads ends = absurd (similar_end c t past (Asks k at rest) similar (subst (IsAtEnd c t) (sym leads) ends))
   next_look past to (Flat f g at' ∷ more) k at rest t similar leads ends =
       absurd (moved_both past (Asks k at rest) (Gives f g at' leads.0) (Asks k at rest) leads.1 refl similar)
-  next_look past to (Look k' at' ∷ more) k at rest t similar leads ends =
+  next_look past to (LookUp k' at' ∷ more) k at rest t similar leads ends =
       let next = moved_both past (Asks k at rest) (Asks k' at' leads.0) (Asks k at rest) leads.2 refl similar in
       (looks_of more, ap (λ (x : FontKey). x ∷ looks_of more) next.0)
 
   -- the keys asked for, by whether the next one was
   asked_first : (past to to' : Course) (members more : List Member) (t : State) (looks : List FontKey) (old new : Option (List FontKey)) → Similar past to'
-      → Leads Finds past more to → IsAtEnd c t to → looks ≡ looks_of members ++ looks_of more
+      → Unfolds Finds past more to → IsAtEnd c t to → looks ≡ looks_of members ++ looks_of more
       → (GrewBy old new (looks_of members) ⊎ ((k : FontKey) × (at : ℕ) × (rest : Decoded → Course) × (to' ≡ Asks k at rest) × GrewBy old new (looks_of members ++ k ∷ [])))
       → (asked : List FontKey) × (later : List FontKey) × (looks ≡ asked ++ later) × GrewBy old new asked
   asked_first past to to' members more t looks old new similar leads ends all (inl grew) = (looks_of members, looks_of more, all, grew)

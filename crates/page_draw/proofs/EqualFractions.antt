@@ -4,7 +4,7 @@ use Rattle.std.specs.Prelude.{◌&&◌, if◌then◌else◌}
 use Rattle.outside.specs.declared.keys.FontKey.{FontKey}
 use Rattle.pixel_round.specs.Pixels.{AreEqual, Fraction, round, ceil}
 use Rattle.pixel_round.proofs.Equal.{equal_fractions_convert_alike}
-use Rattle.drift_rules.specs.Position.{FlatCommand, Skip, Char, Rule, Right, W, X, W0, X0, Down, Y, Z, Y0, Z0, Push, Pop, Enter, Leave, Advance, State, after, at_origin, down_by, drifted, if_held, is_line_space, is_word_space, over, right_by}
+use Rattle.drift_rules.specs.Position.{FlatCommand, Skip, Char, Rule, Right, W, X, W0, X0, Down, Y, Z, Y0, Z0, Push, Pop, Enter, Leave, Advance, State, after, at_origin, down_by, after_drift, if_held, is_line_space, is_word_space, over, right_by}
 use Rattle.drift_rules.specs.Marks.{is_positive, mark_of}
 use Rattle.drift_rules.specs.declared.faults.PenFault.{PenFault}
 use Rattle.drift_rules.specs.declared.flat.Mark.{Mark}
@@ -13,7 +13,7 @@ use Rattle.drift_rules.specs.declared.flat.Registers.{Registers}
 use Rattle.packed_rows.specs.Bitmap.{Bitmap}
 use Rattle.raster_page.specs.Ink.{Inked, page_of}
 use Rattle.vf_expand.specs.Course.{Course, Gives, Asks, Ends, Stops}
-use Rattle.page_draw.specs.Members.{Finding, Flat, Look, Member, and_then, marks_after, last_state, marks_from}
+use Rattle.page_draw.specs.Members.{Finding, Flat, LookUp, Member, and_then, marks_after, last_state, marks_from}
 use Rattle.page_draw.specs.Sheets.{inks_of}
 use Rattle.page_draw.specs.Values.{EndsIn, HasValue, PageValue, bitmap_of}
 use Rattle.page_draw.specs.declared.sheet.Sheet.{Sheet}
@@ -27,17 +27,17 @@ module _ (c d : Fraction) (same : AreEqual c d) where
 
   over_alike : (s : State) (width p q : ℤ) → p ≡ q → over c s width p ≡ over d s width q
   over_alike s width p q e =
-      ap₂ (λ (r p : ℤ). if_held (s.now.h +ℤ width) (record s { now = record s.now { h = s.now.h +ℤ width; hh = drifted (s.now.hh +ℤ p) r } }))
+      ap₂ (λ (r p : ℤ). if_held (s.now.h +ℤ width) (record s { now = record s.now { h = s.now.h +ℤ width; hh = after_drift (s.now.hh +ℤ p) r } }))
       (rounds (s.now.h +ℤ width)) e
 
   right_alike : (s : State) (set : Registers) (p space : ℤ) → right_by c s set p space ≡ right_by d s set p space
   right_alike s set p space =
-      ap₂ (λ (r q : ℤ). if_held (s.now.h +ℤ p) (record s { now = record set { h = set.h +ℤ p; hh = drifted (if is_word_space p space then r else set.hh +ℤ q) r } }))
+      ap₂ (λ (r q : ℤ). if_held (s.now.h +ℤ p) (record s { now = record set { h = set.h +ℤ p; hh = after_drift (if is_word_space p space then r else set.hh +ℤ q) r } }))
       (rounds (set.h +ℤ p)) (rounds p)
 
   down_alike : (s : State) (set : Registers) (p space : ℤ) → down_by c s set p space ≡ down_by d s set p space
   down_alike s set p space =
-      ap₂ (λ (r q : ℤ). if_held (s.now.v +ℤ p) (record s { now = record set { v = set.v +ℤ p; vv = drifted (if is_line_space p space then r else set.vv +ℤ q) r } }))
+      ap₂ (λ (r q : ℤ). if_held (s.now.v +ℤ p) (record s { now = record set { v = set.v +ℤ p; vv = after_drift (if is_line_space p space then r else set.vv +ℤ q) r } }))
       (rounds (set.v +ℤ p)) (rounds p)
 
   after_alike : (s : State) (f : FlatCommand) → after c s f ≡ after d s f
@@ -95,7 +95,7 @@ module _ (c d : Fraction) (same : AreEqual c d) where
   states_alike s (Flat f g at ∷ members) =
       ap (λ (r : Result State PenFault). and_then r (λ t. last_state c t members)) (after_alike s f)
       ∙ then_alike (after d s f) members (λ t. states_alike t members)
-  states_alike s (Look k at ∷ members) = states_alike s members
+  states_alike s (LookUp k at ∷ members) = states_alike s members
 
   marks_after_alike : (r : Result State PenFault) (sheet : Sheet) (members : List Member) → ((t : State) → marks_from c sheet t members ≡ marks_from d sheet t members)
       → marks_after r (λ t. marks_from c sheet t members) ≡ marks_after r (λ t. marks_from d sheet t members)
@@ -108,7 +108,7 @@ module _ (c d : Fraction) (same : AreEqual c d) where
       ap₂ (λ (m : Option Mark) (rest : List Inked). inks_of sheet m g ++ rest) (mark_alike s.now f)
       (ap (λ (r : Result State PenFault). marks_after r (λ t. marks_from c sheet t members)) (after_alike s f)
       ∙ marks_after_alike (after d s f) sheet members (λ t. marks_alike sheet t members))
-  marks_alike sheet s (Look k at ∷ members) = marks_alike sheet s members
+  marks_alike sheet s (LookUp k at ∷ members) = marks_alike sheet s members
 
   ends_alike : (s : State) (page : Bitmap) (to : Course) (value : PageValue) → EndsIn c s page to value → EndsIn d s page to value
   ends_alike s page (Gives f g at rest) value h = (h.0, sym (after_alike s f) ∙ h.1, h.2)

@@ -13,7 +13,7 @@ use Rattle.font_decode.specs.Desks.{GrewBy}
 use Rattle.font_decode.specs.declared.decoded.Decoded.{Decoded}
 use Rattle.vf_expand.specs.Course.{Course, Gives, Asks}
 use Rattle.page_draw.specs.Sheets.{inks_of}
-use Rattle.page_draw.specs.Members.{Member, Flat, Look, Finding, Leads, looks_of, and_then, last_state, marks_after, marks_from}
+use Rattle.page_draw.specs.Members.{Member, Flat, LookUp, Finding, Unfolds, looks_of, and_then, last_state, marks_after, marks_from}
 pub use Rattle.page_draw.specs.SoFar.{IsSoFar}
 use Rattle.page_draw.specs.declared.sheet.Sheet.{Sheet}
 
@@ -21,30 +21,30 @@ abbrev with_flat : List Member → FlatCommand → Option Glyph → ℕ → List
 with_flat members f g at = members ++ Flat f g at ∷ []
 
 abbrev with_look : List Member → FontKey → ℕ → List Member
-with_look members k at = members ++ Look k at ∷ []
+with_look members k at = members ++ LookUp k at ∷ []
 
 leads_flat : (Finds : Finding) (from : Course) (members : List Member) (f : FlatCommand) (g : Option Glyph) (at : ℕ) (to : Course)
-    → Leads Finds from members (Gives f g at to) → Leads Finds from (with_flat members f g at) to
+    → Unfolds Finds from members (Gives f g at to) → Unfolds Finds from (with_flat members f g at) to
 leads_flat Finds from [] f g at to leads = (to, leads, refl)
 leads_flat Finds from (Flat f' g' at' ∷ members) f g at to leads = (leads.0, leads.1, leads_flat Finds leads.0 members f g at to leads.2)
-leads_flat Finds from (Look k' at' ∷ members) f g at to leads = (leads.0, leads.1, leads.2, leads.3, leads_flat Finds (leads.0 leads.1) members f g at to leads.4)
+leads_flat Finds from (LookUp k' at' ∷ members) f g at to leads = (leads.0, leads.1, leads.2, leads.3, leads_flat Finds (leads.0 leads.1) members f g at to leads.4)
 
 leads_look : (Finds : Finding) (from : Course) (members : List Member) (k : FontKey) (at : ℕ) (rest : Decoded → Course) (d : Decoded)
-    → Leads Finds from members (Asks k at rest) → Finds k d → Leads Finds from (with_look members k at) (rest d)
+    → Unfolds Finds from members (Asks k at rest) → Finds k d → Unfolds Finds from (with_look members k at) (rest d)
 leads_look Finds from [] k at rest d leads found = (rest, d, leads, found, refl)
 leads_look Finds from (Flat f' g' at' ∷ members) k at rest d leads found = (leads.0, leads.1, leads_look Finds leads.0 members k at rest d leads.2 found)
-leads_look Finds from (Look k' at' ∷ members) k at rest d leads found =
+leads_look Finds from (LookUp k' at' ∷ members) k at rest d leads found =
     (leads.0, leads.1, leads.2, leads.3, leads_look Finds (leads.0 leads.1) members k at rest d leads.4 found)
 
 looks_flat : (members : List Member) (f : FlatCommand) (g : Option Glyph) (at : ℕ) → looks_of (with_flat members f g at) ≡ looks_of members
 looks_flat [] f g at = refl
 looks_flat (Flat f' g' at' ∷ members) f g at = looks_flat members f g at
-looks_flat (Look k' at' ∷ members) f g at = ap (λ (keys : List FontKey). k' ∷ keys) (looks_flat members f g at)
+looks_flat (LookUp k' at' ∷ members) f g at = ap (λ (keys : List FontKey). k' ∷ keys) (looks_flat members f g at)
 
 looks_look : (members : List Member) (k : FontKey) (at : ℕ) → looks_of (with_look members k at) ≡ looks_of members ++ k ∷ []
 looks_look [] k at = refl
 looks_look (Flat f' g' at' ∷ members) k at = looks_look members k at
-looks_look (Look k' at' ∷ members) k at = ap (λ (keys : List FontKey). k' ∷ keys) (looks_look members k at)
+looks_look (LookUp k' at' ∷ members) k at = ap (λ (keys : List FontKey). k' ∷ keys) (looks_look members k at)
 
 -- ---- states and marks
 
@@ -62,7 +62,7 @@ state_flat c s t u [] f g at e moved =
 state_flat c s t u (Flat f' g' at' ∷ members) f g at e moved =
     let there = apart c (after c s f') members t e in
     ap (λ (r : Result State PenFault). and_then r (λ v. last_state c v (with_flat members f g at))) there.1 ∙ state_flat c there.0 t u members f g at there.2 moved
-state_flat c s t u (Look k' at' ∷ members) f g at e moved = state_flat c s t u members f g at e moved
+state_flat c s t u (LookUp k' at' ∷ members) f g at e moved = state_flat c s t u members f g at e moved
 
 state_after : (c : Fraction) (r : Result State PenFault) (members others : List Member) → ((u : State) → last_state c u members ≡ last_state c u others)
     → and_then r (λ u. last_state c u members) ≡ and_then r (λ u. last_state c u others)
@@ -72,7 +72,7 @@ state_after c (Err fault) members others same = refl
 state_look : (c : Fraction) (s : State) (members : List Member) (k : FontKey) (at : ℕ) → last_state c s (with_look members k at) ≡ last_state c s members
 state_look c s [] k at = refl
 state_look c s (Flat f' g' at' ∷ members) k at = state_after c (after c s f') (with_look members k at) members (λ u. state_look c u members k at)
-state_look c s (Look k' at' ∷ members) k at = state_look c s members k at
+state_look c s (LookUp k' at' ∷ members) k at = state_look c s members k at
 
 nothing_after : (r : Result State PenFault) → marks_after r (λ u. []) ≡ []
 nothing_after (Ok u) = refl
@@ -91,7 +91,7 @@ marks_flat c sheet s t (Flat f' g' at' ∷ members) f g at e =
     ∙ ap (λ (marks : List Inked). own ++ marks) (marks_flat c sheet there.0 t members f g at there.2)
     ∙ sym (append_assoc own (marks_from c sheet there.0 members) (inks_of sheet (mark_of c t.now f) g))
     ∙ ap (λ (r : Result State PenFault). (own ++ marks_after r (λ v. marks_from c sheet v members)) ++ inks_of sheet (mark_of c t.now f) g) (sym there.1)
-marks_flat c sheet s t (Look k' at' ∷ members) f g at e = marks_flat c sheet s t members f g at e
+marks_flat c sheet s t (LookUp k' at' ∷ members) f g at e = marks_flat c sheet s t members f g at e
 
 marks_look : (c : Fraction) (sheet : Sheet) (s t : State) (members : List Member) (k : FontKey) (at : ℕ) → last_state c s members ≡ Ok t
     → marks_from c sheet s (with_look members k at) ≡ marks_from c sheet s members
@@ -102,7 +102,7 @@ marks_look c sheet s t (Flat f' g' at' ∷ members) k at e =
     ap (λ (r : Result State PenFault). own ++ marks_after r (λ v. marks_from c sheet v (with_look members k at))) there.1
     ∙ ap (λ (marks : List Inked). own ++ marks) (marks_look c sheet there.0 t members k at there.2)
     ∙ ap (λ (r : Result State PenFault). own ++ marks_after r (λ v. marks_from c sheet v members)) (sym there.1)
-marks_look c sheet s t (Look k' at' ∷ members) k at e = marks_look c sheet s t members k at e
+marks_look c sheet s t (LookUp k' at' ∷ members) k at e = marks_look c sheet s t members k at e
 
 -- ---- the keys asked for
 
@@ -131,7 +131,7 @@ module _ (Finds : Finding) (c : Fraction) (sheet : Sheet) (from to : Course) (s 
       let members = so_far.members in
       record {
         members = with_flat members f g at;
-        leads = leads_flat Finds from members f g at rest (subst (Leads Finds from members) gives so_far.leads);
+        leads = leads_flat Finds from members f g at rest (subst (Unfolds Finds from members) gives so_far.leads);
         moved = state_flat c at_origin s t members f g at so_far.moved moved;
         has = inked (marks_from c sheet at_origin members) so_far.has
             ∙ ap (λ (marks : List Inked). page_of sheet.width sheet.height marks) (sym (marks_flat c sheet at_origin s members f g at so_far.moved));
@@ -145,7 +145,7 @@ module _ (Finds : Finding) (c : Fraction) (sheet : Sheet) (from to : Course) (s 
       let members = so_far.members in
       record {
         members = with_look members k at;
-        leads = leads_look Finds from members k at rest d (subst (Leads Finds from members) asks so_far.leads) found;
+        leads = leads_look Finds from members k at rest d (subst (Unfolds Finds from members) asks so_far.leads) found;
         moved = state_look c at_origin members k at ∙ so_far.moved;
         has = so_far.has ∙ ap (λ (marks : List Inked). page_of sheet.width sheet.height marks) (sym (marks_look c sheet at_origin s members k at so_far.moved));
         asked = subst (GrewBy old now) (sym (looks_look members k at)) (grew_more old new now (looks_of members) (k ∷ []) so_far.asked grew);
@@ -153,4 +153,4 @@ module _ (Finds : Finding) (c : Fraction) (sheet : Sheet) (from to : Course) (s 
 
   -- the same where what is left is written in another way
   pub so_far_same : (to' : Course) → to' ≡ to → IsSoFar Finds c sheet from to' s page old new
-  so_far_same to' e = record { members = so_far.members; leads = subst (Leads Finds from so_far.members) (sym e) so_far.leads; moved = so_far.moved; has = so_far.has; asked = so_far.asked }
+  so_far_same to' e = record { members = so_far.members; leads = subst (Unfolds Finds from so_far.members) (sym e) so_far.leads; moved = so_far.moved; has = so_far.has; asked = so_far.asked }

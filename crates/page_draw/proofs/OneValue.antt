@@ -11,7 +11,7 @@ use Rattle.font_decode.specs.Decoding.{AreAlike, IsFontIn}
 use Rattle.font_decode.specs.declared.decoded.Decoded.{Decoded}
 use Rattle.vf_expand.specs.Course.{Course, Gives, Asks, Ends, Stops, course_of}
 use Rattle.vf_expand.specs.Faults.{Pen}
-use Rattle.page_draw.specs.Members.{Member, Flat, Look, Finding, Leads, looks_of, last_state}
+use Rattle.page_draw.specs.Members.{Member, Flat, LookUp, Finding, Unfolds, looks_of, last_state}
 use Rattle.page_draw.specs.Values.{EndsIn, HasValue, PageValue, bitmap_of, ended_with, fault_at}
 use Rattle.page_draw.specs.declared.sheet.Sheet.{Sheet}
 use Rattle.page_draw.proofs.Lists.{apart}
@@ -59,12 +59,12 @@ pub same_flat : (f f2 : FlatCommand) (g g2 : Option Glyph) (at at2 : ℕ) (ms ns
     → Flat f g at ∷ ms ≡ Flat f2 g2 at2 ∷ ns
 same_flat f f2 g g2 at at2 ms ns a b d e = cc
 
-pub same_look : (k k2 : FontKey) (at at2 : ℕ) (ms ns : List Member) → k ≡ k2 → at ≡ at2 → ms ≡ ns → Look k at ∷ ms ≡ Look k2 at2 ∷ ns
+pub same_look : (k k2 : FontKey) (at at2 : ℕ) (ms ns : List Member) → k ≡ k2 → at ≡ at2 → ms ≡ ns → LookUp k at ∷ ms ≡ LookUp k2 at2 ∷ ns
 same_look k k2 at at2 ms ns a b e = cc
 
 module _ (Finds : Finding) (c : Fraction) (alike : (k : FontKey) (d e : Decoded) → Finds k d → Finds k e → AreAlike d e) where
   -- lists of similar courses lead through the same members to similar ends
-  same_members : (from from' : Course) (s : State) (ms ns : List Member) (to to' : Course) (t t' : State) → Similar from from' → Leads Finds from ms to → Leads Finds from' ns to'
+  same_members : (from from' : Course) (s : State) (ms ns : List Member) (to to' : Course) (t t' : State) → Similar from from' → Unfolds Finds from ms to → Unfolds Finds from' ns to'
       → last_state c s ms ≡ Ok t → last_state c s ns ≡ Ok t' → IsAtEnd c t to → IsAtEnd c t' to' → (ms ≡ ns) × Similar to to'
   same_members from from' s [] [] to to' t t' similar first second moved moved' ends ends' = (refl, moved_both from from' to to' first second similar)
   same_members from from' s [] (Flat f g at ∷ ns) to to' t t' similar first second moved moved' ends ends' =
@@ -72,18 +72,18 @@ module _ (Finds : Finding) (c : Fraction) (alike : (k : FontKey) (d e : Decoded)
       let here : t ≡ s = cc in
       let next = moved_both from from' to (Gives f g at second.0) first second.1 similar in
       absurd (goes_on c s there.0 f g at second.0 there.1 (similar_end c s to (Gives f g at second.0) next (subst (λ (x : State). IsAtEnd c x to) here ends)))
-  same_members from from' s [] (Look k at ∷ ns) to to' t t' similar first second moved moved' ends ends' =
+  same_members from from' s [] (LookUp k at ∷ ns) to to' t t' similar first second moved moved' ends ends' =
       absurd (similar_end c t to (Asks k at second.0) (moved_both from from' to (Asks k at second.0) first second.2 similar) ends)
   same_members from from' s (Flat f g at ∷ ms) [] to to' t t' similar first second moved moved' ends ends' =
       let there = apart c (after c s f) ms t moved in
       let here : t' ≡ s = cc in
       let next = moved_both from from' (Gives f g at first.0) to' first.1 second similar in
       absurd (goes_on c s there.0 f g at first.0 there.1 (similar_end_back c s (Gives f g at first.0) to' next (subst (λ (x : State). IsAtEnd c x to') here ends')))
-  same_members from from' s (Look k at ∷ ms) [] to to' t t' similar first second moved moved' ends ends' =
+  same_members from from' s (LookUp k at ∷ ms) [] to to' t t' similar first second moved moved' ends ends' =
       absurd (similar_end_back c t' (Asks k at first.0) to' (moved_both from from' (Asks k at first.0) to' first.2 second similar) ends')
-  same_members from from' s (Flat f g at ∷ ms) (Look k at' ∷ ns) to to' t t' similar first second moved moved' ends ends' =
+  same_members from from' s (Flat f g at ∷ ms) (LookUp k at' ∷ ns) to to' t t' similar first second moved moved' ends ends' =
       absurd (moved_both from from' (Gives f g at first.0) (Asks k at' second.0) first.1 second.2 similar)
-  same_members from from' s (Look k at ∷ ms) (Flat f g at' ∷ ns) to to' t t' similar first second moved moved' ends ends' =
+  same_members from from' s (LookUp k at ∷ ms) (Flat f g at' ∷ ns) to to' t t' similar first second moved moved' ends ends' =
       absurd (moved_both from from' (Asks k at first.0) (Gives f g at' second.0) first.2 second.1 similar)
   same_members from from' s (Flat f g at ∷ ms) (Flat f' g' at' ∷ ns) to to' t t' similar first second moved moved' ends ends' =
       let next = moved_both from from' (Gives f g at first.0) (Gives f' g' at' second.0) first.1 second.1 similar in
@@ -94,7 +94,7 @@ module _ (Finds : Finding) (c : Fraction) (alike : (k : FontKey) (d e : Decoded)
       let others = same_members first.0 second.0 there.0 ms ns to to' t t' next.3 first.2 second.2
       there.2 (subst (λ (x : State). last_state c x ns ≡ Ok t') states there'.2) ends ends' in
       (same_flat f f' g g' at at' ms ns next.0 next.1 next.2 others.0, others.1)
-  same_members from from' s (Look k at ∷ ms) (Look k' at' ∷ ns) to to' t t' similar first second moved moved' ends ends' =
+  same_members from from' s (LookUp k at ∷ ms) (LookUp k' at' ∷ ns) to to' t t' similar first second moved moved' ends ends' =
       let next = moved_both from from' (Asks k at first.0) (Asks k' at' second.0) first.2 second.2 similar in
       let found : Finds k second.1 = subst (λ (x : FontKey). Finds x second.1) (sym next.0) second.3 in
       let rests = next.2 first.1 second.1 (alike k first.1 second.1 first.3 found) in

@@ -5,7 +5,7 @@ use Rattle.drift_rules.specs.Position.{State}
 use Rattle.drift_rules.specs.declared.faults.PenFault.{PenFault}
 use Rattle.drift_rules.specs.declared.flat.Flat.{Flat}
 use Rattle.vf_expand.specs.Course.{Course, Asks}
-use Rattle.vf_expand.specs.Doing.{Doing, answered, asks_left, left, steps_left}
+use Rattle.vf_expand.specs.Expansion.{Expansion, answered, asks_left, left, steps_left}
 use Rattle.vf_expand.specs.Steps.{Steps}
 use Rattle.vf_expand.specs.declared.step.Step.{Step}
 use Rattle.vf_expand.specs.declared.step.Step.TheVariants as step
@@ -15,13 +15,13 @@ use Rattle.page_draw.specs.SoFar.{HasFewerAtLook}
 use Rattle.page_draw.specs.declared.stop.PageStop.{PageStop}
 use Rattle.page_draw.specs.declared.stop.PageStop.TheVariants as stop
 
-pub record LeavesTheSame (old : Doing) (given : Step) (new : Doing) : Type 0 where
+pub record LeavesTheSame (old : Expansion) (given : Step) (new : Expansion) : Type 0 where
   pub left : left new ≡ left old
   pub next : Steps new given new
   pub asks : asks_left new ≡ asks_left old
   pub fewer : HasFewerAtLook old given new
 
-pub other_stays : (old new : Doing) (next : Step) → ((flat : Flat) → next ≡ step.Flat flat → ⊥) → Steps old next new → LeavesTheSame old next new
+pub other_stays : (old new : Expansion) (next : Step) → ((flat : Flat) → next ≡ step.Flat flat → ⊥) → Steps old next new → LeavesTheSame old next new
 other_stays old new (step.Flat flat) other h = absurd (other flat refl)
 other_stays old new (step.Ask key) other h =
     record {
@@ -44,7 +44,7 @@ other_stays old new (step.Stop fault) other h =
     record { left = h.1.left; next = (h.1.left ∙ h.0, record { left = refl; unmarked = h.1.unmarked; asks = refl }); asks = h.1.asks; fewer = tt }
 
 -- a look-up that comes later has no more steps left
-pub fewer_still : (first old new : Doing) (given : Step) → steps_left old ≤ steps_left first → HasFewerAtLook old given new → HasFewerAtLook first given new
+pub fewer_still : (first old new : Expansion) (given : Step) → steps_left old ≤ steps_left first → HasFewerAtLook old given new → HasFewerAtLook first given new
 fewer_still first old new (step.Flat flat) some h = tt
 fewer_still first old new (step.Ask key) some h = omega (arith, some, h)
 fewer_still first old new step.End some h = tt

@@ -1,7 +1,7 @@
 -- What a packet sets, and what comes after it.
 use Rattle.std.proofs.Common.{◌≡◌, ◌∙◌, List, [], ◌∷◌, ◌++◌, Result, Ok, append_assoc, refl, sym, ap, ap₂}
 use Rattle.pixel_round.specs.Pixels.{Fraction}
-use Rattle.drift_rules.specs.Position.{FlatCommand, Enter, Leave, State, after, entered}
+use Rattle.drift_rules.specs.Position.{FlatCommand, Enter, Leave, State, after, on_entry}
 use Rattle.drift_rules.specs.Position as pen
 use Rattle.drift_rules.specs.Marks.{mark_of}
 use Rattle.drift_rules.specs.declared.faults.PenFault.{PenFault}
@@ -9,7 +9,7 @@ use Rattle.drift_rules.proofs.Near.{saved_is}
 use Rattle.drift_rules.proofs.Stack.{pops_give_back}
 use Rattle.raster_page.specs.Ink.{Inked}
 use Rattle.page_draw.specs.Sheets.{inks_of}
-use Rattle.page_draw.specs.Members.{Member, Flat, Look, and_then, marks_after, last_state, marks_from}
+use Rattle.page_draw.specs.Members.{Member, Flat, LookUp, and_then, marks_after, last_state, marks_from}
 use Rattle.page_draw.specs.Laws.{PacketsAreSetInPlace, flats_of}
 use Rattle.page_draw.specs.declared.sheet.Sheet.{Sheet}
 use Rattle.page_draw.proofs.Lists.{apart}
@@ -21,7 +21,7 @@ moved_by c u m [] e = cc
 moved_by c u m (Flat f g at ∷ members) e =
     let there = apart c (after c u f) members m e in
     (there.0, there.1, moved_by c there.0 m members there.2)
-moved_by c u m (Look k at ∷ members) e = moved_by c u m members e
+moved_by c u m (LookUp k at ∷ members) e = moved_by c u m members e
 
 one_more : (c : Fraction) (u m v : State) (flats : List FlatCommand) (f : FlatCommand)
     → pen.Leads c u flats m → after c m f ≡ Ok v → pen.Leads c u (flats ++ f ∷ []) v
@@ -36,7 +36,7 @@ between c u t (Flat f g at ∷ members) others e =
     let there = apart c (after c u f) (members ++ others) t e in
     let r = between c there.0 t members others there.2 in
     (r.0, ap (λ (x : Result State PenFault). and_then x (λ v. last_state c v members)) there.1 ∙ r.1, r.2)
-between c u t (Look k at ∷ members) others e = between c u t members others e
+between c u t (LookUp k at ∷ members) others e = between c u t members others e
 
 -- what two lists set, one after the other
 marks_append : (c : Fraction) (sheet : Sheet) (u m : State) (members others : List Member) → last_state c u members ≡ Ok m
@@ -51,12 +51,12 @@ marks_append c sheet u m (Flat f g at ∷ members) others e =
     ∙ ap (λ (marks : List Inked). own ++ marks) (marks_append c sheet there.0 m members others there.2)
     ∙ sym (append_assoc own (marks_from c sheet there.0 members) (marks_from c sheet m others))
     ∙ ap (λ (r : Result State PenFault). (own ++ marks_after r (λ v. marks_from c sheet v members)) ++ marks_from c sheet m others) (sym there.1)
-marks_append c sheet u m (Look k at ∷ members) others e = marks_append c sheet u m members others e
+marks_append c sheet u m (LookUp k at ∷ members) others e = marks_append c sheet u m members others e
 
 pub packets_are_set_in_place : PacketsAreSetInPlace
 packets_are_set_in_place c sheet s t g h at end packet rest balanced e =
     let first = apart c (after c s Enter) (packet ++ Flat Leave h end ∷ []) t e in
-    let begun : State = record { now = entered s.now; saved = s.now ∷ s.saved } in
+    let begun : State = record { now = on_entry s.now; saved = s.now ∷ s.saved } in
     let same : begun ≡ first.0 = saved_is _ _ first.0 first.1 in
     let parts = between c first.0 t packet (Flat Leave h end ∷ []) first.2 in
     let last = apart c (after c parts.0 Leave) [] t parts.2 in

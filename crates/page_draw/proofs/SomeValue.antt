@@ -10,7 +10,7 @@ use Rattle.font_decode.specs.declared.decoded.Decoded.{Decoded}
 use Rattle.font_decode.proofs.Total.{each_key_is_decoded}
 use Rattle.vf_expand.specs.Course.{Course, Gives, Asks, Ends, Stops, course_of}
 use Rattle.vf_expand.specs.Faults.{Pen}
-use Rattle.page_draw.specs.Members.{Member, Flat, Look, Finding, Leads, and_then, looks_of, last_state}
+use Rattle.page_draw.specs.Members.{Member, Flat, LookUp, Finding, Unfolds, and_then, looks_of, last_state}
 use Rattle.page_draw.specs.Values.{EndsIn, PageValue, bitmap_of, ended_with, fault_at}
 use Rattle.page_draw.specs.Laws.{EachPageHasOneValue}
 use Rattle.page_draw.specs.Drawn.{IsPageValue}
@@ -21,7 +21,7 @@ record Followed (Finds : Finding) (c : Fraction) (s : State) (from : Course) : T
   pub members : List Member
   pub to : Course
   pub state : State
-  pub leads : Leads Finds from members to
+  pub leads : Unfolds Finds from members to
   pub moved : last_state c s members ≡ Ok state
   pub ends : (page : Bitmap) → (value : PageValue) × EndsIn c state page to value
 
@@ -43,7 +43,7 @@ follow Finds each c s (Gives f g at rest) = by (λ t. follow Finds each c t rest
 follow Finds each c s (Asks k at rest) =
     let d = each k in
     let r = follow Finds each c s (rest d.0) in
-    record { members = Look k at ∷ r.members; to = r.to; state = r.state; leads = (rest, d.0, refl, d.1, r.leads); moved = r.moved; ends = r.ends }
+    record { members = LookUp k at ∷ r.members; to = r.to; state = r.state; leads = (rest, d.0, refl, d.1, r.leads); moved = r.moved; ends = r.ends }
 follow Finds each c s (Ends at) = record { members = []; to = Ends at; state = s; leads = refl; moved = refl; ends = λ page. (ended_with s.saved at page, refl) }
 follow Finds each c s (Stops fault at) = record { members = []; to = Stops fault at; state = s; leads = refl; moved = refl; ends = λ page. (fault_at fault at, refl) }
 

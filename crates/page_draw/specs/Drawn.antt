@@ -11,7 +11,7 @@ use Rattle.font_decode.specs.declared.decoded.Decoded.{Decoded}
 use Rattle.vf_expand.specs.Course.{Course, Asks, course_of}
 use Rattle.drift_rules.specs.declared.faults.PenFault.{PenFault}
 use Rattle.vf_expand.specs.Faults.{Pen, seen_fault}
-use Rattle.page_draw.specs.Members.{Finding, Leads, Member, last_state, looks_of}
+use Rattle.page_draw.specs.Members.{Finding, Unfolds, Member, last_state, looks_of}
 use Rattle.page_draw.specs.Values.{HasValue, PageValue, fault_at}
 use Rattle.page_draw.specs.declared.sheet.Sheet.{Sheet}
 use Rattle.page_draw.specs.declared.stop.PageStop.{PageStop}
@@ -39,7 +39,7 @@ pub record IsBroken (Finds : Finding) (indexed : Indexed) (i : ℕ)
   pub units : Units
   pub state : State
   pub of_document : document_units indexed.res indexed.reading ≡ Some units
-  pub leads : Leads Finds (course_of indexed.reading i) members to
+  pub leads : Unfolds Finds (course_of indexed.reading i) members to
   pub moved : last_state (conversion units) at_origin members ≡ Ok state
   pub asked : GrewBy old new (looks_of members)
       ⊎ ((k : FontKey) × (at : ℕ) × (rest : Decoded → Course) × (to ≡ Asks k at rest)

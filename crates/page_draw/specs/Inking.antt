@@ -12,11 +12,11 @@ use Rattle.page_draw.specs.Sheets.{inks_of}
 use Rattle.page_draw.specs.declared.sheet.Sheet.{Sheet}
 
 -- where a pen goes by a flat command
-abbrev pub led : PenView → FlatCommand → Result State PenFault
-led pen f = after pen.conv pen.state f
+abbrev pub step_of : PenView → FlatCommand → Result State PenFault
+step_of pen f = after pen.conv pen.state f
 
 abbrev pub Moves : PenView → FlatCommand → PenView → Type 0
-Moves old f new = led old f ≡ Ok new.state
+Moves old f new = step_of old f ≡ Ok new.state
 
 -- a page of marks has one more: that of a flat command, at the pen's place before it, with its
 -- glyph

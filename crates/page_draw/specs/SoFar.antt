@@ -10,10 +10,10 @@ use Rattle.page_index.specs.Pages.{Indexed, IsConversionOf, document_units}
 use Rattle.font_decode.specs.Decoding.{IsFontOf}
 use Rattle.font_decode.specs.Desks.{GrewBy}
 use Rattle.vf_expand.specs.Course.{Course, course_of}
-use Rattle.vf_expand.specs.Doing.{Doing, steps_left}
+use Rattle.vf_expand.specs.Expansion.{Expansion, steps_left}
 use Rattle.vf_expand.specs.declared.step.Step.{Step}
 use Rattle.vf_expand.specs.declared.step.Step.TheVariants as step
-use Rattle.page_draw.specs.Members.{Member, Finding, Leads, looks_of, last_state}
+use Rattle.page_draw.specs.Members.{Member, Finding, Unfolds, looks_of, last_state}
 use Rattle.page_draw.specs.Values.{bitmap_of}
 use Rattle.page_draw.specs.Drawn.{IsStop}
 use Rattle.page_draw.specs.declared.sheet.Sheet.{Sheet}
@@ -24,7 +24,7 @@ use Rattle.page_draw.specs.declared.stop.PageStop.{PageStop}
 pub record IsSoFar (Finds : Finding) (c : Fraction) (sheet : Sheet) (from to : Course) (s : State)
     (page : Bitmap) (old new : Option (List FontKey)) : Type 0 where
   pub members : List Member
-  pub leads : Leads Finds from members to
+  pub leads : Unfolds Finds from members to
   pub moved : last_state c at_origin members ≡ Ok s
   pub has : page ≡ bitmap_of c sheet members
   pub asked : GrewBy old new (looks_of members)
@@ -33,7 +33,7 @@ pub record IsSoFar (Finds : Finding) (c : Fraction) (sheet : Sheet) (from to : C
 -- asked for between them
 abbrev pub GoesOn : Fraction → Sheet → Course → State → Bitmap → Course → State → Bitmap → Type 0
 GoesOn c sheet to s page to' s' page' =
-    (told : Option library.Files) (units : Option Units) (from : Course)
+    (told : Option library.FileTable) (units : Option Units) (from : Course)
     (old new : Option (List FontKey))
     → IsSoFar (IsFontOf told units) c sheet from to s page old new
     → IsSoFar (IsFontOf told units) c sheet from to' s' page' old new
@@ -41,13 +41,13 @@ GoesOn c sheet to s page to' s' page' =
 -- a page that was drawn so far stops so
 abbrev pub StopsSo : Fraction → Sheet → Course → State → Bitmap → PageStop → Type 0
 StopsSo c sheet to s page why =
-    (told : Option library.Files) (units : Option Units) (indexed : Indexed) (i : ℕ)
+    (told : Option library.FileTable) (units : Option Units) (indexed : Indexed) (i : ℕ)
     (old new : Option (List FontKey))
     → IsConversionOf (document_units indexed.res indexed.reading) c
     → IsSoFar (IsFontOf told units) c sheet (course_of indexed.reading i) to s page old new
     → IsStop (IsFontOf told units) indexed sheet i why old new
 
 -- at a look-up there are no more steps left than before
-abbrev pub HasFewerAtLook : Doing → Step → Doing → Type 0
+abbrev pub HasFewerAtLook : Expansion → Step → Expansion → Type 0
 HasFewerAtLook old (step.Ask key) new = steps_left new ≤ steps_left old
 HasFewerAtLook old _ new = Unit {0}

@@ -1,6 +1,6 @@
 -- A desk with a cache of its own, as its calls see it.
 use Rattle.std.specs.Prelude.{◌≡◌, ℕ, ◌-◌, ◌/◌, ◌^◌, List, Option, Some, None}
-use Rattle.outside.specs.Library.{Files}
+use Rattle.outside.specs.Library.{FileTable}
 use Rattle.outside.specs.declared.keys.FontKey.{FontKey}
 use Rattle.pixel_round.specs.declared.units.Units.{Units}
 use Rattle.cache_core.specs.declared.common.Common.{Common}
@@ -21,11 +21,11 @@ pub record SoloView (F : Type 0) : Type 0 where
 abbrev pub stands_so : Decoded → FontKey → Common → Type 0
 stands_so font k part = IsFontOf part.library (Some part.units) k font
 
-abbrev pub part_of : Option Files → Units → ℕ → Common
+abbrev pub part_of : Option FileTable → Units → ℕ → Common
 part_of library units capacity = record { capacity = capacity; units = units; library = library }
 
 -- the cache has one seat, with number 1, which holds no claim, and each font there is its key's
-pub record IsAlone (library : Option Files) (u : Units) (c : Cache Decoded) : Type 0 where
+pub record IsAlone (library : Option FileTable) (u : Units) (c : Cache Decoded) : Type 0 where
   pub units : AreUnits u
   pub free : claim_of 1 c.claims ≡ None
   pub own : AreOf 1 c.history

@@ -11,7 +11,7 @@ use Rattle.packed_rows.specs.Bitmap.{Bitmap}
 use Rattle.raster_page.specs.Ink.{page_of}
 use Rattle.vf_expand.specs.Course.{Course, Gives, Asks, Ends, Stops}
 use Rattle.vf_expand.specs.Faults.{PageFaultSeen, Pen}
-use Rattle.page_draw.specs.Members.{Finding, Leads, Member, last_state, looks_of, marks_from}
+use Rattle.page_draw.specs.Members.{Finding, Unfolds, Member, last_state, looks_of, marks_from}
 use Rattle.page_draw.specs.declared.sheet.Sheet.{Sheet}
 
 -- why a page has no bitmap, with the position of the page's command that has the fault, or of its
@@ -50,7 +50,7 @@ pub record HasValue (Finds : Finding) (c : Fraction) (sheet : Sheet) (from : Cou
   pub members : List Member
   pub to : Course
   pub state : State
-  pub leads : Leads Finds from members to
+  pub leads : Unfolds Finds from members to
   pub moved : last_state c at_origin members ≡ Ok state
   pub ends : EndsIn c state (bitmap_of c sheet members) to value
   pub looked : looks ≡ looks_of members

@@ -5,11 +5,12 @@ ghost use Rattle.page_index.specs.Document.{pages_begun};
 ghost use Rattle.page_index.specs.Pages.{document_units};
 ghost use Rattle.raster_page.specs.Ink.{page_of};
 ghost use Rattle.font_decode.specs.Decoding.{IsFontOf};
-ghost use Rattle.vf_expand.specs.Doing.{left};
+ghost use Rattle.vf_expand.specs.Expansion.{left};
 ghost use Rattle.page_draw.specs.Sheets.{IsDrawable};
 ghost use Rattle.page_draw.specs.Values.{ended_with};
 ghost use Rattle.font_decode.specs.Desks.{TrailGrew};
 ghost use Rattle.page_draw.specs.Drawn.{IsDrawn, IsLeft, IsStop, IsWhole};
+ghost use Rattle.vf_expand.specs.Course.{MOST_FLAT};
 
 use crate::flats::draw_flats;
 use crate::sheet::Sheet;
@@ -60,12 +61,12 @@ pub fn draw_on<R: Wait, D: Desk>(
     requires fits { D.fits desk.old shared.now }
     requires units { IfSome (D.units desk.old) (λ u. document_units index.now.res index.now.reading
         ≡ Some u) }
-    requires room { 2 ^ 24 ≤ D.room desk.old }
+    requires room { MOST_FLAT ≤ D.room desk.old }
     requires blank { page ≡ page_of sheet.now.width sheet.now.height [] }
 
     // What the desk is afterwards.
     ensures fits { D.fits desk.new shared.now }
-    ensures room { D.room desk.old ≤ D.room desk.new + 2 ^ 24 }
+    ensures room { D.room desk.old ≤ D.room desk.new + MOST_FLAT }
     ensures library { D.library desk.new ≡ D.library desk.old }
     ensures units { D.units desk.new ≡ D.units desk.old }
     ensures cause { HasCause (D.faults desk.old) (D.faults desk.new)
@@ -128,11 +129,11 @@ pub fn draw<R: Wait, D: Desk>(
     requires fits { D.fits desk.old shared.now }
     requires units { IfSome (D.units desk.old) (λ u. document_units index.now.res index.now.reading
         ≡ Some u) }
-    requires room { 2 ^ 24 ≤ D.room desk.old }
+    requires room { MOST_FLAT ≤ D.room desk.old }
 
     // What the desk is afterwards.
     ensures fits { D.fits desk.new shared.now }
-    ensures room { D.room desk.old ≤ D.room desk.new + 2 ^ 24 }
+    ensures room { D.room desk.old ≤ D.room desk.new + MOST_FLAT }
     ensures library { D.library desk.new ≡ D.library desk.old }
     ensures units { D.units desk.new ≡ D.units desk.old }
     ensures cause { HasCause (D.faults desk.old) (D.faults desk.new)

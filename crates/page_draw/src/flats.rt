@@ -6,12 +6,13 @@ ghost use Rattle.outside.specs.declared.keys.FontKey.{FontKey};
 ghost use Rattle.drift_rules.specs.Position.{seen_flat};
 ghost use Rattle.drift_rules.specs.Bounds.{IsInReach, IsNumber, IsPaintable, IsPlaceable};
 ghost use Rattle.raster_page.specs.Ink.{Inked, page_of};
-ghost use Rattle.vf_expand.specs.Doing.{asks_left, glyph_for, left};
+ghost use Rattle.vf_expand.specs.Expansion.{asks_left, glyph_for, left};
 ghost use Rattle.vf_expand.specs.Steps.{Fits, Steps};
-ghost use Rattle.page_draw.specs.Inking.{Inks, Moves, led, set_in};
+ghost use Rattle.page_draw.specs.Inking.{Inks, Moves, step_of, set_in};
 ghost use Rattle.page_draw.specs.Sheets.{IsDrawable, inks_of};
 ghost use Rattle.page_draw.specs.SoFar.{GoesOn, HasFewerAtLook, StopsSo};
 ghost use Rattle.page_draw.specs.Drawn.{IsPenStop};
+ghost use Rattle.raster_page.specs.Limits.{LONGEST_PAGE_SIDE};
 
 use crate::sheet::Sheet;
 use crate::stop::PageStop;
@@ -41,7 +42,7 @@ fn glyph_of<'e>(expander: &'e Expander, flat: &Flat) -> Option<&'e Glyph>
 #[inline(always)]
 fn placed(place: i64, offset: i32, margin: u32) -> i64
     requires near { IsPlaceable place }
-    requires few { margin ≤ 20000 }
+    requires few { margin ≤ LONGEST_PAGE_SIDE }
     ensures value { result ≡ place -ℤ offset +ℤ pos margin }
     ensures low { neg_ℤ (pos (2 ^ 42)) ≤ℤ result }
     ensures high { result <ℤ pos (2 ^ 42) }
@@ -88,7 +89,7 @@ fn draw_one(
     ensures inked { IfOk result (λ _. Inks sheet.now pen.old (seen_flat flat.now)
         (glyph_for expander.now (seen_flat flat.now)) page.old page.new) }
     ensures conv { pen.new.conv ≡ pen.old.conv }
-    ensures stop { IfErr result (IsPenStop (led pen.old (seen_flat flat.now)) expander.now.at) }
+    ensures stop { IfErr result (IsPenStop (step_of pen.old (seen_flat flat.now)) expander.now.at) }
 {
     match pen.step(flat) {
         Ok(mark) => {
@@ -120,7 +121,7 @@ fn draw_plain(
         (Some plain.entry.glyph.now) page.old page.new) }
     ensures conv { pen.new.conv ≡ pen.old.conv }
     ensures stop { IfErr result (λ stop. (key : FontKey)
-        → IsPenStop (led pen.old (set_in key plain.entry)) plain.entry.at stop) }
+        → IsPenStop (step_of pen.old (set_in key plain.entry)) plain.entry.at stop) }
 {
     match pen.set(plain.width) {
         Ok(mark) => {

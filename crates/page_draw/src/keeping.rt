@@ -29,7 +29,8 @@ pub fn keep(
     ensures claims { cache.new.claims ≡ remove_entry (nat_eq 1) cache.old.claims }
     ensures same { IfOk result (λ kept. arc_value kept ≡ arc_value font) }
     ensures filled { IfOk result (λ _. (gone : Option FontKey)
-        × (cache.new.history ≡ cache.old.history ++ call 1 (arc_value key.now) (Filled gone) ∷ [])) }
+        × (cache.new.history
+        ≡ cache.old.history ++ call 1 (arc_value key.now) (Filled gone) ∷ [])) }
     ensures released { OnErr result (cache.new.history ≡ cache.old.history ++ call 1
         (arc_value key.now) Released ∷ []) }
     ensures stands { (part : Common) → StateStands stands_so cache.old part

@@ -8,6 +8,7 @@ use Rattle.std.specs.FinMap.{get, insert, get-insert, int_cmp-IsAntisymmetric}
 use Rattle.std.proofs.lemmas.Cmp.{int_cmp_total}
 use Rattle.std.proofs.lemmas.Bool.{and_parts, cases_Bool, true≢false}
 use Rattle.big_endian.specs.Numbers.{int_eq}
+use Rattle.big_endian.proofs.Integers.{int_eq_same, int_eq_refl, equal_is, own_tie}
 use Rattle.outside.specs.declared.keys.FontKey.{FontKey}
 use Rattle.dvi_commands.specs.Spelling.{Definition, Define}
 use Rattle.page_index.specs.Judged.{agrees_with, define_fault, is_same_font, is_size}
@@ -17,29 +18,6 @@ use Rattle.page_index.specs.Walked.{fonts_after}
 use Rattle.page_index.specs.declared.faults.DocFault.TheVariants.{FontClash, FontDef}
 
 -- ---- numbers
-
-pub int_eq_same : (a b : ℤ) → int_eq a b ≡ true → a ≡ b
-int_eq_same (pos m) (pos n) h = ap pos (eqb-true m n h)
-int_eq_same (negsuc m) (negsuc n) h = ap negsuc (eqb-true m n h)
-int_eq_same (pos m) (negsuc n) h = cc
-int_eq_same (negsuc m) (pos n) h = cc
-
-nat_same : (m : ℕ) → (m == m) ≡ true
-nat_same m = grind arith
-
-int_eq_refl : (a : ℤ) → int_eq a a ≡ true
-int_eq_refl (pos m) = nat_same m
-int_eq_refl (negsuc m) = nat_same m
-
-equal_is : (o : Ordering) → is_eq o ≡ true → o ≡ Equal
-equal_is Less h = cc
-equal_is Equal h = refl
-equal_is Greater h = cc
-
-own_tie : (o : Ordering) → o ≡ ordering_reverse o → is_eq o ≡ true
-own_tie Less h = cc
-own_tie Equal h = refl
-own_tie Greater h = cc
 
 -- the order tells numbers apart as the test of numbers does
 ties : (k n : ℤ) → eq_by_cmp int_cmp k n ≡ int_eq n k
@@ -74,8 +52,8 @@ key_is k d h =
     made : {a b : ℕ} {n m : List ℕ} {s t g h : ℕ} → a ≡ b → n ≡ m → s ≡ t → g ≡ h → key a n s g ≡ key b m t h
     made p q r s = rw (p, q, r, s) refl
 
-parts : (d : Definition) (known : Option FontKey) (at : ℕ) → define_fault known at d ≡ None → agrees_with known d ≡ true
-parts d known at h = by (is_size d.size && is_size d.design) (agrees_with known d) h
+pub sizes_agree : (d : Definition) (known : Option FontKey) (at : ℕ) → define_fault known at d ≡ None → agrees_with known d ≡ true
+sizes_agree d known at h = by (is_size d.size && is_size d.design) (agrees_with known d) h
   where
     by : (sizes agrees : Bool) → (if not sizes then Some (FontDef d.number at) else if not agrees then Some (FontClash d.number at) else None) ≡ None → agrees ≡ true
     by true true h = refl
@@ -97,7 +75,7 @@ pub keys_more : (fonts : Fonts) (r : Reading) (d : Definition) (at : ℕ) → ((
 keys_more fonts r d at keys right k = elim (cases_Bool (is_some (get fonts d.number))) [
   | inl some ↦
       ap (λ (b : Bool). get (if b then fonts else insert fonts d.number (key_of d)) k) some
-      ∙ known_key d (get fonts d.number) (parts d (get fonts d.number) at right) k (get fonts) refl some
+      ∙ known_key d (get fonts d.number) (sizes_agree d (get fonts d.number) at right) k (get fonts) refl some
       ∙ ap (λ (o : Option FontKey). key_or o k (Define d)) (keys k)
   | inr none ↦
       ap (λ (b : Bool). get (if b then fonts else insert fonts d.number (key_of d)) k) none

@@ -5,7 +5,7 @@ mod FirstFault
 mod Follow
 mod FontKeys
 mod FontTables
-mod Keys
+pub mod Keys
 mod Readings
 mod Runs
 mod Spans

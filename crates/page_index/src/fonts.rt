@@ -32,7 +32,8 @@ impl Model for FontTable {
 
     ghost coded = { fonts_code };
 
-    ghost view = { λ t. map.from_entries (each (λ font. (font.0, arc_value font.1)) t.keys.entries) };
+    ghost view = { λ t. map.from_entries
+        (each (λ font. (font.0, arc_value font.1)) t.keys.entries) };
 }
 
 impl FontTable {

@@ -38,7 +38,7 @@ fn positive(bytes: &[u8], at: usize) -> Result<u32, DocFault>
 
 /// Judges the preamble at the beginning of the bytes, field by field, and gives its numbers and
 /// their conversion at a resolution.
-pub fn judge(bytes: &[u8], res: u32) -> Result<Scaled, DocFault>
+pub fn judge_preamble(bytes: &[u8], res: u32) -> Result<Scaled, DocFault>
     requires some { 1 ≤ res }
     requires fine { res ≤ 4800 }
     ensures right { IfOk result (λ _. preamble_fault res bytes.now ≡ None) }

@@ -41,7 +41,7 @@ impl<'a> Index<'a> {
         if bytes.len() > LONGEST {
             return Err(IndexStop::Fault(DocFault::TooLong { at: LONGEST }));
         }
-        let first = preamble::judge(bytes, res)?;
+        let first = preamble::judge_preamble(bytes, res)?;
         let walk = walked(alloc, bytes, &first)?;
         if let Err(fault) = trailer::judge_filler(bytes, walk.progress.at) {
             return Err(IndexStop::Fault(fault));

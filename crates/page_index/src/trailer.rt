@@ -8,10 +8,10 @@ use big_endian::signed;
 
 const IDENTIFIER: u8 = 2;
 
-/// What stands after a document, up to its end.
+// What stands after a document, up to its end.
 const FILLER: u8 = 223;
 
-/// The least number of these bytes.
+// The least number of these bytes.
 const FEWEST: usize = 4;
 
 // Whether a pointer leads to the postamble.
@@ -26,10 +26,11 @@ fn leads_to(post: Option<usize>, pointer: i32) -> bool
 
 /// Judges the PostPost at a place, field by field. Its pointer is to be the position of the
 /// postamble.
-pub fn judge(bytes: &[u8], at: usize, post: Option<usize>) -> Result<(), DocFault>
+pub fn judge_trailer(bytes: &[u8], at: usize, post: Option<usize>) -> Result<(), DocFault>
     requires { at ≤ length bytes.now }
     ensures right { OnOk result (postpost_fault post at (drop at bytes.now) ≡ None) }
-    ensures fault { IfErr result (λ fault. postpost_fault post at (drop at bytes.now) ≡ Some fault) }
+    ensures fault { IfErr result (λ fault.
+        postpost_fault post at (drop at bytes.now) ≡ Some fault) }
 {
     let truncated = DocFault::Truncated { at: bytes.len() };
     let rest = &bytes[at..];

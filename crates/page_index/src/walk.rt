@@ -55,7 +55,7 @@ fn judge_early(
         return Ok(());
     };
     match context {
-        Context::Post if opcode == POSTPOST => trailer::judge(bytes, at, post),
+        Context::Post if opcode == POSTPOST => trailer::judge_trailer(bytes, at, post),
         _ => Ok(()),
     }
 }
@@ -111,7 +111,8 @@ impl Walk {
         ensures pages { OnOk result
             (self.new.pages.items ≡ pages_after self.old.progress self.old.pages.items
             (seen command.now)) }
-        ensures fonts { OnOk result (self.new.fonts ≡ fonts_after self.old.fonts (seen command.now)) }
+        ensures fonts { OnOk result
+            (self.new.fonts ≡ fonts_after self.old.fonts (seen command.now)) }
     {
         match command {
             Command::Define(def) => self.define(alloc, def),
@@ -146,7 +147,8 @@ impl Walk {
     /// Reads one command more.
     #[inline(always)]
     pub fn step(&mut self, alloc: Global, bytes: &[u8], first: &Scaled) -> Result<(), IndexStop>
-        requires read { IsReadTo bytes.now first.now self.old.progress self.old.pages.items self.old.fonts }
+        requires read { IsReadTo bytes.now first.now self.old.progress self.old.pages.items
+            self.old.fonts }
         requires going { self.old.progress.is_ended ≡ false }
         ensures read { OnOk result
             (IsReadTo bytes.now first.now self.new.progress self.new.pages.items self.new.fonts) }

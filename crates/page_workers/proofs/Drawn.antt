@@ -3,7 +3,7 @@ use Rattle.std.proofs.Common.{◌≡◌, inl, inr, ℕ, ◌+◌, ◌≤◌, List
 use Rattle.std.specs.Prelude.{◌^◌, All, IsErr, IsErrOf, Option, Result, Ok, Err, is_ok}
 use Rattle.std.proofs.lemmas.List.Elements.{All-tail, Contains-append_right}
 use Rattle.outside.specs.Counts.{HasCause}
-use Rattle.outside.specs.Library.{Files}
+use Rattle.outside.specs.Library.{FileTable}
 use Rattle.font_decode.specs.Decoding.{IsFontOf}
 use Rattle.font_decode.specs.Desks.{TrailGrew}
 use Rattle.turn_lock.specs.Seats.{SeatView}
@@ -18,7 +18,7 @@ use Rattle.page_workers.specs.Seats.{library_at, units_at, asked_at, trail_at, r
 use Rattle.page_workers.proofs.Rested.{rested_self, rests}
 use Rattle.page_workers.specs.Rounds.{IsOutcome, Rested, DrewPage, Drew, BitmapsToLast, LacksBitmap, HasBitmap, pages_of, trail_of}
 
-module _ {F : Type 0} (library : F → Option Files) (faults loads : F → ℕ) (bench : Bench) (indexed : Indexed) (sheet : Sheet) where
+module _ {F : Type 0} (library : F → Option FileTable) (faults loads : F → ℕ) (bench : Bench) (indexed : Indexed) (sheet : Sheet) where
   abbrev Page : PageResult → Worker F → Worker F → Type 0
   Page r a b = DrewPage library faults loads bench indexed sheet r a b
 

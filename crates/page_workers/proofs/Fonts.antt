@@ -10,7 +10,7 @@ use Rattle.font_decode.specs.Files.{FontFiles, IsFound, IsInOrder, first_there, 
 use Rattle.font_decode.specs.Decoding.{IsDecodingOf, IsFontOf, IsFontBySome}
 use Rattle.font_decode.specs.declared.decoded.Decoded.{Decoded}
 
-pub found_in : (told : Option library.Files) (u : Units) (k : FontKey) (files : FontFiles) (d : Decoded) → IfSome told (λ l. IsFound l u k files) → IsInOrder u k files → IsDecodingOf u k files d
+pub found_in : (told : Option library.FileTable) (u : Units) (k : FontKey) (files : FontFiles) (d : Decoded) → IfSome told (λ l. IsFound l u k files) → IsInOrder u k files → IsDecodingOf u k files d
     → IsFontOf told (Some u) k d
 found_in None u k files d found order decoding = record { files = files; order = order; decoding = decoding }
 found_in (Some l) u k files d found order decoding = record { files = files; found = found; decoding = decoding }
@@ -26,7 +26,7 @@ both true true e = (refl, refl)
 both true false e = absurd cc
 both false b e = absurd cc
 
-only_near : (l : library.Files) (b : Bool) (names : List (List ℕ)) (o : Option (List ℕ)) → o ≡ first_there l (if b then names else []) → IsSome o → b ≡ true
+only_near : (l : library.FileTable) (b : Bool) (names : List (List ℕ)) (o : Option (List ℕ)) → o ≡ first_there l (if b then names else []) → IsSome o → b ≡ true
 only_near l true names o e some = refl
 only_near l false names o e some = let none : Option (List ℕ) = None in let bad : is_some none ≡ true = subst IsSome e some in absurd cc
 
@@ -34,7 +34,7 @@ none_of : (o : Option (List ℕ)) → is_none o ≡ true → IsNone o
 none_of None e = refl
 none_of (Some x) e = absurd cc
 
-in_order : (l : library.Files) (u : Units) (k : FontKey) (f : FontFiles) → IsFound l u k f → IsInOrder u k f
+in_order : (l : library.FileTable) (u : Units) (k : FontKey) (f : FontFiles) → IsFound l u k f → IsInOrder u k f
 in_order l u k f found = record {
   tfm = only_where (is_valid_name k) f.tfm (get l (tfm_name k)) found.tfm;
   vf = only_where (is_some f.tfm) f.vf (get l (vf_name k)) found.vf;
@@ -46,17 +46,17 @@ in_order l u k f found = record {
 }
 
 -- a font of a library is one by some files
-by_some : (told : Option library.Files) (u : Units) (k : FontKey) (d : Decoded) → IsFontOf told (Some u) k d → IsFontBySome u k d
+by_some : (told : Option library.FileTable) (u : Units) (k : FontKey) (d : Decoded) → IsFontOf told (Some u) k d → IsFontBySome u k d
 by_some None u k d font = font
 by_some (Some l) u k d font = record { files = font.files; order = in_order l u k font.files font.found; decoding = font.decoding }
 
 -- a font by what the source tells is one by what the common part tells, where the source tells as
 -- much
-pub as_told : (common told : Option library.Files) (u v : Units) (k : FontKey) (d : Decoded) → IfSome common (λ l. told ≡ Some l) → u ≡ v → IsFontOf told (Some u) k d
+pub as_told : (common told : Option library.FileTable) (u v : Units) (k : FontKey) (d : Decoded) → IfSome common (λ l. told ≡ Some l) → u ≡ v → IsFontOf told (Some u) k d
     → IsFontOf common (Some v) k d
 as_told None told u v k d tells same font = subst (λ (w : Units). IsFontBySome w k d) same (by_some told u k d font)
 as_told (Some l) told u v k d tells same font =
-    subst (λ (w : Units). IsFontOf (Some l) (Some w) k d) same (subst (λ (o : Option library.Files). IsFontOf o (Some u) k d) tells font)
+    subst (λ (w : Units). IsFontOf (Some l) (Some w) k d) same (subst (λ (o : Option library.FileTable). IsFontOf o (Some u) k d) tells font)
 
 -- ---- of a result
 

@@ -1,7 +1,7 @@
 -- Workers that got paper, or whose paper was dropped, and a page that there was none for.
 use Rattle.std.proofs.Common.{◌≡◌, ℕ, ◌*◌, ◌<◌, ◌≤◌, List, [], length, get_or, inl, refl, sym, subst, ap, ◌∙◌}
 use Rattle.std.specs.Prelude.{◌^◌, Option, Some, Result, Ok, Err, OnOk, OnErr}
-use Rattle.outside.specs.Library.{Files}
+use Rattle.outside.specs.Library.{FileTable}
 use Rattle.turn_lock.specs.Seats.{SeatView}
 use Rattle.outside.specs.declared.keys.FontKey.{FontKey}
 use Rattle.pixel_round.specs.declared.units.Units.{Units}
@@ -50,7 +50,7 @@ rested a b p = record {
   pages = ap (λ v. v.items) p.pages;
 }
 
-module _ {F : Type 0} (library : F → Option Files) (faults loads : F → ℕ) (bench : Bench) where
+module _ {F : Type 0} (library : F → Option FileTable) (faults loads : F → ℕ) (bench : Bench) where
   pub may_draw : (count : ℕ) (a b : Worker F) → SameButPaper a b → MayDraw library bench count a → MayDraw library bench count b
   may_draw count a b p may = record {
     fits = subst (λ (x : F). Fits (library x) bench b.seat) (sym p.source) (subst (λ (s : Option SeatView). Fits (library a.source) bench s) (sym p.seat) may.fits);

@@ -4,7 +4,7 @@ use Rattle.std.specs.Prelude.{◌^◌, All, Option, None, Some}
 use Rattle.std.specs.List.Sorted.{IsStrictlyIncreasing}
 use Rattle.std.proofs.lemmas.List.Elements.{All-push, All-nil}
 use Rattle.atomic_table.specs.Seated.{TableId}
-use Rattle.outside.specs.Library.{Files}
+use Rattle.outside.specs.Library.{FileTable}
 use Rattle.page_counter.specs.Seats.{SeatView}
 use Rattle.page_counter.specs.Views.{claimed_view}
 use Rattle.page_index.specs.Pages.{Indexed}
@@ -20,12 +20,12 @@ use Rattle.page_workers.proofs.Drawn.{drew_before_rest, drew_more, bitmaps_all, 
 use Rattle.page_workers.proofs.Rising.{rising_few, map-more}
 
 -- what draw_page asks of the worker
-pub record MayDrawNext {F : Type 0} (library : F → Option Files) (bench : Bench) (w : Worker F) : Type 0 where
+pub record MayDrawNext {F : Type 0} (library : F → Option FileTable) (bench : Bench) (w : Worker F) : Type 0 where
   pub fits : Fits (library w.source) bench w.seat
   pub look_ups : 2 ^ 24 ≤ room_at w.loads w.seat
   pub space : HasRoom 1 w
 
-module _ {F : Type 0} (library : F → Option Files) (faults loads : F → ℕ) (bench : Bench) (indexed : Indexed) (sheet : Sheet) (id : TableId) (first count : ℕ) where
+module _ {F : Type 0} (library : F → Option FileTable) (faults loads : F → ℕ) (bench : Bench) (indexed : Indexed) (sheet : Sheet) (id : TableId) (first count : ℕ) where
   -- each page so far has a bitmap, and each claim gave a page
   pub record Midway (start now : Worker F) : Type 0 where
     pub drawn : List PageResult

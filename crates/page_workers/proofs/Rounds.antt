@@ -1,7 +1,7 @@
 -- A worker from its seat to the end of a round.
 use Rattle.std.proofs.Common.{◌≡◌, ◌*◌, ◌≤◌, ℕ, List, [], ◌∷◌, Option, Some, None, refl, sym, ap, subst, ◌∙◌, arith}
 use Rattle.std.specs.Prelude.{◌^◌, IfSome}
-use Rattle.outside.specs.Library.{Files}
+use Rattle.outside.specs.Library.{FileTable}
 use Rattle.cache_core.specs.declared.common.Common.{Common}
 use Rattle.cache_core.specs.Histories.{open_claim}
 use Rattle.turn_lock.specs.Seats.{SeatView}
@@ -17,10 +17,10 @@ use Rattle.page_workers.specs.Seating.{IsUnused, WasSeated, MayLeave}
 use Rattle.page_workers.specs.Rounds.{Drew, DrewPage, MayDraw}
 use Rattle.page_workers.specs.Laws.{IsBenchOf, SeatedMayDraw, DrawnMayLeave}
 
-module _ {F : Type 0} (library : F → Option Files) (bench : Bench) (part : Common) (n count : ℕ) (before after : Worker F) (few : count ≤ 32) (of_bench : IsBenchOf library bench part before) (unused : IsUnused before)
+module _ {F : Type 0} (library : F → Option FileTable) (bench : Bench) (part : Common) (n count : ℕ) (before after : Worker F) (few : count ≤ 32) (of_bench : IsBenchOf library bench part before) (unused : IsUnused before)
     (seated : WasSeated bench.cache part n before after) where
-  tells : (common : Option Files) → common ≡ part.library → IfSome common (λ l. library after.source ≡ Some l)
-  tells common e = subst (λ (o : Option Files). IfSome o (λ l. library after.source ≡ Some l)) (sym e)
+  tells : (common : Option FileTable) → common ≡ part.library → IfSome common (λ l. library after.source ≡ Some l)
+  tells common e = subst (λ (o : Option FileTable). IfSome o (λ l. library after.source ≡ Some l)) (sym e)
       (subst (λ (x : F). IfSome part.library (λ l. library x ≡ Some l)) (sym seated.same.source) of_bench.tells)
 
   is_at : IsAt (library after.source) bench seated.seat
@@ -48,12 +48,12 @@ module _ {F : Type 0} (library : F → Option Files) (bench : Bench) (part : Com
     room = room;
   }
 
-pub seated_may_draw : {F : Type 0} (library : F → Option Files) → SeatedMayDraw library
+pub seated_may_draw : {F : Type 0} (library : F → Option FileTable) → SeatedMayDraw library
 seated_may_draw library bench part n count before after few of_bench unused seated = may_draw library bench part n count before after few of_bench unused seated
 
 -- ---- after a round
 
-module _ {F : Type 0} (library : F → Option Files) (faults loads : F → ℕ) (bench : Bench) (indexed : Indexed) (sheet : Sheet) (n : ℕ) where
+module _ {F : Type 0} (library : F → Option FileTable) (faults loads : F → ℕ) (bench : Bench) (indexed : Indexed) (sheet : Sheet) (n : ℕ) where
   module _ (r : PageResult) (before after : Worker F) (page : DrewPage library faults loads bench indexed sheet r before after) (may : MayLeave bench.cache n before) where
     module _ (t : SeatView) (is : after.seat ≡ Some t) where
       trail : TrailGrew (IsWhole r.outcome) (asked_at (Some may.seat)) (asked_at (Some t)) (trail_at (loads before.source) before.loads (Some may.seat)) (trail_at (loads after.source) after.loads (Some t))
@@ -74,7 +74,7 @@ module _ {F : Type 0} (library : F → Option Files) (faults loads : F → ℕ) 
   leaves [] before after rested may = record { seat = may.seat; is = rested.seat ∙ may.is; lock = may.lock; number = may.number; idle = may.idle }
   leaves (r ∷ results) before after drew may = leaves results drew.0 after drew.2 (at_seat r before drew.0 drew.1 may drew.0.seat refl drew.1.fits)
 
-pub drawn_may_leave : {F : Type 0} (library : F → Option Files) (faults loads : F → ℕ) → DrawnMayLeave library faults loads
+pub drawn_may_leave : {F : Type 0} (library : F → Option FileTable) (faults loads : F → ℕ) → DrawnMayLeave library faults loads
 drawn_may_leave library faults loads bench part indexed sheet n results before start after seated drew =
     leaves library faults loads bench indexed sheet n results start after drew
     (record { seat = seated.seat; is = seated.is; lock = seated.new.lock; number = seated.new.number; idle = seated.new.idle })

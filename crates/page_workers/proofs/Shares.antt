@@ -7,7 +7,7 @@ use Rattle.std.proofs.lemmas.Bool.{cases_lt, cases_eq}
 use Rattle.std.proofs.lemmas.List.{length-map}
 use Rattle.std.proofs.lemmas.List.Elements.{Contains-append_cases, Contains-append_left, Contains-append_right}
 use Rattle.atomic_table.specs.Seated.{TableId}
-use Rattle.outside.specs.Library.{Files}
+use Rattle.outside.specs.Library.{FileTable}
 use Rattle.page_counter.specs.declared.view.SeatClaims.{SeatClaims}
 use Rattle.page_counter.specs.Numbers.{times, EachOnce}
 use Rattle.page_counter.specs.Views.{claims_of}
@@ -20,13 +20,13 @@ use Rattle.page_workers.specs.declared.bench.Bench.{Bench}
 use Rattle.page_workers.specs.declared.worker.PageResult.{PageResult}
 use Rattle.page_workers.specs.declared.worker.Worker.{Worker}
 use Rattle.page_workers.specs.Rounds.{Rested, Drew, DrewRound, BitmapsToLast, LacksBitmap, pages_of}
-use Rattle.page_workers.specs.Claims.{Kept, GotSeat, GaveSeat, TookPart, IsOver, claims_at}
+use Rattle.page_workers.specs.Claims.{RestsAtCounter, GotSeat, GaveSeat, TookPart, IsOver, claims_at}
 use Rattle.page_workers.proofs.Rested.{rests}
 use Rattle.page_workers.proofs.Drawn.{drew_after_rest, drew_before_rest}
 use Rattle.page_workers.proofs.Lists.{same_default}
 use Rattle.page_workers.proofs.Rising.{rising_prefix, rising_from, claim_of_page, page_of_claim}
 
-module _ {F : Type 0} (library : F → Option Files) (faults loads : F → ℕ) (bench : Bench) (indexed : Indexed) (sheet : Sheet) (first count : ℕ) where
+module _ {F : Type 0} (library : F → Option FileTable) (faults loads : F → ℕ) (bench : Bench) (indexed : Indexed) (sheet : Sheet) (first count : ℕ) where
   -- a worker's part of a round, by the claims that seat 0 took in
   pub record Share (before after : Worker F) (taken : SeatClaims) : Type 0 where
     pub drawn : List PageResult
@@ -40,7 +40,7 @@ module _ {F : Type 0} (library : F → Option Files) (faults loads : F → ℕ) 
     pub stopped : BitmapsToLast drawn
     pub over : IsOver count beyond drawn
 
-  pub share_of : (id new : TableId) (a b c d e : Worker F) (taken : SeatClaims) → Kept a b → GotSeat id b c → TookPart library faults loads bench indexed sheet new first count c d → GaveSeat taken d e
+  pub share_of : (id new : TableId) (a b c d e : Worker F) (taken : SeatClaims) → RestsAtCounter a b → GotSeat id b c → TookPart library faults loads bench indexed sheet new first count c d → GaveSeat taken d e
       → Share a e taken
   share_of id new a b c d e taken kept got part gave =
       let seated : Rested b c = subst (λ (w : Worker F). Rested b w) (sym got.is) (record { source = refl; seat = refl; results = refl; loads = refl; pages = refl }) in
@@ -83,7 +83,7 @@ apart m seats once j k x e j_in k_in j_has k_has = ⊎_elim (λ same. same) (λ 
     absurd (omega arith))
     (cases_eq j k)
 
-module _ {F : Type 0} (library : F → Option Files) (faults loads : F → ℕ) (bench : Bench) (indexed : Indexed) (sheet : Sheet) (first count m : ℕ) (seats : List SeatClaims)
+module _ {F : Type 0} (library : F → Option FileTable) (faults loads : F → ℕ) (bench : Bench) (indexed : Indexed) (sheet : Sheet) (first count m : ℕ) (seats : List SeatClaims)
     (once : EachOnce m (claims_of seats)) where
   abbrev ShareOf : Worker F → Worker F → SeatClaims → Type 0
   ShareOf before after taken = Share library faults loads bench indexed sheet first count before after taken

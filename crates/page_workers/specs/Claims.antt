@@ -3,7 +3,7 @@ use Rattle.std.specs.Prelude.{◌≡◌, ◌⊎◌, ℕ, ◌+◌, ◌*◌, ◌^�
 use Rattle.std.specs.List.Sorted.{IsStrictlyIncreasing}
 use Rattle.std.specs.Vec.{vec_len, vec_capacity}
 use Rattle.atomic_table.specs.Seated.{TableId}
-use Rattle.outside.specs.Library.{Files}
+use Rattle.outside.specs.Library.{FileTable}
 use Rattle.packed_rows.specs.Bitmap.{Bitmap}
 use Rattle.page_counter.specs.declared.view.SeatClaims.{SeatClaims}
 use Rattle.page_counter.specs.Seats.{SeatView}
@@ -16,11 +16,12 @@ use Rattle.page_workers.specs.declared.worker.PageResult.{PageResult}
 use Rattle.page_workers.specs.declared.worker.Worker.{Worker}
 use Rattle.page_workers.specs.Seats.{Fits, room_at}
 use Rattle.page_workers.specs.Rounds.{Rested, Drew, DrewPage, BitmapsToLast, LacksBitmap, pages_of}
+use Rattle.vf_expand.specs.Course.{MOST_FLAT}
 
 -- ---- the worker's parts that a round takes
 
 -- the worker drew nothing, and has the seat at a counter that it had
-pub record Kept {F : Type 0} (before after : Worker F) : Type 0 where
+pub record RestsAtCounter {F : Type 0} (before after : Worker F) : Type 0 where
   pub rested : Rested before after
   pub counter : after.counter ≡ before.counter
 
@@ -77,10 +78,10 @@ pub record Claimed {F : Type 0} (first count : ℕ) (page : Option ℕ) (before 
 -- ---- a worker's part of a round
 
 -- the worker may draw n pages, as it claims them from this counter
-pub record MayTakePart {F : Type 0} (library : F → Option Files) (bench : Bench) (id : TableId)
+pub record MayTakePart {F : Type 0} (library : F → Option FileTable) (bench : Bench) (id : TableId)
     (count : ℕ) (w : Worker F) : Type 0 where
   pub fits : Fits (library w.source) bench w.seat
-  pub look_ups : count * 2 ^ 24 ≤ room_at w.loads w.seat
+  pub look_ups : count * MOST_FLAT ≤ room_at w.loads w.seat
   pub space : HasRoom count w
   pub seated : HasSeat id w
   pub unused : claims_at w.counter ≡ []
@@ -91,7 +92,7 @@ abbrev pub IsOver : ℕ → List ℕ → List PageResult → Type 0
 IsOver count beyond drawn = ((claim : ℕ) × (beyond ≡ claim ∷ []) × (count ≤ claim))
     ⊎ ((beyond ≡ []) × LacksBitmap drawn)
 
-module _ {F : Type 0} (library : F → Option Files) (faults loads : F → ℕ) where
+module _ {F : Type 0} (library : F → Option FileTable) (faults loads : F → ℕ) where
   -- the worker drew the page with this number, from 0, and it has a bitmap or not
   pub record DrewNext (bench : Bench) (indexed : Indexed) (sheet : Sheet) (page : ℕ)
       (has_bitmap : Bool) (before after : Worker F) : Type 0 where

@@ -2,7 +2,7 @@
 use Rattle.std.specs.Prelude.{◌≡◌, ◌⊎◌, ℕ, ◌+◌, ◌*◌, ◌^◌, ◌<◌, ◌≤◌, List, [], ◌∷◌, ◌++◌, length, map, slice_index_or, Contains, Option, None, Result, Ok, Err, IsOk, IsErr, IsErrOf}
 use Rattle.std.specs.List.Sorted.{IsStrictlyIncreasing}
 use Rattle.outside.specs.Counts.{HasCause}
-use Rattle.outside.specs.Library.{Files}
+use Rattle.outside.specs.Library.{FileTable}
 use Rattle.outside.specs.declared.keys.FontKey.{FontKey}
 use Rattle.packed_rows.specs.Bitmap.{Bitmap}
 use Rattle.page_index.specs.Pages.{Indexed}
@@ -17,6 +17,7 @@ use Rattle.page_workers.specs.declared.bench.Bench.{Bench}
 use Rattle.page_workers.specs.declared.worker.PageResult.{PageResult}
 use Rattle.page_workers.specs.declared.worker.Worker.{Worker}
 use Rattle.page_workers.specs.Seats.{Fits, library_at, units_at, asked_at, trail_at, room_at}
+use Rattle.vf_expand.specs.Course.{MOST_FLAT}
 
 -- what came of a page is what its drawing says
 abbrev pub IsOutcome : Finding → Indexed → Sheet → ℕ → Result Bitmap PageStop
@@ -53,17 +54,17 @@ pub record Rested {F : Type 0} (before after : Worker F) : Type 0 where
   pub pages : after.pages.items ≡ before.pages.items
 
 -- the worker may draw n pages at this bench
-pub record MayDraw {F : Type 0} (library : F → Option Files) (bench : Bench) (count : ℕ)
+pub record MayDraw {F : Type 0} (library : F → Option FileTable) (bench : Bench) (count : ℕ)
     (w : Worker F) : Type 0 where
   pub fits : Fits (library w.source) bench w.seat
   pub no_result : w.results.items ≡ []
   pub no_counter : w.counter ≡ None
-  pub room : count * 2 ^ 24 ≤ room_at w.loads w.seat
+  pub room : count * MOST_FLAT ≤ room_at w.loads w.seat
 
 abbrev pub trail_of : {F : Type 0} → (F → ℕ) → Worker F → Option Trail
 trail_of loads w = trail_at (loads w.source) w.loads w.seat
 
-module _ {F : Type 0} (library : F → Option Files) (faults loads : F → ℕ) where
+module _ {F : Type 0} (library : F → Option FileTable) (faults loads : F → ℕ) where
   -- the worker drew the page of this result after the others of its round, and may draw on
   pub record DrewPage (bench : Bench) (indexed : Indexed) (sheet : Sheet) (r : PageResult)
       (before after : Worker F) : Type 0 where
@@ -72,7 +73,7 @@ module _ {F : Type 0} (library : F → Option Files) (faults loads : F → ℕ) 
     pub value : IsOutcome (IsFontOf (library_at before.seat) (units_at before.seat))
         indexed sheet r.page r.outcome (asked_at before.seat) (asked_at after.seat)
     pub fits : Fits (library after.source) bench after.seat
-    pub room : room_at before.loads before.seat ≤ room_at after.loads after.seat + 2 ^ 24
+    pub room : room_at before.loads before.seat ≤ room_at after.loads after.seat + MOST_FLAT
     pub same_library : library_at after.seat ≡ library_at before.seat
     pub same_units : units_at after.seat ≡ units_at before.seat
     pub cause : HasCause (faults before.source) (faults after.source)

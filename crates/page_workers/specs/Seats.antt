@@ -1,6 +1,6 @@
 -- What a worker tells of its seat at a cache, and when a bench is its own.
 use Rattle.std.specs.Prelude.{◌≡◌, ℕ, ◌-◌, ◌/◌, ◌^◌, min, List, Option, Some, None, IfSome, IsSome, refl}
-use Rattle.outside.specs.Library.{Files}
+use Rattle.outside.specs.Library.{FileTable}
 use Rattle.outside.specs.declared.keys.FontKey.{FontKey}
 use Rattle.pixel_round.specs.declared.units.Units.{Units}
 use Rattle.cache_core.specs.declared.calls.Call.{Call}
@@ -16,7 +16,7 @@ use Rattle.page_workers.specs.declared.bench.Bench.{Bench}
 abbrev pub own_calls : SeatView → List Call
 own_calls s = own s.view.number s.view.seen
 
-abbrev pub library_at : Option SeatView → Option Files
+abbrev pub library_at : Option SeatView → Option FileTable
 library_at None = None
 library_at (Some s) = s.view.part.library
 
@@ -49,7 +49,7 @@ room_at counted (Some s) = min ((2 ^ 48 - s.view.drawn) / 3) ((2 ^ 62 - counted)
 
 -- the seat is of the bench's cache and has neither the turn nor a claim, and the units are those of
 -- its common part. Where that tells a library, the worker's source tells it too
-pub record IsAt (told : Option Files) (bench : Bench) (s : SeatView) : Type 0 where
+pub record IsAt (told : Option FileTable) (bench : Bench) (s : SeatView) : Type 0 where
   pub lock : s.lock ≡ bench.cache
   pub idle : s.view.stage ≡ Idle
   pub free : open_claim (own_calls s) ≡ None
@@ -57,7 +57,7 @@ pub record IsAt (told : Option Files) (bench : Bench) (s : SeatView) : Type 0 wh
   pub sound : AreUnits bench.units
   pub tells : IfSome s.view.part.library (λ l. told ≡ Some l)
 
-abbrev pub Fits : Option Files → Bench → Option SeatView → Type 0
+abbrev pub Fits : Option FileTable → Bench → Option SeatView → Type 0
 Fits told bench None = ⊥
 Fits told bench (Some s) = IsAt told bench s
 

@@ -26,8 +26,8 @@ impl Loan for Brand {
     ghost begun = { 0 };
 }
 
-/// A source that passes each load on to the one that it was lent, and counts the loads from 0. Its
-/// type keeps that the loads of that source rose by as much, or stand still at 2^64 - 1.
+// A source that passes each load on to the one that it was lent, and counts the loads from 0. Its
+// type keeps that the loads of that source rose by as much, or stand still at 2^64 - 1.
 #[derive(Drop)]
 struct Counting<'a, F: FontSource, K: Loan> {
     source: &'a mut F,

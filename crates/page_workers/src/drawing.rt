@@ -10,6 +10,7 @@ ghost use Rattle.page_draw.specs.Sheets.{IsDrawable};
 ghost use Rattle.page_workers.specs.Rounds.{IsOutcome, trail_of};
 ghost use Rattle.page_workers.specs.Seats.{Fits, asked_at, library_at, room_at, units_at};
 ghost use Rattle.page_workers.specs.Claims.{DrewNext, HasRoom, MayTakePart, TookPart};
+ghost use Rattle.vf_expand.specs.Course.{MOST_FLAT};
 
 use crate::Bench;
 use crate::claiming::{Round, claim_page};
@@ -38,12 +39,12 @@ fn draw_on_paper<R: Wait, F: FontSource>(
     requires sheet { IsDrawable sheet.now }
     requires units { document_units index.now.res index.now.reading ≡ Some bench.now.units }
     requires fits { Fits (F.library worker.old.source) bench.now worker.old.seat }
-    requires look_ups { 2 ^ 24 ≤ room_at worker.old.loads worker.old.seat }
+    requires look_ups { MOST_FLAT ≤ room_at worker.old.loads worker.old.seat }
     ensures value { IsOutcome (IsFontOf (library_at worker.old.seat) (units_at worker.old.seat))
         index.now sheet.now page result (asked_at worker.old.seat) (asked_at worker.new.seat) }
     ensures fits { Fits (F.library worker.new.source) bench.now worker.new.seat }
     ensures room { room_at worker.old.loads worker.old.seat
-        ≤ room_at worker.new.loads worker.new.seat + 2 ^ 24 }
+        ≤ room_at worker.new.loads worker.new.seat + MOST_FLAT }
     ensures same_library { library_at worker.new.seat ≡ library_at worker.old.seat }
     ensures same_units { units_at worker.new.seat ≡ units_at worker.old.seat }
     ensures cause { HasCause (F.faults worker.old.source) (F.faults worker.new.source)
@@ -72,7 +73,7 @@ fn draw_page<R: Wait, F: FontSource>(
     requires sheet { IsDrawable sheet.now }
     requires units { document_units index.now.res index.now.reading ≡ Some bench.now.units }
     requires fits { Fits (F.library worker.old.source) bench.now worker.old.seat }
-    requires look_ups { 2 ^ 24 ≤ room_at worker.old.loads worker.old.seat }
+    requires look_ups { MOST_FLAT ≤ room_at worker.old.loads worker.old.seat }
     requires space { HasRoom 1 worker.old }
     ensures { DrewNext F.library F.faults F.loads bench.now index.now sheet.now page result
         worker.old worker.new }

@@ -4,7 +4,7 @@ ghost use Rattle.page_index.specs.Document.{pages_begun};
 ghost use Rattle.page_index.specs.Pages.{document_units};
 ghost use Rattle.page_draw.specs.Sheets.{IsDrawable};
 ghost use Rattle.page_workers.specs.Rounds.{DrewRound, MayDraw, Rested};
-ghost use Rattle.page_workers.specs.Claims.{HasRoom, Kept, MayTakePart, TookPart};
+ghost use Rattle.page_workers.specs.Claims.{HasRoom, RestsAtCounter, MayTakePart, TookPart};
 
 use crate::Bench;
 use crate::claiming::{Round, join_at_counter, seat_at_counter};
@@ -27,7 +27,7 @@ pub const MOST_WORKERS: usize = 32;
 
 // Takes room for n results and pages more.
 fn reserve<F: FontSource>(worker: &mut Worker<F>, count: usize) -> Result<(), NoMemory>
-    ensures kept { Kept worker.old worker.new }
+    ensures kept { RestsAtCounter worker.old worker.new }
     ensures room { OnOk result (HasRoom count worker.new) }
 {
     worker.results.reserve(count)?;
@@ -38,7 +38,7 @@ fn reserve<F: FontSource>(worker: &mut Worker<F>, count: usize) -> Result<(), No
 // Takes room for n results and pages more of each worker.
 fn reserve_all<F: FontSource>(workers: &mut [Worker<F>], count: usize) -> Result<(), NoMemory>
     ensures kept { (k : ℕ) (d : _) → k < length workers.old
-        → Kept (slice_index_or workers.old k d) (slice_index_or workers.new k d) }
+        → RestsAtCounter (slice_index_or workers.old k d) (slice_index_or workers.new k d) }
     ensures room { OnOk result ((k : ℕ) (d : _) → k < length workers.old
         → HasRoom count (slice_index_or workers.new k d)) }
 {

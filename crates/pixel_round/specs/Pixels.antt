@@ -52,7 +52,8 @@ abbrev pub ceil : Fraction → ℤ → ℤ
 ceil c (pos m) = pos (div_ceil (m * c.top) c.bottom)
 ceil c (negsuc m) = neg_ℤ (pos (suc m * c.top / c.bottom))
 
--- ---- laws: the functions give the one number that the relations name, of a bounded size, and a side above 0 has a dot
+-- ---- laws: the functions give the one number that the relations name, of a bounded size, and a
+-- side above 0 has a dot
 
 abbrev pub RoundIsNearest : Type 0
 RoundIsNearest = (c : Fraction) (x : ℤ) → 0 < c.bottom → IsRound c x (round c x)

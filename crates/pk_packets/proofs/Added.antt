@@ -6,7 +6,7 @@ use Rattle.std.proofs.lemmas.Bool.{cases_Bool, le-ltb}
 use Rattle.pk_runs.specs.Raster.{IsRaster}
 use Rattle.pk_runs.specs.declared.glyph.Glyph.{Glyph}
 use Rattle.pk_packets.specs.Items.{is_packet, opcode, told_size}
-use Rattle.pk_packets.specs.Packets.{code_of, dyn_f_of, fixed_size, height_of, is_first_black, packet_fault, raster_size, raster_sum, width_of}
+use Rattle.pk_packets.specs.Packets.{code_of, dyn_f_of, fixed_size, raster_height, is_first_black, packet_fault, raster_size, raster_sum, raster_width}
 use Rattle.pk_packets.specs.Reading.{IsPacketOf}
 use Rattle.pk_packets.specs.declared.packet.Packet.{Packet}
 use Rattle.pk_packets.specs.Fonts.{glyph_of, Glyphs, HasGlyphsOf, HasRaster, IsAnswer, IsGlyphFor, IsGlyphOf, IsPacketSound, packet_with}
@@ -15,10 +15,10 @@ pub sum_added : (bytes : List ℕ) (before : List (List ℕ)) (sum : ℕ) → is
 sum_added bytes before sum kind e = e ∙ ap (λ b. raster_sum before + (if b then raster_size bytes else 0)) (sym kind)
 
 -- where a packet passes each limit nothing but its runs can be wrong
-pub within_limits : (bytes : List ℕ) (before : List (List ℕ)) → fixed_size (opcode bytes) ≤ told_size bytes → width_of bytes ≤ 16384 → height_of bytes ≤ 16384
+pub within_limits : (bytes : List ℕ) (before : List (List ℕ)) → fixed_size (opcode bytes) ≤ told_size bytes → raster_width bytes ≤ 16384 → raster_height bytes ≤ 16384
     → raster_sum before + raster_size bytes ≤ 8388608 → packet_fault before bytes ≡ None
 within_limits bytes before long narrow low few =
-    rw (le-ltb (told_size bytes) (fixed_size (opcode bytes)) long, le-ltb 16384 (width_of bytes) narrow, le-ltb 16384 (height_of bytes) low, le-ltb 8388608 (raster_sum before + raster_size bytes) few) refl
+    rw (le-ltb (told_size bytes) (fixed_size (opcode bytes)) long, le-ltb 16384 (raster_width bytes) narrow, le-ltb 16384 (raster_height bytes) low, le-ltb 8388608 (raster_sum before + raster_size bytes) few) refl
 
 -- which packet has a code now
 chosen : (item : List ℕ) (before : List (List ℕ)) (k : ℕ) (a b : Bool) → is_packet item ≡ a → (code_of item == k) ≡ b
@@ -52,11 +52,11 @@ pub packet_added : (p : Packet) (bytes : List ℕ) (before : List (List ℕ)) (s
     → ((k : ℕ) → glyph_of new k ≡ (if p.code == k then Some g else glyph_of old k)) → sum ≡ raster_sum before → HasGlyphsOf before old
     → (new_sum ≡ raster_sum (bytes ∷ before)) × IsPacketSound before bytes × HasGlyphsOf (bytes ∷ before) new
 packet_added p bytes before sum new_sum g old new is kind long narrow low total few raster hoff voff put sum_is glyphs =
-    let whole : new_sum ≡ raster_sum before + raster_size bytes = total ∙ ap (λ n. n + p.height * div_ceil p.width 8) sum_is ∙ ap (λ h. raster_sum before + h * div_ceil p.width 8) is.height ∙ ap (λ w. raster_sum before + height_of bytes * div_ceil w 8) is.width in
-    let here : HasRaster bytes g.raster = subst (λ (r : List ℕ). IsRaster r (dyn_f_of bytes) (is_first_black bytes) (width_of bytes) (height_of bytes) g.raster) is.raster
-    (subst (λ (d : ℕ). IsRaster p.raster.now d (is_first_black bytes) (width_of bytes) (height_of bytes) g.raster) is.dyn_f
-    (subst (λ (b : Bool). IsRaster p.raster.now p.dyn_f b (width_of bytes) (height_of bytes) g.raster) is.black
-    (subst (λ (w : ℕ). IsRaster p.raster.now p.dyn_f p.black w (height_of bytes) g.raster) is.width
+    let whole : new_sum ≡ raster_sum before + raster_size bytes = total ∙ ap (λ n. n + p.height * div_ceil p.width 8) sum_is ∙ ap (λ h. raster_sum before + h * div_ceil p.width 8) is.height ∙ ap (λ w. raster_sum before + raster_height bytes * div_ceil w 8) is.width in
+    let here : HasRaster bytes g.raster = subst (λ (r : List ℕ). IsRaster r (dyn_f_of bytes) (is_first_black bytes) (raster_width bytes) (raster_height bytes) g.raster) is.raster
+    (subst (λ (d : ℕ). IsRaster p.raster.now d (is_first_black bytes) (raster_width bytes) (raster_height bytes) g.raster) is.dyn_f
+    (subst (λ (b : Bool). IsRaster p.raster.now p.dyn_f b (raster_width bytes) (raster_height bytes) g.raster) is.black
+    (subst (λ (w : ℕ). IsRaster p.raster.now p.dyn_f p.black w (raster_height bytes) g.raster) is.width
     (subst (λ (h : ℕ). IsRaster p.raster.now p.dyn_f p.black p.width h g.raster) is.height raster)))) in
     let fits : packet_fault before bytes ≡ None = within_limits bytes before long (subst (λ n. n ≤ 16384) is.width narrow) (subst (λ n. n ≤ 16384) is.height low) (subst (λ n. n ≤ 8388608) whole few) in
     let of : IsGlyphOf bytes g = record { raster = here; hoff = hoff ∙ is.hoff; voff = voff ∙ is.voff } in (

@@ -10,7 +10,7 @@ use Rattle.pk_runs.specs.declared.glyph.Glyph.{Glyph}
 use Rattle.pk_runs.proofs.OneFault.{rasters_are_one, rasters_have_no_fault, run_faults_are_one}
 use Rattle.pk_packets.specs.Preamble.{preamble_fault}
 use Rattle.pk_packets.specs.Items.{IsCut, is_packet, opcode, text_of}
-use Rattle.pk_packets.specs.Packets.{code_of, dyn_f_of, height_of, is_first_black, packet_fault, raster_of, width_of}
+use Rattle.pk_packets.specs.Packets.{code_of, dyn_f_of, raster_height, is_first_black, packet_fault, raster_of, raster_width}
 use Rattle.pk_packets.specs.Fonts.{AreSound, HasRaster, IsAnswer, IsGlyphFor, IsGlyphOf, IsPacketSound, IsPkFile, packet_with}
 use Rattle.pk_packets.specs.Faults.{HasRunFault, IsFaultAfter, IsFaultOfItems, IsPacketFault}
 use Rattle.pk_packets.specs.Laws.{AnswersAreOne, FilesAreReadOneWay, FilesHaveNoFault, FirstFaultsAreOne}
@@ -31,12 +31,12 @@ WrongBy o packet f = MatchOption o ((r : RunFault) × HasRunFault packet r × (f
 
 one_wrong : (o : Option PkFault) (packet : List ℕ) (f g : PkFault) → dyn_f_of packet ≤ 14 → WrongBy o packet f → WrongBy o packet g → f ≡ g
 one_wrong None packet f g small a b =
-    a.2 ∙ ap (Runs (code_of packet)) (run_faults_are_one (raster_of packet) (dyn_f_of packet) (width_of packet) (height_of packet) a.0 b.0 small a.1 b.1) ∙ sym b.2
+    a.2 ∙ ap (Runs (code_of packet)) (run_faults_are_one (raster_of packet) (dyn_f_of packet) (raster_width packet) (raster_height packet) a.0 b.0 small a.1 b.1) ∙ sym b.2
 one_wrong (Some found) packet f g small a b = a ∙ sym b
 
 never_wrong : (o : Option PkFault) (packet : List ℕ) (raster : Bitmap) (f : PkFault) → dyn_f_of packet ≤ 14 → o ≡ None → HasRaster packet raster → WrongBy o packet f → ⊥
 never_wrong None packet raster f small none has a =
-    rasters_have_no_fault (raster_of packet) (dyn_f_of packet) (width_of packet) (height_of packet) (is_first_black packet) raster a.0 small has a.1
+    rasters_have_no_fault (raster_of packet) (dyn_f_of packet) (raster_width packet) (raster_height packet) (is_first_black packet) raster a.0 small has a.1
 never_wrong (Some found) packet raster f small none has a = cc
 
 sound_is_not_wrong : (before : List (List ℕ)) (packet : List ℕ) (f : PkFault) → is_packet packet ≡ true → IsPacketSound before packet → IsPacketFault before packet f → ⊥
@@ -160,7 +160,7 @@ glyph_with raster hoff voff = record { raster = raster; hoff = hoff; voff = voff
 one_glyph : (packet : List ℕ) (g k : Glyph) → dyn_f_of packet ≤ 14 → IsGlyphOf packet g → IsGlyphOf packet k → g ≡ k
 one_glyph packet g k small a b =
     let raster : g.raster ≡ k.raster =
-    rasters_are_one (raster_of packet) (dyn_f_of packet) (width_of packet) (height_of packet) (is_first_black packet) g.raster k.raster small a.raster b.raster in
+    rasters_are_one (raster_of packet) (dyn_f_of packet) (raster_width packet) (raster_height packet) (is_first_black packet) g.raster k.raster small a.raster b.raster in
     let hoff : g.hoff ≡ k.hoff = a.hoff ∙ sym b.hoff in
     let voff : g.voff ≡ k.voff = a.voff ∙ sym b.voff in
     let whole : glyph_with g.raster g.hoff g.voff ≡ glyph_with k.raster k.hoff k.voff = rw (raster, hoff, voff) refl in

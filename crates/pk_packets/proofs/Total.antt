@@ -13,7 +13,7 @@ use Rattle.pk_runs.specs.declared.faults.RunFault.{RunFault}
 use Rattle.pk_runs.proofs.Total.{bytes_have_a_raster_or_a_fault}
 use Rattle.pk_packets.specs.Preamble.{preamble_fault, preamble_size}
 use Rattle.pk_packets.specs.Items.{IsItem, head_size, is_packet, item_size, opcode, text_of}
-use Rattle.pk_packets.specs.Packets.{code_of, dyn_f_of, fixed_size, height_of, hoff_of, is_first_black, packet_fault, raster_of, voff_of, width_of}
+use Rattle.pk_packets.specs.Packets.{code_of, dyn_f_of, fixed_size, raster_height, hoff_of, is_first_black, packet_fault, raster_of, voff_of, raster_width}
 use Rattle.pk_packets.specs.Fonts.{AreSound, Glyphs, glyph_of, HasGlyphsOf, IsAnswer, IsPacketSound, IsPkFile}
 use Rattle.pk_packets.specs.Faults.{HasRunFault, IsFaultAfter, IsFaultOfItems, IsFirstFault, IsPacketFault}
 use Rattle.pk_packets.specs.Laws.{FilesAreReadOrHaveAFault, SoundItemsHaveGlyphs}
@@ -39,7 +39,7 @@ packet_then : (before : List (List ℕ)) (packet : List ℕ) → AreBytes packet
 packet_then before packet few kind = by (packet_fault before packet) refl
   where
     by : (o : Option PkFault) → packet_fault before packet ≡ o → IsPacketSound before packet ⊎ ((f : PkFault) × IsPacketFault before packet f)
-    by None e = elim (bytes_have_a_raster_or_a_fault (raster_of packet) (dyn_f_of packet) (width_of packet) (height_of packet) (is_first_black packet) (small_form packet kind)
+    by None e = elim (bytes_have_a_raster_or_a_fault (raster_of packet) (dyn_f_of packet) (raster_width packet) (raster_height packet) (is_first_black packet) (small_form packet kind)
         (bytes_after (head_size (opcode packet) + fixed_size (opcode packet)) packet few)) [
           | inl r ↦ inl (e, r.0, r.1)
           | inr r ↦

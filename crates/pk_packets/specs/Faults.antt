@@ -5,7 +5,7 @@ use Rattle.pk_runs.specs.Raster.{IsRunFault}
 use Rattle.pk_runs.specs.declared.faults.RunFault.{RunFault}
 use Rattle.pk_packets.specs.Preamble.{preamble_fault, preamble_size}
 use Rattle.pk_packets.specs.Items.{IsCut, IsItem, is_packet, opcode, text_of}
-use Rattle.pk_packets.specs.Packets.{code_of, dyn_f_of, height_of, packet_fault, raster_of, width_of}
+use Rattle.pk_packets.specs.Packets.{code_of, dyn_f_of, raster_height, packet_fault, raster_of, raster_width}
 use Rattle.pk_packets.specs.Fonts.{AreSound}
 use Rattle.pk_packets.specs.declared.faults.PkFault.{PkFault}
 use Rattle.pk_packets.specs.declared.faults.PkFault.TheVariants.{Short, Undefined, Runs}
@@ -18,7 +18,7 @@ IsItemFault rest f =
 -- what is wrong with the runs of a packet
 abbrev pub HasRunFault : List ℕ → RunFault → Type 0
 HasRunFault bytes r =
-    IsRunFault (raster_of bytes) (dyn_f_of bytes) (width_of bytes) (height_of bytes) r
+    IsRunFault (raster_of bytes) (dyn_f_of bytes) (raster_width bytes) (raster_height bytes) r
 
 -- what is wrong with a whole packet after these items: a length, a side or the sum of rasters
 -- before the runs

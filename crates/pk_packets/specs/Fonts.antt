@@ -6,15 +6,15 @@ use Rattle.pk_runs.specs.Raster.{IsRaster}
 use Rattle.pk_runs.specs.declared.glyph.Glyph.{Glyph}
 use Rattle.pk_packets.specs.Preamble.{preamble_fault, preamble_size}
 use Rattle.pk_packets.specs.Items.{IsItem, is_packet, text_of}
-use Rattle.pk_packets.specs.Packets.{code_of, dyn_f_of, height_of, hoff_of, is_first_black, packet_fault, raster_of, voff_of, width_of}
+use Rattle.pk_packets.specs.Packets.{code_of, dyn_f_of, raster_height, hoff_of, is_first_black, packet_fault, raster_of, voff_of, raster_width}
 
 -- ---- the file
 
 -- the raster that a packet's bytes stand for
 abbrev pub HasRaster : List ℕ → Bitmap → Type 0
 HasRaster bytes raster =
-    IsRaster (raster_of bytes) (dyn_f_of bytes) (is_first_black bytes) (width_of bytes)
-    (height_of bytes) raster
+    IsRaster (raster_of bytes) (dyn_f_of bytes) (is_first_black bytes) (raster_width bytes)
+    (raster_height bytes) raster
 
 -- nothing is wrong with a packet after these items
 abbrev pub IsPacketSound : List (List ℕ) → List ℕ → Type 0

@@ -6,6 +6,7 @@ use Rattle.big_endian.specs.Fields.{unsigned_at, signed_at}
 use Rattle.pk_packets.specs.Items.{by_form, code_size, count_size, head_size, is_packet, opcode, told_size}
 use Rattle.pk_packets.specs.declared.faults.PkFault.{PkFault}
 use Rattle.pk_packets.specs.declared.faults.PkFault.TheVariants.{TooBig, FontTooBig, Length}
+use Rattle.pk_runs.specs.Limits.{LONGEST_SIDE}
 
 -- ---- the fields
 
@@ -34,11 +35,11 @@ is_first_black bytes = opcode bytes / 8 % 2 == 1
 abbrev pub code_of : List ℕ → ℕ
 code_of bytes = unsigned_at bytes (1 + count_size (opcode bytes)) (code_size (opcode bytes))
 
-abbrev pub width_of : List ℕ → ℕ
-width_of bytes = unsigned_at bytes (sides_at (opcode bytes)) (side_size (opcode bytes))
+abbrev pub raster_width : List ℕ → ℕ
+raster_width bytes = unsigned_at bytes (sides_at (opcode bytes)) (side_size (opcode bytes))
 
-abbrev pub height_of : List ℕ → ℕ
-height_of bytes =
+abbrev pub raster_height : List ℕ → ℕ
+raster_height bytes =
     unsigned_at bytes (sides_at (opcode bytes) + side_size (opcode bytes))
     (side_size (opcode bytes))
 
@@ -59,7 +60,7 @@ raster_of bytes = drop (head_size (opcode bytes) + fixed_size (opcode bytes)) by
 
 -- the bytes that a raster takes, each row in whole bytes
 abbrev pub raster_size : List ℕ → ℕ
-raster_size bytes = height_of bytes * div_ceil (width_of bytes) 8
+raster_size bytes = raster_height bytes * div_ceil (raster_width bytes) 8
 
 -- those of all packets among the items, also of packets that a later one replaces
 abbrev pub raster_sum : List (List ℕ) → ℕ
@@ -70,7 +71,7 @@ raster_sum (item ∷ before) = raster_sum before + (if is_packet item then raste
 abbrev pub packet_fault : List (List ℕ) → List ℕ → Option PkFault
 packet_fault before bytes =
     if nat_lt (told_size bytes) (fixed_size (opcode bytes)) then Some (Length (code_of bytes))
-    else if nat_lt 16384 (width_of bytes) || nat_lt 16384 (height_of bytes)
+    else if nat_lt LONGEST_SIDE (raster_width bytes) || nat_lt LONGEST_SIDE (raster_height bytes)
     then Some (TooBig (code_of bytes))
     else if nat_lt 8388608 (raster_sum before + raster_size bytes) then Some FontTooBig
     else None

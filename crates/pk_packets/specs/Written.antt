@@ -3,7 +3,7 @@
 use Rattle.std.specs.Prelude.{◌≡◌, ℕ, ◌+◌, ◌*◌, ◌/◌, ◌%◌, ◌^◌, ◌<◌, ◌≤◌, ℤ, pos, Bool, List, ◌∷◌, ◌++◌, length, if◌then◌else◌, IsTrue}
 use Rattle.big_endian.specs.Numbers.{IsSigned, number_bytes}
 use Rattle.pk_packets.specs.Items.{IsItem, is_packet}
-use Rattle.pk_packets.specs.Packets.{code_of, dyn_f_of, height_of, hoff_of, is_first_black, raster_of, voff_of, width_of}
+use Rattle.pk_packets.specs.Packets.{code_of, dyn_f_of, raster_height, hoff_of, is_first_black, raster_of, voff_of, raster_width}
 
 -- the bytes of the width and the escapements, which a reader passes over, stand in one field
 pub record Fields : Type 0 where
@@ -66,8 +66,8 @@ pub record IsReadAs (bytes : List ℕ) (f : Fields) : Type 0 where
   pub code : code_of bytes ≡ f.code
   pub dyn_f : dyn_f_of bytes ≡ f.dyn_f
   pub first_black : is_first_black bytes ≡ f.first_black
-  pub width : width_of bytes ≡ f.width
-  pub height : height_of bytes ≡ f.height
+  pub width : raster_width bytes ≡ f.width
+  pub height : raster_height bytes ≡ f.height
   pub hoff : hoff_of bytes ≡ f.hoff
   pub voff : voff_of bytes ≡ f.voff
   pub raster : raster_of bytes ≡ f.raster

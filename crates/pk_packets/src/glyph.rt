@@ -5,6 +5,7 @@ ghost use Rattle.pk_runs.specs.Raster.{IsRaster, IsRunFault};
 ghost use Rattle.pk_runs.specs.declared.faults.RunFault.{RunFault};
 ghost use Rattle.pk_packets.specs.Stops.{IfFault};
 ghost use Rattle.pk_packets.specs.declared.faults.PkFault.TheVariants as fault;
+ghost use Rattle.pk_runs.specs.Limits.{LONGEST_SIDE as THE_LONGEST_SIDE};
 
 use crate::packet::Packet;
 use crate::{PkFault, PkStop};
@@ -23,12 +24,12 @@ pub fn sum_with(packet: &Packet, before: u32) -> Result<u32, PkFault>
     ensures sum { IfOk result (λ sum. sum ≡ before + packet.now.height
         * div_ceil packet.now.width 8) }
     ensures few { IfOk result (λ sum. sum ≤ 8388608) }
-    ensures narrow { OnOk result (packet.now.width ≤ 16384) }
-    ensures low { OnOk result (packet.now.height ≤ 16384) }
+    ensures narrow { OnOk result (packet.now.width ≤ THE_LONGEST_SIDE) }
+    ensures low { OnOk result (packet.now.height ≤ THE_LONGEST_SIDE) }
     ensures fault { IfErr result (λ f.
-        (((16384 < packet.now.width) ⊎ (16384 < packet.now.height))
+        (((THE_LONGEST_SIDE < packet.now.width) ⊎ (THE_LONGEST_SIDE < packet.now.height))
         × (f ≡ fault.TooBig packet.now.code))
-        ⊎ ((packet.now.width ≤ 16384) × (packet.now.height ≤ 16384)
+        ⊎ ((packet.now.width ≤ THE_LONGEST_SIDE) × (packet.now.height ≤ THE_LONGEST_SIDE)
         × (8388608 < before + packet.now.height * div_ceil packet.now.width 8)
         × (f ≡ fault.FontTooBig))) }
 {
@@ -45,8 +46,8 @@ pub fn sum_with(packet: &Packet, before: u32) -> Result<u32, PkFault>
 /// The glyph that a packet's raster bytes stand for, or `Runs` with the fault of its runs.
 pub fn glyph(alloc: Global, packet: &Packet) -> Result<Glyph, PkStop>
     requires form { packet.now.dyn_f ≤ 14 }
-    requires narrow { packet.now.width ≤ 16384 }
-    requires low { packet.now.height ≤ 16384 }
+    requires narrow { packet.now.width ≤ THE_LONGEST_SIDE }
+    requires low { packet.now.height ≤ THE_LONGEST_SIDE }
     ensures raster { IfOk result
         (λ g. IsRaster packet.now.raster.now packet.now.dyn_f packet.now.black
         packet.now.width packet.now.height g.raster) }

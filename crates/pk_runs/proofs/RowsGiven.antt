@@ -3,7 +3,7 @@ use Rattle.std.proofs.Common.{◌≡◌, ℕ, zero, suc, ◌+◌, ◌*◌, ◌/�
 use Rattle.std.proofs.lemmas.List.{length-map, get_or-map}
 use Rattle.std.proofs.lemmas.Nat.{div-mul-add, mod-mul-add, div_below}
 use Rattle.packed_rows.specs.Bitmap.{Bitmap}
-use Rattle.pk_runs.specs.Given.{width_of, bitmap_of_rows, pixel_at}
+use Rattle.pk_runs.specs.Given.{rows_width, bitmap_of_rows, pixel_at}
 use Rattle.pk_runs.proofs.Complete.{IsPlainTo, given_all}
 
 abbrev seen_rows : List (Vec Bool Global) → List (List Bool)
@@ -21,12 +21,12 @@ row_length rows row w y inside e equal = ap (λ (v : Vec Bool Global). length v.
 pub on_raster : (w n k : ℕ) → k < w * n → k / w < n
 on_raster w n k h = div_below k w n (some_columns w n k h) (omega (arith, h))
 
-pub rows_painted : (rows : List (Vec Bool Global)) (w k : ℕ) (b : Bitmap) → w ≡ width_of (map (λ v. v.items) rows) → w * length rows ≤ k
+pub rows_painted : (rows : List (Vec Bool Global)) (w k : ℕ) (b : Bitmap) → w ≡ rows_width (map (λ v. v.items) rows) → w * length rows ≤ k
     → ((r : ℕ) → r < length rows → length (get_or (map (λ v. v.items) rows) r []) ≡ w) → IsPlainTo (pixel_at w (map (λ v. v.items) rows)) w (length rows) k b → b ≡ bitmap_of_rows (map (λ v. v.items) rows)
 rows_painted rows w k b size all equal d =
     given_all (pixel_at w (seen_rows rows)) w (length rows) k b (seen_rows rows) all high equal
     (λ x y in_row inside. ap (λ r. get_or (get_or (seen_rows rows) r []) ((y * w + x) % w) false) (div-mul-add y w x in_row) ∙ ap (λ c. get_or (get_or (seen_rows rows) y []) c false) (mod-mul-add y w x in_row)) d
-    ∙ ap (λ n. make n (length rows) (seen_rows rows)) size ∙ ap (λ n. make (width_of (seen_rows rows)) n (seen_rows rows)) (sym high)
+    ∙ ap (λ n. make n (length rows) (seen_rows rows)) size ∙ ap (λ n. make (rows_width (seen_rows rows)) n (seen_rows rows)) (sym high)
   where
     high : length (map (λ (v : Vec Bool Global). v.items) rows) ≡ length rows
     high = length-map rows (λ (v : Vec Bool Global). v.items)

@@ -10,7 +10,7 @@ use Rattle.pk_runs.specs.Painting.{painted, IsDrawn}
 use Rattle.pk_runs.specs.Reading.{IsItemRead, CantRead, IsPaintedTo}
 use Rattle.pk_runs.specs.declared.faults.RunFault.{RunFault}
 use Rattle.pk_runs.specs.declared.faults.RunFault.TheVariants as fault
-use Rattle.pk_runs.specs.declared.items.Reading.TheVariants as read
+use Rattle.pk_runs.specs.declared.items.PackedNumber.TheVariants as read
 use Rattle.pk_runs.specs.declared.painter.Painter.{Painter}
 use Rattle.pk_runs.proofs.Drawn.{drawn_in_row, drawn_turned, drawn_repeat}
 

@@ -5,3 +5,4 @@ pub mod Reading
 pub mod Stops
 pub mod Given
 pub mod Narrow
+pub mod Limits

@@ -4,7 +4,7 @@ use Rattle.packed_rows.specs.Bitmap.{Bitmap, is_black}
 use Rattle.packed_rows.specs.Joined.{IsWhiteFrom}
 use Rattle.packed_rows.specs.Stamped.{word_pixel}
 use Rattle.pk_runs.specs.Reading.{IsItemRead, IsPaintedTo}
-use Rattle.pk_runs.specs.declared.items.Reading.{Reading}
+use Rattle.pk_runs.specs.declared.items.PackedNumber.{PackedNumber}
 use Rattle.pk_runs.specs.declared.painter.Painter.{Painter}
 
 -- the raster is white from a row on, and the word from a column on
@@ -23,7 +23,7 @@ abbrev pub IsAhead : ℕ → ℕ → Bool → Type 0
 IsAhead word column black = (i : ℕ) → column ≤ i → i < 64 → word_pixel word i ≡ black
 
 -- the item was read after items that are painted
-abbrev pub IsNextItem : List ℕ → ℕ → Bool → ℕ → ℕ → List ℕ → Painter → Reading → Type 0
+abbrev pub IsNextItem : List ℕ → ℕ → Bool → ℕ → ℕ → List ℕ → Painter → PackedNumber → Type 0
 IsNextItem bytes dyn_f first w h rest p item =
     (middle : List ℕ) × IsPaintedTo bytes dyn_f first w h middle p
     × IsItemRead dyn_f middle rest p.repeated item

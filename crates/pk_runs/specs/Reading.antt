@@ -5,12 +5,12 @@ use Rattle.pk_runs.specs.Raster.{pixels, copies, has_repeat, colour_after, Fits}
 use Rattle.pk_runs.specs.Painting.{IsDrawn}
 use Rattle.pk_runs.specs.declared.faults.RunFault.{RunFault}
 use Rattle.pk_runs.specs.declared.faults.RunFault.TheVariants as fault
-use Rattle.pk_runs.specs.declared.items.Reading.{Reading}
-use Rattle.pk_runs.specs.declared.items.Reading.TheVariants as read
+use Rattle.pk_runs.specs.declared.items.PackedNumber.{PackedNumber}
+use Rattle.pk_runs.specs.declared.items.PackedNumber.TheVariants as read
 use Rattle.pk_runs.specs.declared.painter.Painter.{Painter}
 
 -- an item was read from the beginning of the nybbles; numbers from 2 ^ 32 - 1 on are all alike
-abbrev pub IsItemRead : ℕ → List ℕ → List ℕ → Bool → Reading → Type 0
+abbrev pub IsItemRead : ℕ → List ℕ → List ℕ → Bool → PackedNumber → Type 0
 IsItemRead dyn_f nybbles rest repeated (read.Run m) =
     (n : ℕ) × (number : List ℕ) × (nybbles ≡ number ++ rest) × SpellsItem dyn_f number (Run n)
     × (m ≡ min n (2 ^ 32 - 1))

@@ -3,6 +3,7 @@
 ghost use Rattle.std.specs.Prelude.{◌≡◌, ◌≤◌, IfOk, IfErr};
 ghost use Rattle.pk_runs.specs.Raster.{IsRaster, IsRunFault};
 ghost use Rattle.pk_runs.specs.Stops.{IfFault};
+ghost use Rattle.pk_runs.specs.Limits.{LONGEST_SIDE};
 
 use crate::faults::RunStop;
 use crate::glyph::Raster;
@@ -28,8 +29,8 @@ pub fn raster(
     h: u32,
 ) -> Result<Raster, RunStop>
     requires form { dyn_f ≤ 14 }
-    requires narrow { w ≤ 16384 }
-    requires short { h ≤ 16384 }
+    requires narrow { w ≤ LONGEST_SIDE }
+    requires short { h ≤ LONGEST_SIDE }
     ensures raster { IfOk result (λ r. IsRaster bytes.now dyn_f black w h r) }
     // A raster has no fault beside it, and a fault no other: the laws of `one_fault`.
     ensures fault { IfErr result (λ stop. IfFault stop (IsRunFault bytes.now dyn_f w h)) }

@@ -2,13 +2,14 @@
 
 ghost use Rattle.std.specs.Prelude.{◌≡◌, ◌+◌, ◌*◌, ◌/◌, ◌%◌, ◌^◌, ◌<◌, ◌≤◌, ℕ, [], length, map, slice_index_or, if◌then◌else◌};
 ghost use Rattle.packed_rows.specs.Changes.{white_bitmap, with_black};
-ghost use Rattle.pk_runs.specs.Given.{width_of, bitmap_of_rows, pixel_at};
+ghost use Rattle.pk_runs.specs.Given.{rows_width, bitmap_of_rows, pixel_at};
+ghost use Rattle.pk_runs.specs.Limits.{LONGEST_SIDE};
 
 use packed_rows::{PackedBitmap, Span};
 
 /// How long the rows are.
 pub fn row_len(rows: &[Vec<bool>]) -> usize
-    ensures { result ≡ width_of (map (λ row. row.items) rows.now) }
+    ensures { result ≡ rows_width (map (λ row. row.items) rows.now) }
 {
     match rows {
         [] => 0,
@@ -18,9 +19,9 @@ pub fn row_len(rows: &[Vec<bool>]) -> usize
 
 /// Paints rows on a white raster of their size.
 pub fn paint_rows(bits: &mut PackedBitmap, rows: &[Vec<bool>], w: usize)
-    requires size { w ≡ width_of (map (λ row. row.items) rows.now) }
-    requires narrow { w ≤ 16384 }
-    requires low { length rows.now ≤ 16384 }
+    requires size { w ≡ rows_width (map (λ row. row.items) rows.now) }
+    requires narrow { w ≤ LONGEST_SIDE }
+    requires low { length rows.now ≤ LONGEST_SIDE }
     requires equal { (y : ℕ) → y < length rows.now
         → length (slice_index_or (map (λ row. row.items) rows.now) y []) ≡ w }
     requires white { bits.old ≡ white_bitmap w (length rows.now) }
@@ -41,7 +42,8 @@ fn paint_given(bits: &mut PackedBitmap, rows: &[Vec<bool>], w: usize, place: usi
     requires inside { place < w * length rows.now }
     requires few { place < 2 ^ 32 }
     ensures { bits.new ≡ if pixel_at w (map (λ row. row.items) rows.now) place
-        then with_black bits.old (place % w) (place % w + 1) (place / w) (place / w + 1) else bits.old }
+        then with_black bits.old (place % w) (place % w + 1) (place / w) (place / w + 1)
+        else bits.old }
 {
     let x = place % w;
     let y = place / w;

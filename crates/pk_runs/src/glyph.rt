@@ -1,8 +1,9 @@
 //! Rasters.
 
 ghost use Rattle.std.specs.Prelude.{◌≡◌, ◌<◌, ◌≤◌, ℕ, [], length, map, slice_index_or, IfOk};
-ghost use Rattle.pk_runs.specs.Given.{width_of, bitmap_of_rows};
+ghost use Rattle.pk_runs.specs.Given.{rows_width, bitmap_of_rows};
 ghost use Rattle.packed_rows.specs.Bitmap.{is_black};
+ghost use Rattle.pk_runs.specs.Limits.{LONGEST_SIDE};
 
 use crate::given::{paint_rows, row_len};
 use packed_rows::PackedBitmap;
@@ -18,12 +19,13 @@ pub struct Raster {
 impl Model for Raster {
     ghost use Rattle.std.specs.Prelude.{◌≤◌};
     ghost use Rattle.packed_rows.specs.Bitmap.{Bitmap};
+    ghost use Rattle.pk_runs.specs.Limits.{LONGEST_SIDE};
 
     ghost Value = { Bitmap };
 
     ghost view = { λ r. r.bits };
 
-    ghost invariant = { λ r. (r.bits.width ≤ 16384) × (r.bits.height ≤ 16384) };
+    ghost invariant = { λ r. (r.bits.width ≤ LONGEST_SIDE) × (r.bits.height ≤ LONGEST_SIDE) };
 }
 
 /// A raster, and how far right and down of its upper left pixel the reference pixel lies.
@@ -38,12 +40,13 @@ impl Raster {
     /// The raster of rows of one length, one value a pixel, true for black. Without rows the width
     /// is 0.
     pub fn of(alloc: Global, rows: &[Vec<bool>]) -> Result<Raster, NoMemory>
-        requires low { length rows.now ≤ 16384 }
-        requires narrow { width_of (map (λ row. row.items) rows.now) ≤ 16384 }
+        requires low { length rows.now ≤ LONGEST_SIDE }
+        requires narrow { rows_width (map (λ row. row.items) rows.now) ≤ LONGEST_SIDE }
         requires equal { (y : ℕ) → y < length rows.now →
             length (slice_index_or (map (λ row. row.items) rows.now) y [])
-            ≡ width_of (map (λ row. row.items) rows.now) }
-        ensures { IfOk result (λ raster. raster ≡ bitmap_of_rows (map (λ row. row.items) rows.now)) }
+            ≡ rows_width (map (λ row. row.items) rows.now) }
+        ensures { IfOk result (λ raster.
+            raster ≡ bitmap_of_rows (map (λ row. row.items) rows.now)) }
     {
         let w = row_len(rows);
         let mut bits = PackedBitmap::white(alloc, w as u32, rows.len() as u32)?;
@@ -54,7 +57,7 @@ impl Raster {
     /// How many pixels a row has.
     pub fn width(&self) -> u32
         ensures value { result ≡ self.now.width }
-        ensures narrow { result ≤ 16384 }
+        ensures narrow { result ≤ LONGEST_SIDE }
     {
         self.bits.width()
     }
@@ -62,7 +65,7 @@ impl Raster {
     /// How many rows there are.
     pub fn height(&self) -> u32
         ensures value { result ≡ self.now.height }
-        ensures low { result ≤ 16384 }
+        ensures low { result ≤ LONGEST_SIDE }
     {
         self.bits.height()
     }
@@ -79,8 +82,8 @@ impl Raster {
     /// The pixels as a packed bitmap, for whoever sets the raster on a page.
     pub fn bits(&self) -> &PackedBitmap
         ensures value { result.now ≡ self.now }
-        ensures narrow { result.now.width ≤ 16384 }
-        ensures low { result.now.height ≤ 16384 }
+        ensures narrow { result.now.width ≤ LONGEST_SIDE }
+        ensures low { result.now.height ≤ LONGEST_SIDE }
     {
         &self.bits
     }

@@ -2,7 +2,7 @@
 
 /// A run length or a repeat count that was read.
 #[derive(Clone, Copy)]
-pub enum Reading {
+pub enum PackedNumber {
     Run(u64),
     Repeat(u64),
 }

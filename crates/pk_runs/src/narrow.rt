@@ -132,7 +132,8 @@ impl NarrowPainter {
         ensures high { self.new.bits.height ≡ self.old.bits.height }
         ensures drawn { (ps : List Bool) (copies_of : ℕ → ℕ) (is_repeated : ℕ → Bool) →
             IsDrawn ps copies_of is_repeated self.old.bits.width self.old.bits.height self.old →
-            IsDrawn (ps ++ replicate n self.old.black) copies_of is_repeated self.old.bits.width self.old.bits.height self.new }
+            IsDrawn (ps ++ replicate n self.old.black) copies_of is_repeated self.old.bits.width
+            self.old.bits.height self.new }
     {
         let mut left = n;
         while left >= self.left() {

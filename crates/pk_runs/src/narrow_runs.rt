@@ -6,9 +6,10 @@ ghost use Rattle.pk_runs.specs.Narrow.{IsNextItem};
 ghost use Rattle.pk_runs.specs.Painting.{IsReady};
 ghost use Rattle.pk_runs.specs.Raster.{IsRunRaster, IsStuck};
 ghost use Rattle.pk_runs.specs.Reading.{IsPaintedTo};
+ghost use Rattle.pk_runs.specs.Limits.{LONGEST_SIDE};
 
 use crate::faults::RunFault;
-use crate::items::{Reading, next_item};
+use crate::items::{PackedNumber, next_item};
 use crate::narrow::NarrowPainter;
 use crate::nybbles::Nybbles;
 use packed_rows::PackedBitmap;
@@ -18,10 +19,10 @@ fn runs_in_row(
     painter: &mut NarrowPainter,
     nybbles: &mut Nybbles,
     dyn_f: u8,
-) -> Result<Reading, RunFault>
+) -> Result<PackedNumber, RunFault>
     requires runs { dyn_f ≤ 13 }
-    requires narrow { painter.old.bits.width ≤ 16384 }
-    requires short { painter.old.bits.height ≤ 16384 }
+    requires narrow { painter.old.bits.width ≤ LONGEST_SIDE }
+    requires short { painter.old.bits.height ≤ LONGEST_SIDE }
     requires inside { painter.old.column < painter.old.bits.width }
     requires ready { IsReady painter.old }
     requires low { painter.old.row < painter.old.bits.height }
@@ -32,13 +33,15 @@ fn runs_in_row(
     ensures high { painter.new.bits.height ≡ painter.old.bits.height }
     ensures fewer { OnOk result (length nybbles.new < length nybbles.old) }
     ensures painted { (bytes : List ℕ) (first : Bool) →
-        IsPaintedTo bytes dyn_f first painter.old.bits.width painter.old.bits.height nybbles.old painter.old →
-        MatchResult result (IsNextItem bytes dyn_f first painter.old.bits.width painter.old.bits.height nybbles.new painter.new)
+        IsPaintedTo bytes dyn_f first painter.old.bits.width painter.old.bits.height nybbles.old
+        painter.old →
+        MatchResult result (IsNextItem bytes dyn_f first painter.old.bits.width
+        painter.old.bits.height nybbles.new painter.new)
         (IsStuck bytes dyn_f painter.old.bits.width painter.old.bits.height) }
 {
     loop {
         let item = next_item(nybbles, dyn_f, painter.row(), painter.is_repeated())?;
-        let Reading::Run(n) = item else {
+        let PackedNumber::Run(n) = item else {
             return Ok(item);
         };
         if n >= u64::from(painter.left()) {
@@ -51,8 +54,8 @@ fn runs_in_row(
 // Reads and paints runs to a row's end, or takes one repeat count.
 fn step(painter: &mut NarrowPainter, nybbles: &mut Nybbles, dyn_f: u8) -> Result<(), RunFault>
     requires runs { dyn_f ≤ 13 }
-    requires narrow { painter.old.bits.width ≤ 16384 }
-    requires short { painter.old.bits.height ≤ 16384 }
+    requires narrow { painter.old.bits.width ≤ LONGEST_SIDE }
+    requires short { painter.old.bits.height ≤ LONGEST_SIDE }
     requires inside { painter.old.column < painter.old.bits.width }
     requires ready { IsReady painter.old }
     requires low { painter.old.row < painter.old.bits.height }
@@ -61,19 +64,21 @@ fn step(painter: &mut NarrowPainter, nybbles: &mut Nybbles, dyn_f: u8) -> Result
     ensures high { painter.new.bits.height ≡ painter.old.bits.height }
     ensures fewer { OnOk result (length nybbles.new < length nybbles.old) }
     ensures painted { (bytes : List ℕ) (first : Bool) →
-        IsPaintedTo bytes dyn_f first painter.old.bits.width painter.old.bits.height nybbles.old painter.old →
+        IsPaintedTo bytes dyn_f first painter.old.bits.width painter.old.bits.height nybbles.old
+        painter.old →
         MatchResult result
-        (λ _. IsPaintedTo bytes dyn_f first painter.old.bits.width painter.old.bits.height nybbles.new painter.new)
+        (λ _. IsPaintedTo bytes dyn_f first painter.old.bits.width painter.old.bits.height
+        nybbles.new painter.new)
         (IsStuck bytes dyn_f painter.old.bits.width painter.old.bits.height) }
 {
     match runs_in_row(painter, nybbles, dyn_f)? {
-        Reading::Run(n) => {
+        PackedNumber::Run(n) => {
             if !painter.has_room(n) {
                 return Err(RunFault::Overrun);
             }
             painter.run(n as u32);
         }
-        Reading::Repeat(n) => {
+        PackedNumber::Repeat(n) => {
             if n > u64::from(painter.rows_below()) {
                 return Err(RunFault::TooManyRows);
             }
@@ -96,7 +101,7 @@ pub fn paint_narrow(
     requires runs { dyn_f ≤ 13 }
     requires some { 1 ≤ w }
     requires narrow { w < 64 }
-    requires short { h ≤ 16384 }
+    requires short { h ≤ LONGEST_SIDE }
     requires white { bits ≡ white_bitmap w h }
     ensures { MatchResult result
         (λ b. (b.width ≡ w) × (b.height ≡ h) × IsRunRaster bytes.now dyn_f black w h b.rows)

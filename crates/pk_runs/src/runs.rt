@@ -5,9 +5,10 @@ ghost use Rattle.packed_rows.specs.Changes.{white_bitmap};
 ghost use Rattle.pk_runs.specs.Painting.{IsReady};
 ghost use Rattle.pk_runs.specs.Raster.{IsRunRaster, IsStuck};
 ghost use Rattle.pk_runs.specs.Reading.{IsPaintedTo};
+ghost use Rattle.pk_runs.specs.Limits.{LONGEST_SIDE};
 
 use crate::faults::RunFault;
-use crate::items::{Reading, next_item};
+use crate::items::{PackedNumber, next_item};
 use crate::narrow_runs::paint_narrow;
 use crate::nybbles::Nybbles;
 use crate::painter::Painter;
@@ -16,8 +17,8 @@ use packed_rows::PackedBitmap;
 /// Reads and paints one run, or takes one repeat count.
 pub fn step(painter: &mut Painter, nybbles: &mut Nybbles, dyn_f: u8) -> Result<(), RunFault>
     requires runs { dyn_f ≤ 13 }
-    requires narrow { painter.old.bits.width ≤ 16384 }
-    requires short { painter.old.bits.height ≤ 16384 }
+    requires narrow { painter.old.bits.width ≤ LONGEST_SIDE }
+    requires short { painter.old.bits.height ≤ LONGEST_SIDE }
     requires inside { painter.old.column < painter.old.bits.width }
     requires ready { IsReady painter.old }
     requires low { painter.old.row < painter.old.bits.height }
@@ -26,19 +27,21 @@ pub fn step(painter: &mut Painter, nybbles: &mut Nybbles, dyn_f: u8) -> Result<(
     ensures high { painter.new.bits.height ≡ painter.old.bits.height }
     ensures fewer { OnOk result (length nybbles.new < length nybbles.old) }
     ensures painted { (bytes : List ℕ) (first : Bool) →
-        IsPaintedTo bytes dyn_f first painter.old.bits.width painter.old.bits.height nybbles.old painter.old →
+        IsPaintedTo bytes dyn_f first painter.old.bits.width painter.old.bits.height nybbles.old
+        painter.old →
         MatchResult result
-        (λ _. IsPaintedTo bytes dyn_f first painter.old.bits.width painter.old.bits.height nybbles.new painter.new)
+        (λ _. IsPaintedTo bytes dyn_f first painter.old.bits.width painter.old.bits.height
+        nybbles.new painter.new)
         (IsStuck bytes dyn_f painter.old.bits.width painter.old.bits.height) }
 {
     match next_item(nybbles, dyn_f, painter.row, painter.repeated)? {
-        Reading::Run(n) => {
+        PackedNumber::Run(n) => {
             if n > u64::from(painter.room()) {
                 return Err(RunFault::Overrun);
             }
             painter.run(n as u32);
         }
-        Reading::Repeat(n) => {
+        PackedNumber::Repeat(n) => {
             let room = painter.bits.height() - painter.row - 1;
             if n > u64::from(room) {
                 return Err(RunFault::TooManyRows);
@@ -60,8 +63,8 @@ pub fn paint_runs(
 ) -> Result<PackedBitmap, RunFault>
     requires runs { dyn_f ≤ 13 }
     requires some { 1 ≤ w }
-    requires narrow { w ≤ 16384 }
-    requires short { h ≤ 16384 }
+    requires narrow { w ≤ LONGEST_SIDE }
+    requires short { h ≤ LONGEST_SIDE }
     requires white { bits ≡ white_bitmap w h }
     ensures { MatchResult result
         (λ b. (b.width ≡ w) × (b.height ≡ h) × IsRunRaster bytes.now dyn_f black w h b.rows)

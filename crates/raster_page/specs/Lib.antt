@@ -1,1 +1,2 @@
 pub mod Ink
+pub mod Limits

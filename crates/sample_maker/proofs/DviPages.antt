@@ -4,6 +4,7 @@ use Rattle.std.specs.Prelude.{All, IsTrue, not, ◌&&◌, ◌==◌, if◌then◌
 use Rattle.std.specs.List.{AllByRecursion, list_any}
 use Rattle.std.proofs.lemmas.Bool.{and_parts, eqb-true, ne_eqb, or_parts, not-true, cases_Bool, cond-true, cond-false}
 use Rattle.big_endian.specs.Numbers.{IsSigned, int_eq}
+use Rattle.big_endian.proofs.Integers.{int_eq_same}
 use Rattle.outside.specs.declared.keys.FontKey.{FontKey}
 use Rattle.dvi_commands.specs.Spelling.{Preamble, Spells}
 use Rattle.dvi_commands.specs.ShortestSpelling.{shortest_spelling}
@@ -13,14 +14,6 @@ use Rattle.page_index.specs.Pages.{is_page, page_commands}
 use Rattle.sample_maker.specs.DviFile.{IsFontSpelled, IsPageText, NeverDefines, are_apart, beginning, after, after_text, definition, key_given, with_fonts, with_page, with_pages}
 use Rattle.sample_maker.proofs.PageTexts.{IsEven, Stands, end_off_page, nothing_defined, off_page, others_stay, own_added, text_stands}
 use Rattle.sample_maker.proofs.DviTexts.{page_even, pages_grow}
-
--- ---- numbers
-
-pub int_eq_same : (a b : ℤ) → int_eq a b ≡ true → a ≡ b
-int_eq_same (pos m) (pos n) h = ap pos (eqb-true m n h)
-int_eq_same (negsuc m) (negsuc n) h = ap negsuc (eqb-true m n h)
-int_eq_same (pos m) (negsuc n) h = cc
-int_eq_same (negsuc m) (pos n) h = cc
 
 -- a page that is not begun has no command
 none_yet : (i : ℕ) (r : Reading) → pages_begun r ≤ i → page_commands i r ≡ []

@@ -5,6 +5,7 @@ use Rattle.std.specs.List.{AllByRecursion, flat_map, list_any}
 use Rattle.std.specs.Cmp.Lexicographic.{pointwise, same_text}
 use Rattle.std.proofs.lemmas.Bool.{and_parts, and_from, cases_Bool, cond-true, cond-false, eq-eqb, eqb-true, lt-leb, lt-ltb, not-true, or_parts}
 use Rattle.big_endian.specs.Numbers.{IsSigned, int_eq}
+use Rattle.big_endian.proofs.Integers.{int_eq_same, int_eq_refl}
 use Rattle.outside.specs.declared.keys.FontKey.{FontKey}
 use Rattle.dvi_commands.specs.Spelling.{DviCommand, Definition, Preamble, Bop, Define, Eop, Post, PostPost, Pre}
 use Rattle.dvi_commands.specs.ShortestSpelling.{shortest_spelling}
@@ -16,11 +17,12 @@ use Rattle.page_index.specs.Limits.{MOST_PAGES}
 use Rattle.page_index.specs.Judged.{agrees_with, bop_fault, define_fault, is_same_font, is_size}
 use Rattle.page_index.specs.Document.{Reading, Sound, context_after, end_of, font_table, is_eop, key_of, key_or, last_bop, whole_fault}
 use Rattle.page_index.specs.declared.faults.DocFault.TheVariants.{FontClash, FontDef}
+use Rattle.page_index.proofs.Keys.{key_is, sizes_agree}
 use Rattle.sample_maker.specs.DviFile.{DefineRightly, IsFontSpelled, IsPageText, IsRightDefinition, IsWritable, are_apart, beginning, after, after_text, definition, with_fonts, with_page, with_pages}
 use Rattle.sample_maker.proofs.Spelled.{AreSpelled}
 use Rattle.sample_maker.proofs.PageTexts.{IsEven, IsPlain, Stands, commands_are, plain, plain_more, text_more, text_none, with}
 use Rattle.sample_maker.proofs.DviTexts.{page_even, pages_grow}
-use Rattle.sample_maker.proofs.DviPages.{int_eq_same, filled_stands, first_font, fonts_stand, opened_stands, page_stands, position_fits}
+use Rattle.sample_maker.proofs.DviPages.{filled_stands, first_font, fonts_stand, opened_stands, page_stands, position_fits}
 
 -- ---- what a sound reading has beside its spelling
 
@@ -80,10 +82,6 @@ name_same (x ∷ xs) = and_from (nat_eq x x) (pointwise nat_eq xs xs) (eq-eqb x 
 nat_same : (m : ℕ) → (m == m) ≡ true
 nat_same m = eq-eqb m m refl
 
-pub int_same : (z : ℤ) → int_eq z z ≡ true
-int_same (pos m) = nat_same m
-int_same (negsuc m) = nat_same m
-
 size_right : (n : ℕ) → 1 ≤ n → n < 2 ^ 27 → is_size (pos n) ≡ true
 size_right n some few = rw (lt-ltb 0 n (omega (arith, some)), lt-ltb n 134217728 (omega (arith, few))) refl
 
@@ -110,7 +108,7 @@ definition_right f at known w free = by (known f.0) free
 -- a font of another number leaves them free
 int_apart : (a b : ℤ) → int_eq b a ≡ false → int_eq a b ≡ false
 int_apart a b h = elim (cases_Bool (int_eq a b)) [
-  | inl same ↦ let e : a ≡ b = int_eq_same a b same in let bad : true ≡ false = sym (int_same b) ∙ ap (int_eq b) (sym e) ∙ h in cc
+  | inl same ↦ let e : a ≡ b = int_eq_same a b same in let bad : true ≡ false = sym (int_eq_refl b) ∙ ap (int_eq b) (sym e) ∙ h in cc
   | inr other ↦ other
 ]
 
@@ -151,38 +149,12 @@ plain_right res r at bytes (PostPost q id) is d = let no = is.postpost in cc
 plain_right res r at bytes (Define e) is d = d at
 plain_right res r at bytes _ is d = refl
 
--- a definition that says a key has that key
-key_is : (k : FontKey) (d : Definition) → is_same_font k d ≡ true → key_of d ≡ k
-key_is k d h =
-    let name = and_parts (int_eq (pos k.size) d.size && int_eq (pos k.design) d.design && k.area == d.area) (pointwise nat_eq k.name d.name) h in
-    let area = and_parts (int_eq (pos k.size) d.size && int_eq (pos k.design) d.design) (k.area == d.area) name.0 in
-    let sizes = and_parts (int_eq (pos k.size) d.size) (int_eq (pos k.design) d.design) area.0 in
-    let size_is : pos k.size ≡ d.size = int_eq_same (pos k.size) d.size sizes.0 in
-    let design_is : pos k.design ≡ d.design = int_eq_same (pos k.design) d.design sizes.1 in
-    let area_is : k.area ≡ d.area = eqb-true k.area d.area area.1 in
-    let name_is : k.name ≡ d.name = same_text k.name d.name (sym name.1) in
-    made (sym area_is) (sym name_is) (sym (ap unsigned_abs size_is)) (sym (ap unsigned_abs design_is))
-  where
-    key : ℕ → List ℕ → ℕ → ℕ → FontKey
-    key a n s g = record { area = a; name = n; size = s; design = g }
-
-    made : {a b : ℕ} {n m : List ℕ} {s t g h : ℕ} → a ≡ b → n ≡ m → s ≡ t → g ≡ h → key a n s g ≡ key b m t h
-    made p q r s = rw (p, q, r, s) refl
-
-agrees : (d : Definition) (known : Option FontKey) (at : ℕ) → define_fault known at d ≡ None → agrees_with known d ≡ true
-agrees d known at h = by (is_size d.size && is_size d.design) (agrees_with known d) h
-  where
-    by : (sizes agrees : Bool) → (if not sizes then Some (FontDef d.number at) else if not agrees then Some (FontClash d.number at) else None) ≡ None → agrees ≡ true
-    by true true h = refl
-    by true false h = cc
-    by false agrees h = cc
-
 -- so a number that has a key keeps it
 key_stays : (known : ℤ → Option FontKey) (c : DviCommand) (k : ℤ) (key : FontKey) → IsRightDefinition known c → known k ≡ Some key → key_or (known k) k c ≡ Some key
 key_stays known (Define d) k key right h = elim (cases_Bool (int_eq d.number k)) [
   | inl same ↦
       let here : known d.number ≡ Some key = ap known (int_eq_same d.number k same) ∙ h in
-      let fits : agrees_with (Some key) d ≡ true = agrees d (Some key) 0 (ap (λ (o : Option FontKey). define_fault o 0 d) (sym here) ∙ right 0) in
+      let fits : agrees_with (Some key) d ≡ true = sizes_agree d (Some key) 0 (ap (λ (o : Option FontKey). define_fault o 0 d) (sym here) ∙ right 0) in
       cond-true (int_eq d.number k) (Some (key_of d)) (known k) same ∙ ap Some (key_is key d fits)
   | inr other ↦ cond-false (int_eq d.number k) (Some (key_of d)) (known k) other ∙ h
 ]
@@ -213,7 +185,7 @@ text_right res n q back more (c ∷ commands) body r are ends h right define =
 -- ---- pages
 
 bop_right : (n at : ℕ) (back : ℤ) → n < MOST_PAGES → bop_fault n back at back ≡ None
-bop_right n at back few = rw (lt-leb MOST_PAGES n few, int_same back) refl
+bop_right n at back few = rw (lt-leb MOST_PAGES n few, int_eq_refl back) refl
 
 page_right : (res n : ℕ) (q : Preamble) (back : ℤ) (r : Reading) (number : ℕ) (body : List ℕ) (more : List DviCommand) → number < 2 ^ 31 → IsSigned 4 back → IsPageText body → n < MOST_PAGES
     → Stands q false false n back r → AreRight res r → DefineRightly (font_table r) (commands_of body ++ more) → Rightly res r (with_page r number body) more

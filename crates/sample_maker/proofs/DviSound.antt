@@ -4,6 +4,7 @@ use Rattle.std.specs.Prelude.{All, IsTrue, not, if◌then◌else◌, int_lt}
 use Rattle.std.specs.List.{AllByRecursion, flat_map, list_any}
 use Rattle.std.proofs.lemmas.Bool.{cases_Bool, cond-true, cond-false, eq-eqb, lt-ltb, not-true, and_parts}
 use Rattle.big_endian.specs.Numbers.{IsSigned, int_eq}
+use Rattle.big_endian.proofs.Integers.{int_eq_same, int_eq_refl}
 use Rattle.big_endian.specs.Fields.{signed_at}
 use Rattle.big_endian.proofs.Bytes.{signed_is_read_again}
 use Rattle.outside.specs.declared.keys.FontKey.{FontKey}
@@ -18,9 +19,9 @@ use Rattle.page_index.specs.Document.{IsDocument, Reading, end_of, font_table, l
 use Rattle.page_index.specs.declared.faults.DocFault.{DocFault}
 use Rattle.page_index.specs.declared.faults.DocFault.TheVariants as fault
 use Rattle.sample_maker.specs.DviFile.{AreSigned, DefineRightly, IsFontSpelled, IsPageText, IsWritable, are_apart, after, definition, document_reading, document_text, filler_after, key_given, pages_reading, postamble, preamble, with_fonts}
-use Rattle.sample_maker.proofs.DviPages.{fonts_there, int_eq_same, none_given, not_redefined}
+use Rattle.sample_maker.proofs.DviPages.{fonts_there, none_given, not_redefined}
 use Rattle.sample_maker.proofs.DviRead.{all_spelled, are, at, done_stands, end_stands, ended, head, head_even, head_stands, minus, pre_stands, told}
-use Rattle.sample_maker.proofs.DviRight.{AreRight, IsFree, Rightly, allowed_there, fonts_right, int_same, pages_right, place_is, sound_of}
+use Rattle.sample_maker.proofs.DviRight.{AreRight, IsFree, Rightly, allowed_there, fonts_right, pages_right, place_is, sound_of}
 
 -- ---- the preamble
 
@@ -59,7 +60,7 @@ post_right u n at r begun preamble =
     let q : Postamble = record { back = last_bop r; num = pos u.num; den = pos u.den; mag = pos u.mag; tallest = pos 0; widest = pos 0; deepest = 0; pages = n % 65536 } in
     ap (λ (o : Option _). post_fault (pages_begun r) (last_bop r) o at q) preamble
     ∙ ap (λ (k : ℕ). post_fault_against k (last_bop r) (pos u.num) (pos u.den) (pos u.mag) at q) begun
-    ∙ rw (int_same (last_bop r), int_same (pos u.num), int_same (pos u.den), int_same (pos u.mag), eq-eqb (n % 65536) (n % 65536) refl) refl
+    ∙ rw (int_eq_refl (last_bop r), int_eq_refl (pos u.num), int_eq_refl (pos u.den), int_eq_refl (pos u.mag), eq-eqb (n % 65536) (n % 65536) refl) refl
 
 post_stays : (fonts : List (ℤ × FontKey)) (r : Reading) → post_at (with_fonts r fonts) ≡ post_at r
 post_stays [] r = refl
@@ -69,7 +70,7 @@ postpost_right : (post at : ℕ) → post < 2 ^ 31 → postpost_fault (Some post
 postpost_right post at few =
     let text = shortest_spelling (PostPost (pos post) 2) in
     let pointer : signed_at text 1 4 ≡ pos post = signed_is_read_again 4 (pos post) (omega arith) (omega arith) (signed_again post few) in
-    ap (λ (z : ℤ). if int_eq z (pos post) then None else Some (fault.Trailer (at + 1))) pointer ∙ rw (int_same (pos post)) refl
+    ap (λ (z : ℤ). if int_eq z (pos post) then None else Some (fault.Trailer (at + 1))) pointer ∙ rw (int_eq_refl (pos post)) refl
 
 -- ---- fonts
 
@@ -82,7 +83,7 @@ module _ (known : ℤ → Option FontKey) where
   all_kept [] apart kept = tt
   all_kept (f ∷ fonts) apart kept =
       let parts = and_parts (not (list_any (λ (g : ℤ × FontKey). int_eq g.0 f.0) fonts)) (are_apart fonts) apart in
-      let first = cond-true (int_eq f.0 f.0) (Some f.1) (key_given fonts f.0) (int_same f.0) in
+      let first = cond-true (int_eq f.0 f.0) (Some f.1) (key_given fonts f.0) (int_eq_refl f.0) in
       (inr (kept f.0 f.1 first), all_kept fonts parts.1 (λ k key e. kept k key (later k key (none_given fonts f.0 (not-true _ parts.0)) e)))
     where
       later : (k : ℤ) (key : FontKey) → key_given fonts f.0 ≡ None → key_given fonts k ≡ Some key → key_given (f ∷ fonts) k ≡ Some key

@@ -9,7 +9,7 @@ use Rattle.big_endian.proofs.Bytes.{length-number_bytes}
 use Rattle.pk_runs.specs.Raster.{IsRaster}
 use Rattle.pk_runs.specs.declared.glyph.Glyph.{Glyph}
 use Rattle.pk_packets.specs.Items.{IsItem, head_size, is_packet, opcode, told_size}
-use Rattle.pk_packets.specs.Packets.{code_of, dyn_f_of, fixed_size, height_of, is_first_black, width_of}
+use Rattle.pk_packets.specs.Packets.{code_of, dyn_f_of, fixed_size, raster_height, is_first_black, raster_width}
 use Rattle.pk_packets.specs.Fonts.{HasRaster, IsGlyphOf}
 use Rattle.pk_packets.specs.Written.{Fields, Fit, IsReadAs, extended_packet, flag_with, long_packet, packet_bytes, short_packet}
 use Rattle.pk_packets.proofs.Forms.{extended_packets_are_read_again, long_packets_are_read_again, short_packets_are_read_again}
@@ -89,8 +89,8 @@ pub record IsPacketFor (p : ℕ × Glyph) (bytes : List ℕ) : Type 0 where
   pub kind : is_packet bytes ≡ true
   pub code : code_of bytes ≡ p.0
   pub long : fixed_size (opcode bytes) ≤ told_size bytes
-  pub width : width_of bytes ≡ p.1.raster.width
-  pub height : height_of bytes ≡ p.1.raster.height
+  pub width : raster_width bytes ≡ p.1.raster.width
+  pub height : raster_height bytes ≡ p.1.raster.height
   pub raster : HasRaster bytes (seen_raster p.1.raster)
   pub glyph : IsGlyphOf bytes (seen_glyph p.1)
 
@@ -98,9 +98,9 @@ says : (p : ℕ × Glyph) (e : ℕ) (bytes : List ℕ) → IsReadAs bytes (field
 says p e bytes is long =
     let r = p.1.raster in
     let whole : HasRaster bytes (seen_raster r) =
-    subst (λ (b : List ℕ). IsRaster b (dyn_f_of bytes) (is_first_black bytes) (width_of bytes) (height_of bytes) (seen_raster r)) (sym is.raster)
-    (subst (λ (d : ℕ). IsRaster (plain_bytes r) d (is_first_black bytes) (width_of bytes) (height_of bytes) (seen_raster r)) (sym is.dyn_f)
-    (subst (λ (w : ℕ). IsRaster (plain_bytes r) 14 (is_first_black bytes) w (height_of bytes) (seen_raster r)) (sym is.width)
+    subst (λ (b : List ℕ). IsRaster b (dyn_f_of bytes) (is_first_black bytes) (raster_width bytes) (raster_height bytes) (seen_raster r)) (sym is.raster)
+    (subst (λ (d : ℕ). IsRaster (plain_bytes r) d (is_first_black bytes) (raster_width bytes) (raster_height bytes) (seen_raster r)) (sym is.dyn_f)
+    (subst (λ (w : ℕ). IsRaster (plain_bytes r) 14 (is_first_black bytes) w (raster_height bytes) (seen_raster r)) (sym is.width)
     (subst (λ (h : ℕ). IsRaster (plain_bytes r) 14 (is_first_black bytes) r.width h (seen_raster r)) (sym is.height) (raster_again r (is_first_black bytes))))) in
     record {
       item = is.item;

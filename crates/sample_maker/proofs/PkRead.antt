@@ -8,7 +8,7 @@ use Rattle.std.proofs.lemmas.List.{length-append}
 use Rattle.pk_runs.specs.declared.glyph.Glyph.{Glyph}
 use Rattle.pk_packets.specs.Preamble.{preamble_fault}
 use Rattle.pk_packets.specs.Items.{text_of}
-use Rattle.pk_packets.specs.Packets.{height_of, raster_size, raster_sum, width_of}
+use Rattle.pk_packets.specs.Packets.{raster_height, raster_size, raster_sum, raster_width}
 use Rattle.pk_packets.specs.Fonts.{AreSound, IsAnswer, IsPkFile}
 use Rattle.pk_packets.proofs.Added.{answered, within_limits}
 use Rattle.pk_packets.proofs.OneMeaning.{files_are_read_one_way}
@@ -38,7 +38,7 @@ text_after (p ∷ glyphs) before rest =
 -- ---- the limits
 
 size_of : (p : ℕ × Glyph) (bytes : List ℕ) → IsPacketFor p bytes → raster_size bytes ≡ p.1.raster.height * div_ceil p.1.raster.width 8
-size_of p bytes is = ap (λ h. h * div_ceil (width_of bytes) 8) is.height ∙ ap (λ w. p.1.raster.height * div_ceil w 8) is.width
+size_of p bytes is = ap (λ h. h * div_ceil (raster_width bytes) 8) is.height ∙ ap (λ w. p.1.raster.height * div_ceil w 8) is.width
 
 sum_after : (p : ℕ × Glyph) (bytes : List ℕ) (before : List (List ℕ)) → IsPacketFor p bytes → raster_sum (bytes ∷ before) ≡ raster_sum before + p.1.raster.height * div_ceil p.1.raster.width 8
 sum_after p bytes before is = ap (λ b. raster_sum before + (if b then raster_size bytes else 0)) is.kind ∙ ap (λ n. raster_sum before + n) (size_of p bytes is)
@@ -49,8 +49,8 @@ sound_after (p ∷ glyphs) before m are sound few =
     let item = packet_item p in
     let is = are.0 in
     let here : IsMeasured p = m 0 p (omega arith) in
-    let narrow : width_of item ≤ 16384 = omega (arith, is.width, here.glyph.width) in
-    let low : height_of item ≤ 16384 = omega (arith, is.height, here.glyph.height) in
+    let narrow : raster_width item ≤ 16384 = omega (arith, is.width, here.glyph.width) in
+    let low : raster_height item ≤ 16384 = omega (arith, is.height, here.glyph.height) in
     let size = size_of p item is in
     let within = within_limits item before is.long narrow low (omega (arith, few, size)) in
     sound_after glyphs (item ∷ before) (λ k q lt. m (suc k) q (omega (arith, lt))) are.1

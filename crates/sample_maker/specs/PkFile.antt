@@ -7,6 +7,7 @@ use Rattle.packed_rows.specs.Bitmap.{Bitmap, IsShaped, from_fn, is_black}
 use Rattle.packed_rows.specs.Packing.{IsPadded, pixel, row_text}
 use Rattle.pk_runs.specs.declared.glyph.Glyph.{Glyph}
 use Rattle.pk_packets.specs.Written.{Fields, Fit, extended_packet, long_packet, short_packet}
+use Rattle.pk_runs.specs.Limits.{LONGEST_SIDE}
 
 -- ---- what is given: glyphs, each with its code
 
@@ -38,8 +39,8 @@ glyph_given (p ∷ glyphs) c = if p.0 == c then Some (seen_glyph p.1) else glyph
 
 -- what the types of a glyph and of a code hold
 pub record IsBounded (g : Glyph) : Type 0 where
-  pub width : g.raster.width ≤ 16384
-  pub height : g.raster.height ≤ 16384
+  pub width : g.raster.width ≤ LONGEST_SIDE
+  pub height : g.raster.height ≤ LONGEST_SIDE
   pub hoff : IsSigned 4 g.hoff
   pub voff : IsSigned 4 g.voff
 

@@ -5,7 +5,7 @@ use Rattle.std.specs.List.{range_with_len, repeat}
 use Rattle.std.specs.FinMap.{find, from_entries, get}
 use Rattle.std.specs.Cmp.Lexicographic.{slice_cmp}
 use Rattle.std.specs.Ordering.{nat_cmp}
-use Rattle.outside.specs.Library.{Files}
+use Rattle.outside.specs.Library.{FileTable}
 use Rattle.outside.specs.declared.keys.FontKey.{FontKey}
 use Rattle.pixel_round.specs.declared.units.Units.{Units}
 use Rattle.page_index.specs.Document.{IsDocument, Reading}
@@ -107,7 +107,7 @@ named_files =
     (codes "duo.tfm", duo_tfm) ∷ (codes "dot.tfm", dot_tfm) ∷ (codes "bar.tfm", bar_tfm)
     ∷ (codes "duo.vf", duo_vf) ∷ (codes "dot.300pk", dot_pk) ∷ (codes "bar.300pk", bar_pk) ∷ []
 
-unfoldable pub sample_files : Files
+unfoldable pub sample_files : FileTable
 sample_files = from_entries named_files
 
 -- ---- laws

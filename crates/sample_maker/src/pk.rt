@@ -6,6 +6,7 @@ ghost use Rattle.packed_rows.specs.Packing.{bits_value};
 ghost use Rattle.pk_packets.specs.Fonts.{IsAnswer, IsPkFile};
 ghost use Rattle.pk_packets.specs.Written.{extended_packet, long_packet, short_packet};
 ghost use Rattle.sample_maker.specs.PkFile.{IsBounded, IsMeasured, fields, glyph_given, has_form, have_own_codes, is_signed, no_ops_after, packet_item, pk_file, plain_bytes, plain_pixels, sides, size_sum};
+ghost use Rattle.pk_runs.specs.Limits.{LONGEST_SIDE};
 
 use pk_runs::{Glyph, Raster};
 use std::alloc::{AllocError as NoMemory, Global};
@@ -19,8 +20,8 @@ const PLAIN: u8 = 14 << 4;
 fn area(raster: &Raster) -> usize
     ensures area { result ≡ raster.now.width * raster.now.height }
     ensures few { result ≤ 2 ^ 28 }
-    ensures narrow { raster.now.width ≤ 16384 }
-    ensures low { raster.now.height ≤ 16384 }
+    ensures narrow { raster.now.width ≤ LONGEST_SIDE }
+    ensures low { raster.now.height ≤ LONGEST_SIDE }
 {
     raster.width() as usize * raster.height() as usize
 }
@@ -30,8 +31,8 @@ fn area(raster: &Raster) -> usize
 fn byte_count(raster: &Raster) -> usize
     ensures count { result ≡ length (plain_bytes raster.now) }
     ensures few { result ≤ 2 ^ 25 }
-    ensures narrow { raster.now.width ≤ 16384 }
-    ensures low { raster.now.height ≤ 16384 }
+    ensures narrow { raster.now.width ≤ LONGEST_SIDE }
+    ensures low { raster.now.height ≤ LONGEST_SIDE }
 {
     area(raster).div_ceil(8)
 }

@@ -17,7 +17,8 @@ pub record IsTfm (bytes : List ℕ) : Type 0 where
       → (slice_index bytes (width_at bytes i) ≡ 0) ⊎ (slice_index bytes (width_at bytes i) ≡ 255)
   pub nothing : width_word bytes 0 ≡ pos 0
 
--- ---- laws: bytes without a fault are a TFM file, and so all bytes are a TFM file or have a first fault, and never both
+-- ---- laws: bytes without a fault are a TFM file, and so all bytes are a TFM file or have a first
+-- fault, and never both
 
 abbrev pub FilesHaveNoFault : Type 0
 FilesHaveNoFault = (bytes : List ℕ) → (tfm_fault bytes ≡ None) ↔ IsTfm bytes

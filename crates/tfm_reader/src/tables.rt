@@ -64,7 +64,7 @@ fn byte_fault(bytes: &[u8], layout: &Layout) -> Option<TfmFault>
 }
 
 /// What is wrong with the tables.
-pub fn judge(bytes: &[u8], layout: &Layout) -> Result<(), TfmFault>
+pub fn judge_tables(bytes: &[u8], layout: &Layout) -> Result<(), TfmFault>
     requires { IsLayoutOf layout.now bytes.now }
     ensures { MatchResult result (λ _. tables_fault bytes.now ≡ None)
         (λ fault. tables_fault bytes.now ≡ Some fault) }

@@ -7,7 +7,7 @@ ghost use Rattle.tfm_reader.specs.Layout.{IsLayoutOf};
 
 use crate::TfmStop;
 use crate::layout::{Layout, places};
-use crate::tables::{judge, width};
+use crate::tables::{judge_tables, width};
 use std::alloc::{AllocError as NoMemory, Global};
 use std::marker::Model;
 
@@ -53,7 +53,7 @@ impl Tfm {
         ensures stop { IfErr result (λ stop. IsStopFor stop bytes.now) }
     {
         let layout = places(bytes)?;
-        judge(bytes, &layout)?;
+        judge_tables(bytes, &layout)?;
         Ok(Tfm {
             widths: table(alloc, bytes, &layout)?,
         })

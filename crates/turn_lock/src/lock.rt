@@ -11,11 +11,11 @@ ghost use Rattle.turn_lock.specs.Steps.{TakesValue};
 
 use crate::seat::{Place, Seat};
 use crate::sleepers::Sleepers;
-use crate::steps::{AskNext, Compare, Draw, HandOn, Look, SplitOff, TakeIn, Turns};
+use crate::steps::{AskNext, Compare, Draw, HandOn, Peek, SplitOff, TakeIn, Turns};
 use crate::view::View;
 use crate::waiting::{LOOKS_IN_LINE, pause};
 use atomic_table::{Refused, Table};
-use cache_core::{About, Told};
+use cache_core::{GhostCommon, Told};
 use std::alloc::{AllocFailed, Global};
 use std::marker::Model;
 use std::sync::Wait;
@@ -31,7 +31,7 @@ const VALUE: usize = 0;
 /// this same lock.
 #[derive(Drop)]
 pub struct TurnLock<T: Told> {
-    pub(crate) table: Table<Option<T>, View, About, Turns, Global>,
+    pub(crate) table: Table<Option<T>, View, GhostCommon, Turns, Global>,
     pub(crate) sleepers: Sleepers,
 }
 
@@ -69,7 +69,7 @@ impl<T: Told> TurnLock<T> {
             let Some(value) = value else { unreachable!() };
             return Err(value);
         }
-        let about = About::pick();
+        let about = GhostCommon::pick();
         match Table::new(alloc, &[0, 0], slots, &about) {
             Ok((table, place)) => {
                 let seat = Seat {
@@ -161,7 +161,7 @@ impl<T: Told> TurnLock<T> {
         let shared = &self.table.shared;
         let mut looks = 0;
         for _ in rt.forever() {
-            if shared.load::<Look>(place, SERVING) == ticket {
+            if shared.load::<Peek>(place, SERVING) == ticket {
                 let Some(value) = shared.exchange(place, VALUE, None) else {
                     unreachable!()
                 };

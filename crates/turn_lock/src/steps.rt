@@ -1,11 +1,11 @@
 //! The rule of the lock, and what each step tells. These types are for the proofs alone.
 use crate::view::View;
 use atomic_table::{Join, Play, Split, TableRule};
-use cache_core::{About, Told};
+use cache_core::{GhostCommon, Told};
 
 pub struct Turns;
 
-impl<T: Told> TableRule<Option<T>, View, About> for Turns {
+impl<T: Told> TableRule<Option<T>, View, GhostCommon> for Turns {
     ghost use Rattle.turn_lock.specs.TurnRule.{TurnRule};
     ghost use Rattle.turn_lock.specs.Views.{opening_view};
 
@@ -24,9 +24,9 @@ impl<T> Play<Option<T>, View> for Draw {
 }
 
 // Reads which ticket is served.
-pub struct Look;
+pub struct Peek;
 
-impl<T: Told> Play<Option<T>, View> for Look {
+impl<T: Told> Play<Option<T>, View> for Peek {
     ghost use Rattle.turn_lock.specs.Steps.{Looked};
 
     ghost then = { Looked T.history T.turns T.stands };

@@ -9,9 +9,9 @@ use Rattle.dvi_commands.proofs.Commands.{placed_on, placed_none, placed_first, c
 use Rattle.page_index.specs.Document.{Reading}
 use Rattle.page_index.specs.Pages.{eop_at, page_commands}
 use Rattle.vf_expand.specs.Faults.{TooLong}
-use Rattle.vf_expand.specs.Course.{Course, Gives, Asks, Ends, Stops, Current, NoFont, MOST, MOST_DEEP, Place, OnPage, course_of, cut, deeper, expand_one, expand_list, leave, page_from}
-use Rattle.vf_expand.specs.Doing.{Page, IsEnded, course_left, depth, place_in, place_of, stack_left}
-use Rattle.vf_expand.specs.Acts.{seen_current}
+use Rattle.vf_expand.specs.Course.{Course, Gives, Asks, Ends, Stops, Current, NoFont, MOST_FLAT, MOST_DEEP, Place, OnPage, course_of, cut, deeper, expand_one, expand_list, leave, page_from}
+use Rattle.vf_expand.specs.Expansion.{Page, IsEnded, course_left, depth, place_in, place_of, stack_left}
+use Rattle.vf_expand.specs.Effects.{seen_current}
 use Rattle.vf_expand.specs.Levels.{AreLevels, place_at, position, stack_of, text_in, text_of}
 use Rattle.vf_expand.specs.declared.frames.Frame.{Frame}
 use Rattle.vf_expand.specs.declared.current.Current as code
@@ -118,9 +118,9 @@ pub new_left : (reading : Reading) (i start : ℕ) (bytes : List ℕ) → placed
 unfolding course_left
 new_left reading i start bytes commands ends =
     let sum : start + 0 ≡ start = omega arith in
-    ap (λ (n : ℕ). cut MOST (page_from reading (start + length bytes) NoFont (placed_from n bytes))) sum
-    ∙ ap (λ (placed : List Placed). cut MOST (page_from reading (start + length bytes) NoFont placed)) commands
-    ∙ sym (ap (λ (o : Option ℕ). cut MOST (page_from reading (unwrap_or o 0) NoFont (page_commands i reading))) ends)
+    ap (λ (n : ℕ). cut MOST_FLAT (page_from reading (start + length bytes) NoFont (placed_from n bytes))) sum
+    ∙ ap (λ (placed : List Placed). cut MOST_FLAT (page_from reading (start + length bytes) NoFont placed)) commands
+    ∙ sym (ap (λ (o : Option ℕ). cut MOST_FLAT (page_from reading (unwrap_or o 0) NoFont (page_commands i reading))) ends)
 
 -- the place of what stands next
 place_cut : (n : ℕ) (x : Course) → place_of (cut n x) ≡ place_of x

@@ -5,7 +5,7 @@ use Rattle.outside.specs.declared.keys.FontKey.{FontKey}
 use Rattle.drift_rules.specs.Position.{FlatCommand}
 use Rattle.page_index.specs.Document.{font_table}
 use Rattle.pk_runs.specs.declared.glyph.Glyph.{Glyph}
-use Rattle.font_decode.specs.Fonts.{FontSeen, width_of, glyph_at, is_virtual_of, packet_of, local_of, first_local_of}
+use Rattle.font_decode.specs.Fonts.{FontSeen, scaled_width_of, glyph_at, is_virtual_of, packet_of, local_of, first_local_of}
 use Rattle.font_decode.specs.declared.decoded.Decoded.{Decoded}
 use Rattle.font_decode.specs.declared.decoded.Decoded.TheVariants as decoded
 use Rattle.vf_expand.specs.Faults.{PageFaultSeen, TooLong}
@@ -60,7 +60,7 @@ late_width deep at k f c put (Some width) after = late_kind deep at k f c width 
 
 late_found : (deep : Deeper) (at : ℕ) (k : FontKey) (d : Decoded) (c : ℤ) (put : Bool) (after : Course) → cut 0 (found deep at k d c put after) ≡ Stops TooLong at
 late_found deep at k (decoded.Fault fault) c put after = refl
-late_found deep at k (decoded.Font f) c put after = late_width deep at k f c put (width_of f c) after
+late_found deep at k (decoded.Font f) c put after = late_width deep at k f c put (scaled_width_of f c) after
 
 late_character : (deep : Deeper) (place : Place) (at : ℕ) (current : Current) (c : ℤ) (put : Bool) (others : Current → Course)
     → cut 0 (character deep place at current c put others) ≡ Stops TooLong at

@@ -17,8 +17,8 @@ use Rattle.page_index.specs.Document.{Reading}
 use Rattle.vf_reader.specs.Programs.{AreSoundFrom, command_fault, open_after, dimensions, is_dimension}
 use Rattle.font_decode.specs.Fonts.{FontSeen}
 use Rattle.vf_expand.specs.Course.{Current, Place, OnPage, InPacket}
-use Rattle.vf_expand.specs.Doing.{place_in}
-use Rattle.vf_expand.specs.Acts.{HasDimensions, HasKey, IsEntry, Part, seen_current}
+use Rattle.vf_expand.specs.Expansion.{place_in}
+use Rattle.vf_expand.specs.Effects.{HasDimensions, HasKey, IsEntry, Meaning, seen_current}
 use Rattle.vf_expand.specs.Levels.{AreLevels, IsSoundRest, IsVirtual, context_of, place_at, text_in, text_of}
 use Rattle.vf_expand.specs.declared.frames.Frame.{Frame}
 use Rattle.vf_expand.specs.declared.current.Current as code
@@ -162,18 +162,18 @@ same_levels bytes level now (o ∷ outer) key fine =
     (record { key = it.key; font = it.font; known = it.known; inside = it.inside; sound = it.sound; keyed = key; gap = it.gap }, fine.1)
 
 -- a packet that is entered
-pub entered_levels : (bytes : List ℕ) (level outside : Frame) (outer : List Frame) (n : ℕ) (part : Part) → IsEntry n part (seen_current outside.current) level
+pub entered_levels : (bytes : List ℕ) (level outside : Frame) (outer : List Frame) (n : ℕ) (part : Meaning) → IsEntry n part (seen_current outside.current) level
     → HasKey (seen_current level.current) → IfSome level.gap IsNumber → AreLevels bytes outside outer → AreLevels bytes level (outside ∷ outer)
-entered_levels bytes level outside outer n part acts key gap fine =
-    let text : text_in (seen_current outside.current) level.code ≡ acts.text =
-    ap (λ (x : Current). text_in x level.code) acts.known ∙ ap (λ (o : Option (List ℕ)). unwrap_or o []) acts.packet in
-    let all : drop level.pos (text_in (seen_current outside.current) level.code) ≡ acts.text = ap (λ (p : ℕ). drop p (text_in (seen_current outside.current) level.code)) acts.prefix ∙ text in (
+entered_levels bytes level outside outer n part has_effect key gap fine =
+    let text : text_in (seen_current outside.current) level.code ≡ has_effect.text =
+    ap (λ (x : Current). text_in x level.code) has_effect.known ∙ ap (λ (o : Option (List ℕ)). unwrap_or o []) has_effect.packet in
+    let all : drop level.pos (text_in (seen_current outside.current) level.code) ≡ has_effect.text = ap (λ (p : ℕ). drop p (text_in (seen_current outside.current) level.code)) has_effect.prefix ∙ text in (
       record {
-        key = acts.key;
-        font = acts.font;
-        known = acts.known;
-        inside = omega (arith, acts.prefix);
-        sound = subst (IsSoundRest level.code) (sym all) (0, acts.program.0, acts.program.1);
+        key = has_effect.key;
+        font = has_effect.font;
+        known = has_effect.known;
+        inside = omega (arith, has_effect.prefix);
+        sound = subst (IsSoundRest level.code) (sym all) (0, has_effect.program.0, has_effect.program.1);
         keyed = key;
         gap = gap;
       },

@@ -6,7 +6,7 @@ use Rattle.font_decode.specs.declared.decoded.Decoded.TheVariants as decoded
 use Rattle.font_decode.proofs.Alike.{one_in_a_library}
 use Rattle.font_decode.proofs.Total.{each_key_is_decoded}
 use Rattle.vf_expand.specs.Course.{course_of}
-use Rattle.vf_expand.specs.Members.{Leads, looks_of}
+use Rattle.vf_expand.specs.Members.{Unfolds, looks_of}
 use Rattle.vf_expand.specs.PageLists.{PageList, list_from, no_more}
 use Rattle.vf_expand.specs.Laws.{LibrariesHaveFonts, ListsAreFollowed, LooksAreThePages, MembersAreTheList}
 use Rattle.vf_expand.proofs.Similar.{course_similar}
@@ -33,4 +33,4 @@ pub lists_are_followed : ListsAreFollowed
 lists_are_followed l u fonts reading i are =
     let r = to_the_end fonts (IsFontIn l u) are (course_of reading i) in
     let whole = course_is_list fonts reading i in
-    (r.0, subst (λ (list : PageList). Leads (IsFontIn l u) (course_of reading i) list.members r.0) whole r.1, r.2 ∙ ap (λ (list : PageList). no_more list.ending) whole)
+    (r.0, subst (λ (list : PageList). Unfolds (IsFontIn l u) (course_of reading i) list.members r.0) whole r.1, r.2 ∙ ap (λ (list : PageList). no_more list.ending) whole)

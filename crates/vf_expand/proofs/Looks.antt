@@ -6,13 +6,13 @@ use Rattle.dvi_commands.specs.Reading.{Placed}
 use Rattle.outside.specs.declared.keys.FontKey.{FontKey}
 use Rattle.page_index.specs.Document.{Reading, font_table}
 use Rattle.pk_runs.specs.declared.glyph.Glyph.{Glyph}
-use Rattle.font_decode.specs.Fonts.{FontSeen, width_of, glyph_at, is_virtual_of, packet_of, local_of, first_local_of}
+use Rattle.font_decode.specs.Fonts.{FontSeen, scaled_width_of, glyph_at, is_virtual_of, packet_of, local_of, first_local_of}
 use Rattle.font_decode.specs.declared.decoded.Decoded.{Decoded}
 use Rattle.font_decode.specs.declared.decoded.Decoded.TheVariants as decoded
 use Rattle.vf_expand.specs.Faults.{PageFaultSeen}
 use Rattle.vf_expand.specs.Faults as fault
 use Rattle.vf_expand.specs.Course.{Course, Gives, Asks, Ends, Stops, Place, OnPage, InPacket, Current, NoFont, Chosen, Known, Deeper, MOST_DEEP, deeper, expand_one, expand_list, page_from, cut, character, found, with_width, by_kind, with_glyph, virtual, packet, leave, gap_of, changed_to, font_change, no_local, number_of}
-use Rattle.vf_expand.specs.Doing.{Doing, IsAtLook, Packet, Stack, answered, asks_from, asks_left, course_left, due_left, font_of, left, marked_font, packets_left, place_in, stack_left}
+use Rattle.vf_expand.specs.Expansion.{Expansion, IsAtLook, Packet, Stack, answered, asks_from, asks_left, course_left, due_left, font_of, left, marked_font, packets_left, place_in, stack_left}
 
 abbrev Waits : Current → (Current → Course) → Type 0
 Waits current part = (k : FontKey) × (current ≡ Chosen k) × ((d : Decoded) → part (Known k d) ≡ answered (part current) d)
@@ -40,7 +40,7 @@ no_look_in_width deep at k f c put (Some width) rest look = no_look_in_kind deep
 
 no_look_in_found : (deep : Deeper) (at : ℕ) (k : FontKey) (d : Decoded) (c : ℤ) (put : Bool) (rest : Course) → IsAtLook (found deep at k d c put rest) → ⊥
 no_look_in_found deep at k (decoded.Fault fault) c put rest look = look
-no_look_in_found deep at k (decoded.Font f) c put rest look = no_look_in_width deep at k f c put (width_of f c) rest look
+no_look_in_found deep at k (decoded.Font f) c put rest look = no_look_in_width deep at k f c put (scaled_width_of f c) rest look
 
 no_look_in_changed : (k : Option FontKey) (f : PageFaultSeen) (at : ℕ) (others : Current → Course) → IsAtLook (changed_to k f at others) → ⊥
 no_look_in_changed None f at others look = look
@@ -111,33 +111,33 @@ look_in_cut (suc n) (Ends at) look = absurd look
 look_in_cut (suc n) (Stops fault at) look = absurd look
 
 -- the font that the next look-up is for
-record Wanted (v : Doing) : Type 0 where
+record Wanted (v : Expansion) : Type 0 where
   pub key : FontKey
-  pub chosen : v.current ≡ Chosen key
+  pub current_of : v.current ≡ Chosen key
   pub room : 0 < v.budget
   pub rest : (d : Decoded) → left (record v { current = Known key d }) ≡ answered (left v) d
 
-wanted : (v : Doing) → IsAtLook (left v) → Wanted v
+wanted : (v : Expansion) → IsAtLook (left v) → Wanted v
 unfolding course_left
 wanted v look =
     let inside = look_in_cut v.budget (due_left v.due v.at (stack_left v.reading v.eop v.at v.current v.stack)) look in
     let waits = look_in_due v.reading v.eop v.at v.due v.current v.stack inside.0 in
-    record { key = waits.0; chosen = waits.1; room = inside.1; rest = λ d. ap (cut v.budget) (waits.2 d) ∙ sym (inside.2 d) }
+    record { key = waits.0; current_of = waits.1; room = inside.1; rest = λ d. ap (cut v.budget) (waits.2 d) ∙ sym (inside.2 d) }
 
 -- the key that a page waits for
-pub key_wanted : (v : Doing) → IsAtLook (left v) → (k : FontKey) × (v.current ≡ Chosen k)
-key_wanted v look = let w = wanted v look in (w.key, w.chosen)
+pub key_wanted : (v : Expansion) → IsAtLook (left v) → (k : FontKey) × (v.current ≡ Chosen k)
+key_wanted v look = let w = wanted v look in (w.key, w.current_of)
 
 -- a font that waits to be looked up is that of no character
 not_marked : (marked : Bool) (current : Current) (k : FontKey) → current ≡ Chosen k → (IsTrue marked → IsSome (font_of current)) → marked ≡ false
 not_marked true current k e h = let bad : IsSome (font_of (Chosen k)) = subst (λ (x : Current). IsSome (font_of x)) e (h refl) in absurd cc
 not_marked false current k e h = refl
 
-module _ (v : Doing) (k : FontKey) (chosen : v.current ≡ Chosen k) (look : IsAtLook (left v)) where
+module _ (v : Expansion) (k : FontKey) (current_of : v.current ≡ Chosen k) (look : IsAtLook (left v)) where
   pub answered_rest : (d : Decoded) → left (record v { current = Known k d }) ≡ answered (left v) d
   answered_rest d =
       let w = wanted v look in
-      let both : Chosen k ≡ Chosen w.key = sym chosen ∙ w.chosen in
+      let both : Chosen k ≡ Chosen w.key = sym current_of ∙ w.current_of in
       let same : k ≡ w.key = cc in
       ap (λ (key : FontKey). left (record v { current = Known key d })) same ∙ w.rest d
 
@@ -145,14 +145,14 @@ module _ (v : Doing) (k : FontKey) (chosen : v.current ≡ Chosen k) (look : IsA
   answered_asks =
       let room : 0 < v.budget = (wanted v look).room in
       let sum : (v.budget - 1) + 1 ≡ v.budget = omega (arith, room) in
-      sum ∙ ap (asks_from v.budget) (sym chosen)
+      sum ∙ ap (asks_from v.budget) (sym current_of)
 
   pub answered_fewer : v.budget + (v.budget - 1) < v.budget + asks_left v
   answered_fewer =
       let room : 0 < v.budget = (wanted v look).room in
       let less : v.budget + (v.budget - 1) < v.budget + v.budget = omega (arith, room) in
-      subst (λ (x : Current). v.budget + (v.budget - 1) < v.budget + asks_from v.budget x) (sym chosen) less
+      subst (λ (x : Current). v.budget + (v.budget - 1) < v.budget + asks_from v.budget x) (sym current_of) less
 
   pub answered_unmarked : (d : Decoded) → (IsTrue v.marked → IsSome (font_of v.current)) → marked_font (record v { current = Known k d }) ≡ None
   answered_unmarked d marks =
-      ap (λ (b : Bool). if b then Some d else None) (not_marked v.marked v.current k chosen marks)
+      ap (λ (b : Bool). if b then Some d else None) (not_marked v.marked v.current k current_of marks)

@@ -10,15 +10,15 @@ use Rattle.dvi_commands.proofs.Commands.{commands_first, commands_none, placed_f
 use Rattle.drift_rules.specs.Position.{Advance}
 use Rattle.page_index.specs.Document.{Reading, font_table}
 use Rattle.pk_runs.specs.declared.glyph.Glyph.{Glyph}
-use Rattle.font_decode.specs.Fonts.{FontSeen, glyph_at, is_virtual_of, local_of, first_local_of, packet_of, width_of}
+use Rattle.font_decode.specs.Fonts.{FontSeen, glyph_at, is_virtual_of, local_of, first_local_of, packet_of, scaled_width_of}
 use Rattle.font_decode.specs.declared.decoded.Decoded.{Decoded}
 use Rattle.font_decode.specs.declared.decoded.Decoded.TheVariants as decoded
 use Rattle.vf_expand.specs.Faults.{PageFaultSeen}
 use Rattle.vf_expand.specs.Faults as fault
 use Rattle.vf_expand.specs.Course.{Asks, Course, Current, Deeper, Ends, Gives, MOST_DEEP, OnPage, InPacket, Place, Stops, by_kind, changed_to, character, cut, deeper, expand_list, expand_one, font_change, found, leave, no_local, number_of, packet, page_from, plain, virtual, with_glyph, with_width}
 use Rattle.vf_expand.specs.Course as course
-use Rattle.vf_expand.specs.Doing.{Doing, GivesNoPlain, course_left, depth, due_left, left, place_in, stack_left}
-use Rattle.vf_expand.specs.Acts.{SetsNoPlain, seen_current}
+use Rattle.vf_expand.specs.Expansion.{Expansion, GivesNoPlain, course_left, depth, due_left, left, place_in, stack_left}
+use Rattle.vf_expand.specs.Effects.{SetsNoPlain, seen_current}
 use Rattle.vf_expand.specs.Levels.{AreLevels, context_of, stack_of, text_in, text_of}
 use Rattle.vf_expand.specs.declared.current.Current as code
 use Rattle.vf_expand.specs.declared.current.Current.TheVariants as variant
@@ -55,7 +55,7 @@ pub is_undue : (o : Option ℤ) → is_some o ≡ false → o ≡ None
 is_undue None e = refl
 is_undue (Some width) e = absurd cc
 
-module _ (v : Doing) where
+module _ (v : Expansion) where
   -- the motion after a packet is due
   due_first : (width : ℤ) → v.due ≡ Some width → GivesNoPlain (left v)
   unfolding course_left
@@ -106,7 +106,7 @@ put_width deep at k f c (Some width) rest = put_kind deep at k f c width (is_vir
 
 put_found : (deep : Deeper) (at : ℕ) (k : FontKey) (d : Decoded) (c : ℤ) (rest : Course) → GivesNoPlain (found deep at k d c true rest)
 put_found deep at k (decoded.Fault f) c rest = tt
-put_found deep at k (decoded.Font f) c rest = put_width deep at k f c (width_of f c) rest
+put_found deep at k (decoded.Font f) c rest = put_width deep at k f c (scaled_width_of f c) rest
 
 none_put : (deep : Deeper) (place : Place) (at : ℕ) (current : Current) (c : ℤ) (others : Current → Course) → GivesNoPlain (character deep place at current c true others)
 none_put deep place at course.NoFont c others = tt

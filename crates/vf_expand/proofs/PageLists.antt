@@ -9,14 +9,14 @@ use Rattle.page_index.specs.Document.{Reading, font_table}
 use Rattle.page_index.specs.Pages.{eop_at, page_commands}
 use Rattle.pk_runs.specs.declared.glyph.Glyph.{Glyph}
 use Rattle.font_decode.specs.Decoding.{AreAlike}
-use Rattle.font_decode.specs.Fonts.{FontSeen, width_of, glyph_at, is_virtual_of, packet_of, local_of, first_local_of}
+use Rattle.font_decode.specs.Fonts.{FontSeen, scaled_width_of, glyph_at, is_virtual_of, packet_of, local_of, first_local_of}
 use Rattle.font_decode.specs.declared.decoded.Decoded.{Decoded}
 use Rattle.font_decode.specs.declared.decoded.Decoded.TheVariants as decoded
 use Rattle.vf_expand.specs.Faults.{PageFaultSeen}
 use Rattle.vf_expand.specs.Faults as fault
-use Rattle.vf_expand.specs.Course.{Course, Gives, Asks, Ends, Stops, Place, OnPage, InPacket, Current, NoFont, Chosen, Known, Deeper, MOST, MOST_DEEP, changed_to, no_local, font_change, first_font, gap_of, leave, packet, virtual, number_of, with_glyph, by_kind, with_width, found, character, expand_one, expand_list, deeper, page_from, cut, course_of}
-use Rattle.vf_expand.specs.Members.{Member, Flat, Look, Finding, Leads, looks_of}
-use Rattle.vf_expand.specs.PageLists.{Fonts, PageList, Outcome, Goes, Faults, before, no_more, joined, limited, full_list, list_from, list_of, after, followed, of_list, Packets, leaving, framed, of_packet, of_virtual, of_glyph, of_kind, of_width, of_found, of_character, of_change, of_font, of_command, packets_in}
+use Rattle.vf_expand.specs.Course.{Course, Gives, Asks, Ends, Stops, Place, OnPage, InPacket, Current, NoFont, Chosen, Known, Deeper, MOST_FLAT, MOST_DEEP, changed_to, no_local, font_change, first_font, gap_of, leave, packet, virtual, number_of, with_glyph, by_kind, with_width, found, character, expand_one, expand_list, deeper, page_from, cut, course_of}
+use Rattle.vf_expand.specs.Members.{Member, Flat, LookUp, Finding, Unfolds, looks_of}
+use Rattle.vf_expand.specs.PageLists.{Fonts, PageList, Outcome, Goes, Faults, before, no_more, joined, up_to_limit, full_list, list_from, list_of, after, go_on, of_list, Packets, leaving, in_frame, of_packet, of_virtual, of_glyph, of_kind, of_width, of_found, of_character, of_change, of_font, of_command, packets_in}
 use Rattle.vf_expand.proofs.Similar.{Similar}
 
 joined_same : (at : ℕ) (o : Outcome) (f g : Current → PageList) → ((next : Current) → f next ≡ g next) → joined at o f ≡ joined at o g
@@ -30,12 +30,12 @@ after_joined : (at : ℕ) (members : List Member) (o : Outcome) (rest : Current 
 after_joined at first (Goes members next) rest = before_both first members (rest next)
 after_joined at first (Faults members fault) rest = refl
 
-followed_joined : (at : ℕ) (o : Outcome) (others : Current → Outcome) (rest : Current → PageList) → joined at (followed o others) rest ≡ joined at o (λ next. joined at (others next) rest)
+followed_joined : (at : ℕ) (o : Outcome) (others : Current → Outcome) (rest : Current → PageList) → joined at (go_on o others) rest ≡ joined at o (λ next. joined at (others next) rest)
 followed_joined at (Goes members next) others rest = after_joined at members (others next) rest
 followed_joined at (Faults members fault) others rest = refl
 
 framed_joined : (at : ℕ) (current : Current) (gap : Option ℤ) (o : Outcome) (rest : Current → PageList)
-    → joined at (framed at current gap o) rest ≡ before (Flat flat.Enter None at ∷ []) (joined at o (λ last. before (leaving gap at) (rest current)))
+    → joined at (in_frame at current gap o) rest ≡ before (Flat flat.Enter None at ∷ []) (joined at o (λ last. before (leaving gap at) (rest current)))
 framed_joined at current gap (Goes members last) rest = ap (before (Flat flat.Enter None at ∷ [])) (before_both members (leaving gap at) (rest current))
 framed_joined at current gap (Faults members fault) rest = refl
 
@@ -92,13 +92,13 @@ module _ (fonts : Fonts) where
 
     found_joined : (k : FontKey) (it : Decoded) (c : ℤ) (put : Bool) → list_from fonts (found d at k it c put (others (Known k it))) ≡ joined at (of_found p at k it c put) rest
     found_joined k (decoded.Fault f) c put = refl
-    found_joined k (decoded.Font f) c put = width_joined k f c put (width_of f c)
+    found_joined k (decoded.Font f) c put = width_joined k f c put (scaled_width_of f c)
 
     character_joined : (place : Place) (current : Current) (c : ℤ) (put : Bool)
         → list_from fonts (character d place at current c put others) ≡ joined at (of_character fonts p place at current c put) rest
     character_joined place NoFont c put = refl
     character_joined place (Chosen k) c put =
-        ap (before (Look k at ∷ [])) (found_joined k (fonts k) c put) ∙ sym (after_joined at (Look k at ∷ []) (of_found p at k (fonts k) c put) rest)
+        ap (before (LookUp k at ∷ [])) (found_joined k (fonts k) c put) ∙ sym (after_joined at (LookUp k at ∷ []) (of_found p at k (fonts k) c put) rest)
     character_joined place (Known k it) c put = found_joined k it c put
 
     change_joined : (k : Option FontKey) (f : PageFaultSeen) → list_from fonts (changed_to k f at others) ≡ joined at (of_change at f k) rest
@@ -160,21 +160,21 @@ module _ (fonts : Fonts) where
       ∙ joined_same p.at (of_command fonts (packets_in fonts MOST_DEEP p.at) (OnPage reading) p.at current p.command) (λ next. list_from fonts (page_from reading eop next commands))
       (λ next. full_list fonts reading eop next commands) (page_joined reading eop commands)
 
-  cut_limited : (n : ℕ) (x : Course) → list_from fonts (cut n x) ≡ limited n (list_from fonts x).members (list_from fonts x).ending
+  cut_limited : (n : ℕ) (x : Course) → list_from fonts (cut n x) ≡ up_to_limit n (list_from fonts x).members (list_from fonts x).ending
   cut_limited zero (Gives f g at rest) = refl
   cut_limited zero (Asks k at rest) = refl
   cut_limited zero (Ends at) = refl
   cut_limited zero (Stops f at) = refl
   cut_limited (suc n) (Gives f g at rest) = ap (before (Flat f g at ∷ [])) (cut_limited n rest)
-  cut_limited (suc n) (Asks k at rest) = ap (before (Look k at ∷ [])) (cut_limited (suc n) (rest (fonts k)))
+  cut_limited (suc n) (Asks k at rest) = ap (before (LookUp k at ∷ [])) (cut_limited (suc n) (rest (fonts k)))
   cut_limited (suc n) (Ends at) = refl
   cut_limited (suc n) (Stops f at) = refl
 
   pub course_is_list : (reading : Reading) (i : ℕ) → list_from fonts (course_of reading i) ≡ list_of fonts reading i
   course_is_list reading i =
       let eop = unwrap_or (eop_at i reading) 0 in
-      cut_limited MOST (page_from reading eop NoFont (page_commands i reading))
-      ∙ ap (λ (full : PageList). limited MOST full.members full.ending) (page_joined reading eop (page_commands i reading) NoFont)
+      cut_limited MOST_FLAT (page_from reading eop NoFont (page_commands i reading))
+      ∙ ap (λ (full : PageList). up_to_limit MOST_FLAT full.members full.ending) (page_joined reading eop (page_commands i reading) NoFont)
 
   -- ---- members
 
@@ -185,28 +185,28 @@ module _ (fonts : Fonts) where
       ap (before (Flat f g at ∷ [])) rest ∙ ap (λ (m : Member). before (m ∷ []) (list_from fonts y))
       (ap (λ (c : flat.FlatCommand). Flat c g at) h.0 ∙ ap (λ (o : Option Glyph). Flat f2 o at) h.1 ∙ ap (Flat f2 g2) h.2)
   same_lists self (Asks k at x) (Asks k2 at2 y) h =
-      ap (before (Look k at ∷ [])) (same_lists self (x (fonts k)) (y (fonts k)) (h.2 (fonts k) (fonts k) (self (fonts k))))
-      ∙ ap (λ (l : FontKey). before (Look l at ∷ []) (list_from fonts (y (fonts l)))) h.0
-      ∙ ap (λ (n : ℕ). before (Look k2 n ∷ []) (list_from fonts (y (fonts k2)))) h.1
+      ap (before (LookUp k at ∷ [])) (same_lists self (x (fonts k)) (y (fonts k)) (h.2 (fonts k) (fonts k) (self (fonts k))))
+      ∙ ap (λ (l : FontKey). before (LookUp l at ∷ []) (list_from fonts (y (fonts l)))) h.0
+      ∙ ap (λ (n : ℕ). before (LookUp k2 n ∷ []) (list_from fonts (y (fonts k2)))) h.1
   same_lists self (Ends at) (Ends at2) h = ap (λ (n : ℕ). list_from fonts (Ends n)) h
   same_lists self (Stops f at) (Stops f2 at2) h = ap (λ (c : PageFaultSeen). list_from fonts (Stops c at)) h.0 ∙ ap (λ (n : ℕ). list_from fonts (Stops f2 n)) h.1
   same_lists self _ _ h = absurd h
 
   pub led : (self : (d : Decoded) → AreAlike d d) (Finds : Finding) → ((k : FontKey) (d : Decoded) → Finds k d → AreAlike d (fonts k)) → (from : Course) (members : List Member) (to : Course)
-      → Similar from from → Leads Finds from members to → list_from fonts from ≡ before members (list_from fonts to)
+      → Similar from from → Unfolds Finds from members to → list_from fonts from ≡ before members (list_from fonts to)
   led self Finds alike from [] to similar leads = ap (list_from fonts) leads
   led self Finds alike from (Flat f g at ∷ members) to similar leads =
       let own = subst (λ (x : Course). Similar x x) leads.1 similar in
       ap (list_from fonts) leads.1 ∙ ap (before (Flat f g at ∷ [])) (led self Finds alike leads.0 members to own.3 leads.2)
-  led self Finds alike from (Look k at ∷ members) to similar leads =
+  led self Finds alike from (LookUp k at ∷ members) to similar leads =
       let own = subst (λ (x : Course). Similar x x) leads.2 similar in
       let d = leads.1 in
       let same : list_from fonts (leads.0 (fonts k)) ≡ list_from fonts (leads.0 d) = sym (same_lists self (leads.0 d) (leads.0 (fonts k)) (own.2 d (fonts k) (alike k d leads.3))) in
       ap (list_from fonts) leads.2
-      ∙ ap (before (Look k at ∷ [])) (same ∙ led self Finds alike (leads.0 d) members to (own.2 d d (self d)) leads.4)
+      ∙ ap (before (LookUp k at ∷ [])) (same ∙ led self Finds alike (leads.0 d) members to (own.2 d d (self d)) leads.4)
 
   pub to_the_end : (Finds : Finding) → ((k : FontKey) → Finds k (fonts k)) → (from : Course)
-      → (to : Course) × Leads Finds from (list_from fonts from).members to × (list_from fonts to ≡ no_more (list_from fonts from).ending)
+      → (to : Course) × Unfolds Finds from (list_from fonts from).members to × (list_from fonts to ≡ no_more (list_from fonts from).ending)
   to_the_end Finds each (Gives f g at rest) = let r = to_the_end Finds each rest in (r.0, (rest, refl, r.1), r.2)
   to_the_end Finds each (Asks k at rest) = let r = to_the_end Finds each (rest (fonts k)) in (r.0, (rest, fonts k, refl, each k, r.1), r.2)
   to_the_end Finds each (Ends at) = (Ends at, refl, refl)
@@ -215,4 +215,4 @@ module _ (fonts : Fonts) where
 pub looks_append : (first second : List Member) → looks_of (first ++ second) ≡ looks_of first ++ looks_of second
 looks_append [] second = refl
 looks_append (Flat f g at ∷ first) second = looks_append first second
-looks_append (Look k at ∷ first) second = ap (λ (keys : List FontKey). k ∷ keys) (looks_append first second)
+looks_append (LookUp k at ∷ first) second = ap (λ (keys : List FontKey). k ∷ keys) (looks_append first second)

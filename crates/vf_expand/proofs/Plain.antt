@@ -3,16 +3,16 @@ use Rattle.std.proofs.Common.{◌≡◌, ◌∙◌, ℕ, ℤ, pos, Bool, false, 
 use Rattle.outside.specs.declared.keys.FontKey.{FontKey}
 use Rattle.drift_rules.specs.Position.{Char}
 use Rattle.pk_runs.specs.declared.glyph.Glyph.{Glyph}
-use Rattle.font_decode.specs.Fonts.{FontSeen, glyph_at, is_virtual_of, width_of}
+use Rattle.font_decode.specs.Fonts.{FontSeen, glyph_at, is_virtual_of, scaled_width_of}
 use Rattle.font_decode.specs.declared.decoded.Decoded.TheVariants as decoded
 use Rattle.vf_expand.specs.Course.{Course, Current, Gives, Known, Place, by_kind, character, deeper, with_glyph, with_width}
-use Rattle.vf_expand.specs.Acts.{SetsPlain}
+use Rattle.vf_expand.specs.Effects.{SetsPlain}
 
 module _ (current : Current) (k : FontKey) (f : FontSeen) (n : ℕ) (c w : ℤ) (g : Glyph) (known : current ≡ Known k (decoded.Font f)) (is : c ≡ pos n)
-    (width : width_of f c ≡ Some w) (packed : is_virtual_of f ≡ false) (glyph : glyph_at f n ≡ Some g) where
-  sets_at : (place : Place) (m at : ℕ) (after : Course) → with_width (deeper m at) at k f (pos n) false (width_of f (pos n)) after ≡ Gives (Char k n w false) (Some g) at after
+    (width : scaled_width_of f c ≡ Some w) (packed : is_virtual_of f ≡ false) (glyph : glyph_at f n ≡ Some g) where
+  sets_at : (place : Place) (m at : ℕ) (after : Course) → with_width (deeper m at) at k f (pos n) false (scaled_width_of f (pos n)) after ≡ Gives (Char k n w false) (Some g) at after
   sets_at place m at after =
-      ap (λ (o : Option ℤ). with_width (deeper m at) at k f (pos n) false o after) (sym (ap (width_of f) is) ∙ width)
+      ap (λ (o : Option ℤ). with_width (deeper m at) at k f (pos n) false o after) (sym (ap (scaled_width_of f) is) ∙ width)
       ∙ ap (λ (b : Bool). by_kind (deeper m at) at k f (pos n) w false b after) packed
       ∙ ap (λ (o : Option Glyph). with_glyph at k (pos n) w false o after) glyph
 

@@ -5,7 +5,7 @@ use Rattle.std.proofs.lemmas.List.{get_or-drop}
 use Rattle.dvi_commands.specs.declared.command.Context.{Context}
 use Rattle.dvi_commands.specs.declared.command.Command.{Command}
 use Rattle.dvi_commands.specs.declared.command.Command.TheVariants as lent
-use Rattle.dvi_commands.specs.Spelling.{DviCommand, HasWidth, IsNumber, Nop, Set, Spells, seen, spelling}
+use Rattle.dvi_commands.specs.Spelling.{DviCommand, HasWidth, IsOperand, Nop, Set, Spells, seen, spelling}
 use Rattle.dvi_commands.specs.Reading.{Begins, commands_of}
 use Rattle.dvi_commands.proofs.Commands.{commands_first, commands_on}
 use Rattle.dvi_commands.proofs.Refusals.{spelled_some}
@@ -13,7 +13,7 @@ use Rattle.vf_expand.specs.Sets.{IsSetTo, SetsNothing}
 
 -- ---- by the opcode
 
-few : (n : ℕ) (z : ℤ) → IsNumber n z → n ≤ 4
+few : (n : ℕ) (z : ℤ) → IsOperand n z → n ≤ 4
 few n z (inl h) = omega (arith, h.1)
 few n z (inr h) = omega (arith, h.0)
 

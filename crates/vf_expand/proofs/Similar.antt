@@ -10,13 +10,13 @@ use Rattle.drift_rules.specs.Position as flat
 use Rattle.page_index.specs.Document.{Reading, font_table}
 use Rattle.page_index.specs.Pages.{eop_at, page_commands}
 use Rattle.pk_runs.specs.declared.glyph.Glyph.{Glyph}
-use Rattle.font_decode.specs.Fonts.{FontSeen, width_of, glyph_at, is_virtual_of, packet_of, local_of, first_local_of}
+use Rattle.font_decode.specs.Fonts.{FontSeen, scaled_width_of, glyph_at, is_virtual_of, packet_of, local_of, first_local_of}
 use Rattle.font_decode.specs.Decoding.{AreAlike, AreAlikeFonts}
 use Rattle.font_decode.specs.declared.decoded.Decoded.{Decoded}
 use Rattle.font_decode.specs.declared.decoded.Decoded.TheVariants as decoded
 use Rattle.vf_expand.specs.Faults.{PageFaultSeen}
 use Rattle.vf_expand.specs.Faults as fault
-use Rattle.vf_expand.specs.Course.{Course, Gives, Asks, Ends, Stops, Place, Current, Deeper, dimension, space, changed_to, no_local, font_change, local_key, chosen, first_font, leave, packet, number_of, virtual, with_glyph, by_kind, with_width, found, no_font, character, expand_one, expand_list, deeper, MOST_DEEP, page_from, cut, MOST, course_of, gap_of}
+use Rattle.vf_expand.specs.Course.{Course, Gives, Asks, Ends, Stops, Place, Current, Deeper, dimension, space, changed_to, no_local, font_change, local_key, current_of, first_font, leave, packet, number_of, virtual, with_glyph, by_kind, with_width, found, no_font, character, expand_one, expand_list, deeper, MOST_DEEP, page_from, cut, MOST_FLAT, course_of, gap_of}
 use Rattle.vf_expand.specs.Course as course
 
 -- two courses that come to the same, whichever of alike fonts are found
@@ -107,8 +107,8 @@ module _ (at : ℕ) (k : FontKey) (f g : FontSeen) (alike : AreAlikeFonts f g) w
 
     similar_font : Similar (found i at k (decoded.Font f) c put x) (found j at k (decoded.Font g) c put y)
     similar_font =
-        subst (λ (width : Option ℤ). Similar (with_width i at k f c put (width_of f c) x) (with_width j at k g c put width y)) (alike.widths c)
-        (similar_width (width_of f c))
+        subst (λ (width : Option ℤ). Similar (with_width i at k f c put (scaled_width_of f c) x) (with_width j at k g c put width y)) (alike.widths c)
+        (similar_width (scaled_width_of f c))
 
 similar_found : (i j : Deeper) → AreDeeper i j → (at : ℕ) (k : FontKey) (d e : Decoded) → AreAlike d e → (c : ℤ) (put : Bool) (x y : Course) → Similar x y
     → Similar (found i at k d c put x) (found j at k e c put y)
@@ -193,7 +193,7 @@ module _ (i j : Deeper) (deep : AreDeeper i j) (p : Places) (at : ℕ) where
 
   -- from the font on that is current first
   similar_begun : (o : Option FontKey) (commands : List DviCommand) (x y : Course) → Similar x y
-      → Similar (expand_list (expand_one i (here p) at) (chosen o) commands x) (expand_list (expand_one j (there p) at) (chosen o) commands y)
+      → Similar (expand_list (expand_one i (here p) at) (current_of o) commands x) (expand_list (expand_one j (there p) at) (current_of o) commands y)
   similar_begun None commands x y h = similar_list commands x y h NoFont
   similar_begun (Some k) commands x y h = similar_list commands x y h (Chosen k)
 
@@ -208,7 +208,7 @@ unfolding deeper
 similar_deeper zero at = tt
 similar_deeper (suc n) at = λ k f g commands x y alike h.
     subst (λ (o : Option FontKey). Similar (expand_list (expand_one (deeper n at) (course.InPacket k f) at) (first_font f) commands x)
-    (expand_list (expand_one (deeper n at) (course.InPacket k g) at) (chosen o) commands y)) (same_first f g alike)
+    (expand_list (expand_one (deeper n at) (course.InPacket k g) at) (current_of o) commands y)) (same_first f g alike)
     (similar_begun (deeper n at) (deeper n at) (similar_deeper n at) (InPacket k f g alike) at (local_key f (first_local_of f)) commands x y h)
 
 -- ---- pages
@@ -232,4 +232,4 @@ similar_cut n _ _ h = absurd h
 pub course_similar : (reading : Reading) (i : ℕ) → Similar (course_of reading i) (course_of reading i)
 course_similar reading i =
     let page = page_from reading (unwrap_or (eop_at i reading) 0) course.NoFont (page_commands i reading) in
-    similar_cut MOST page page (similar_page reading (unwrap_or (eop_at i reading) 0) (page_commands i reading) NoFont)
+    similar_cut MOST_FLAT page page (similar_page reading (unwrap_or (eop_at i reading) 0) (page_commands i reading) NoFont)

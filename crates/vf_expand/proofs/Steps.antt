@@ -12,11 +12,11 @@ use Rattle.pk_runs.specs.declared.glyph.Glyph.{Glyph}
 use Rattle.font_decode.specs.declared.decoded.Decoded.{Decoded}
 use Rattle.vf_expand.specs.Faults.{seen_fault, TooLong}
 use Rattle.vf_expand.specs.Course.{Course, Gives, Asks, Ends, Stops, plain, Place, InPacket, Current, NoFont, Chosen, Known, MOST_DEEP, deeper, expand_one, expand_list, first_font, leave, page_from, cut}
-use Rattle.vf_expand.specs.Acts.{Acts, IsEntry, IsMark, Part, seen_current}
-use Rattle.vf_expand.specs.Doing.{Doing, IsAtLook, Packet, Stack, Page, Within, answered, asks_from, course_left, depth, due_left, font_of, glyph_for, glyph_in, left, marked_font, place_in, stack_left}
+use Rattle.vf_expand.specs.Effects.{HasEffect, IsEntry, IsMark, Meaning, seen_current}
+use Rattle.vf_expand.specs.Expansion.{Expansion, IsAtLook, Packet, Stack, Page, Within, answered, asks_from, course_left, depth, due_left, font_of, glyph_for, glyph_in, left, marked_font, place_in, stack_left}
 use Rattle.vf_expand.specs.Levels.{seen_packet, text_in}
 use Rattle.vf_expand.specs.Steps.{AsksOne, GivesOne, Stays}
-use Rattle.vf_expand.specs.declared.act.Act.TheVariants as act
+use Rattle.vf_expand.specs.declared.effect.Effect.TheVariants as effect
 use Rattle.vf_expand.specs.declared.frames.Frame.{Frame}
 use Rattle.vf_expand.proofs.Late.{ask_cut, end_cut, give_cut, late_list, stop_cut}
 
@@ -42,31 +42,31 @@ asks_again : (x : Course) (k : FontKey) (at : ℕ) (rest : Decoded → Course) �
 asks_again x k at rest e = e ∙ ap (λ (y : Course). Asks k at (answered y)) (sym e)
 
 -- where the last step gave no character no flat command has a glyph
-no_glyph : (v : Doing) (f : FlatCommand) → v.marked ≡ false → glyph_for v f ≡ None
+no_glyph : (v : Expansion) (f : FlatCommand) → v.marked ≡ false → glyph_for v f ≡ None
 no_glyph v (flat.Char k c width put) e = ap (λ (b : Bool). glyph_in (marked_font (record v { marked = b })) c) e
 no_glyph v _ e = refl
 
 -- where it gave one, its font has the glyph
-pub has_glyph : (part : Part) (v : Doing) (k : FontKey) (c : ℕ) (width : ℤ) (put : Bool) → IsMark part v.current (flat.Char k c width put) → v.marked ≡ true
+pub has_glyph : (part : Meaning) (v : Expansion) (k : FontKey) (c : ℕ) (width : ℤ) (put : Bool) → IsMark part v.current (flat.Char k c width put) → v.marked ≡ true
     → IsSome (glyph_for v (flat.Char k c width put))
-has_glyph part v k c width put acts marked = subst IsSome (sym (
-    ap (glyph_for v) acts.char ∙ ap (λ (b : Bool). glyph_in (marked_font (record v { marked = b })) acts.code) marked
-    ∙ ap (λ (x : Current). glyph_in (font_of x) acts.code) acts.known ∙ acts.has
+has_glyph part v k c width put has_effect marked = subst IsSome (sym (
+    ap (glyph_for v) has_effect.char ∙ ap (λ (b : Bool). glyph_in (marked_font (record v { marked = b })) has_effect.code) marked
+    ∙ ap (λ (x : Current). glyph_in (font_of x) has_effect.code) has_effect.known ∙ has_effect.has
     )) refl
 
 -- ---- after a command of the page or of a packet
 
-module _ (v : Doing) (undue : v.due ≡ None) (room : 0 < v.budget) (n at : ℕ) (place : Place) (c : DviCommand) (rest : Stack)
+module _ (v : Expansion) (undue : v.due ≡ None) (room : 0 < v.budget) (n at : ℕ) (place : Place) (c : DviCommand) (rest : Stack)
     (head : (current : Current) → stack_left v.reading v.eop v.at current v.stack
     ≡ expand_one (deeper n at) place at current c (λ next. stack_left v.reading v.eop at next rest))
     (same : stack_left v.reading v.eop at v.current v.stack ≡ stack_left v.reading v.eop v.at v.current v.stack) where
   abbrev others : Current → Course
   others next = stack_left v.reading v.eop at next rest
 
-  abbrev given : Bool → Doing
+  abbrev given : Bool → Expansion
   given marked = record v { at = at; budget = v.budget - 1; marked = marked; stack = rest }
 
-  abbrev stopped : Doing
+  abbrev stopped : Expansion
   stopped = record v { at = at; marked = false }
 
   here : left v ≡ cut v.budget (expand_one (deeper n at) place at v.current c others)
@@ -83,78 +83,78 @@ module _ (v : Doing) (undue : v.due ≡ None) (room : 0 < v.budget) (n at : ℕ)
       ∙ ap (cut v.budget) same
       ∙ ap (λ (due : Option ℤ). cut v.budget (due_left due v.at (stack_left v.reading v.eop v.at v.current v.stack))) (sym undue)
 
-  pub flat_step : (f : Flat) → Acts place n v.current c (act.Flat f) → GivesOne v (given false) (seen_flat f)
-  flat_step f acts = record {
-    given = here ∙ give_cut v.budget _ (others v.current) (seen_flat f) None at room (acts at others) ∙ ap (plain (seen_flat f) at) (after v.current rest)
+  pub flat_step : (f : Flat) → HasEffect place n v.current c (effect.Flat f) → GivesOne v (given false) (seen_flat f)
+  flat_step f has_effect = record {
+    given = here ∙ give_cut v.budget _ (others v.current) (seen_flat f) None at room (has_effect at others) ∙ ap (plain (seen_flat f) at) (after v.current rest)
         ∙ ap (λ (o : Option Glyph). Gives (seen_flat f) o at (left (given false))) (sym (no_glyph (given false) (seen_flat f) refl));
     asks = falls v.budget v.current v.current;
     fewer = fewer v.budget v.current v.current room;
   }
 
   pub mark_step : (f : FlatCommand) → IsMark (λ now at others. expand_one (deeper n at) place at now c others) v.current f → GivesOne v (given true) f
-  mark_step f acts =
-      let glyph : glyph_for (given true) f ≡ Some acts.glyph =
-      ap (glyph_for (given true)) acts.char ∙ ap (λ (x : Current). glyph_in (font_of x) acts.code) acts.known ∙ acts.has in
+  mark_step f has_effect =
+      let glyph : glyph_for (given true) f ≡ Some has_effect.glyph =
+      ap (glyph_for (given true)) has_effect.char ∙ ap (λ (x : Current). glyph_in (font_of x) has_effect.code) has_effect.known ∙ has_effect.has in
       record {
-        given = here ∙ give_cut v.budget _ (others v.current) f (Some acts.glyph) at room (acts.gives at others)
-            ∙ ap (Gives f (Some acts.glyph) at) (after v.current rest)
+        given = here ∙ give_cut v.budget _ (others v.current) f (Some has_effect.glyph) at room (has_effect.gives at others)
+            ∙ ap (Gives f (Some has_effect.glyph) at) (after v.current rest)
             ∙ ap (λ (o : Option Glyph). Gives f o at (left (given true))) (sym glyph);
         asks = falls v.budget v.current v.current;
         fewer = fewer v.budget v.current v.current room;
       }
 
-  pub change_step : (key : _) → Acts place n v.current c (act.Change key) → GivesOne v (record (given false) { current = Chosen (arc_value key) }) flat.Skip
-  change_step key acts =
+  pub change_step : (key : _) → HasEffect place n v.current c (effect.Change key) → GivesOne v (record (given false) { current = Chosen (arc_value key) }) flat.Skip
+  change_step key has_effect =
       let now = Chosen (arc_value key) in
       record {
-        given = here ∙ give_cut v.budget _ (others now) flat.Skip None at room (acts at others) ∙ ap (plain flat.Skip at) (after now rest);
+        given = here ∙ give_cut v.budget _ (others now) flat.Skip None at room (has_effect at others) ∙ ap (plain flat.Skip at) (after now rest);
         asks = falls v.budget v.current now;
         fewer = fewer v.budget v.current now room;
       }
 
-  pub ask_step : (key : _) → Acts place n v.current c (act.Ask key) → AsksOne v stopped (arc_value key)
-  ask_step key acts =
-      let asked = here ∙ ask_cut v.budget _ (arc_value key) at _ room (acts.1 at others) in
+  pub ask_step : (key : _) → HasEffect place n v.current c (effect.Ask key) → AsksOne v stopped (arc_value key)
+  ask_step key has_effect =
+      let asked = here ∙ ask_cut v.budget _ (arc_value key) at _ room (has_effect.1 at others) in
       record {
         asked = asks_again (left v) (arc_value key) at _ asked;
         look = subst IsAtLook (sym (stays ∙ asked)) tt;
         left = stays;
         unmarked = refl;
-        some = subst (λ (x : Current). 0 < asks_from v.budget x) (sym acts.0) room;
+        some = subst (λ (x : Current). 0 < asks_from v.budget x) (sym has_effect.0) room;
         asks = refl;
         steps = refl;
       }
 
-  pub stop_step : (fault : _) → Acts place n v.current c (act.Stop fault) → (left v ≡ Stops (seen_fault fault) at) × Stays v stopped
-  stop_step fault acts =
-      (here ∙ stop_cut v.budget _ (seen_fault fault) at room (acts at others), record { left = stays; unmarked = refl; asks = refl })
+  pub stop_step : (fault : _) → HasEffect place n v.current c (effect.Stop fault) → (left v ≡ Stops (seen_fault fault) at) × Stays v stopped
+  stop_step fault has_effect =
+      (here ∙ stop_cut v.budget _ (seen_fault fault) at room (has_effect at others), record { left = stays; unmarked = refl; asks = refl })
 
   -- a packet is entered
-  module _ (deep : n ≡ MOST_DEEP - depth rest) (level : Frame) (acts : IsEntry n (λ now at others. expand_one (deeper n at) place at now c others) v.current level) where
+  module _ (deep : n ≡ MOST_DEEP - depth rest) (level : Frame) (has_effect : IsEntry n (λ now at others. expand_one (deeper n at) place at now c others) v.current level) where
     abbrev entered : Stack
     entered = Within (seen_packet v.current level) rest
 
-    text_is : acts.text ≡ drop level.pos (text_in v.current level.code)
+    text_is : has_effect.text ≡ drop level.pos (text_in v.current level.code)
     text_is =
-        let prefix = ap (λ (p : ℕ). drop p acts.text) (sym acts.prefix) in
-        prefix ∙ sym (ap (λ (o : Option (List ℕ)). drop level.pos (unwrap_or o [])) acts.packet)
-        ∙ ap (λ (x : Current). drop level.pos (text_in x level.code)) (sym acts.known)
+        let prefix = ap (λ (p : ℕ). drop p has_effect.text) (sym has_effect.prefix) in
+        prefix ∙ sym (ap (λ (o : Option (List ℕ)). drop level.pos (unwrap_or o [])) has_effect.packet)
+        ∙ ap (λ (x : Current). drop level.pos (text_in x level.code)) (sym has_effect.known)
 
     below : n - 1 ≡ MOST_DEEP - suc (depth rest)
     below = omega (arith, deep)
 
-    inside : expand_list (expand_one (deeper (n - 1) at) (InPacket acts.key acts.font) at) (first_font acts.font) (commands_of acts.text) (leave level.gap at (others v.current))
+    inside : expand_list (expand_one (deeper (n - 1) at) (InPacket has_effect.key has_effect.font) at) (first_font has_effect.font) (commands_of has_effect.text) (leave level.gap at (others v.current))
         ≡ stack_left v.reading v.eop at (seen_current level.current) entered
     inside =
         let later = leave level.gap at (others v.current) in
-        ap (λ (m : ℕ). expand_list (expand_one (deeper m at) (InPacket acts.key acts.font) at) (first_font acts.font) (commands_of acts.text) later) below
-        ∙ ap (λ (x : Current). expand_list (expand_one (deeper (MOST_DEEP - suc (depth rest)) at) (place_in v.reading x) at) (first_font acts.font) (commands_of acts.text) later) (sym acts.known)
-        ∙ ap (λ (x : Current). expand_list (expand_one (deeper (MOST_DEEP - suc (depth rest)) at) (place_in v.reading v.current) at) x (commands_of acts.text) later) (sym acts.first)
+        ap (λ (m : ℕ). expand_list (expand_one (deeper m at) (InPacket has_effect.key has_effect.font) at) (first_font has_effect.font) (commands_of has_effect.text) later) below
+        ∙ ap (λ (x : Current). expand_list (expand_one (deeper (MOST_DEEP - suc (depth rest)) at) (place_in v.reading x) at) (first_font has_effect.font) (commands_of has_effect.text) later) (sym has_effect.known)
+        ∙ ap (λ (x : Current). expand_list (expand_one (deeper (MOST_DEEP - suc (depth rest)) at) (place_in v.reading v.current) at) x (commands_of has_effect.text) later) (sym has_effect.first)
         ∙ ap (λ (text : List ℕ). expand_list (expand_one (deeper (MOST_DEEP - suc (depth rest)) at) (place_in v.reading v.current) at) (seen_current level.current) (commands_of text) later) text_is
 
     pub enter_step : GivesOne v (record v { at = at; budget = v.budget - 1; marked = false; current = seen_current level.current; stack = entered }) flat.Enter
     enter_step = record {
-      given = here ∙ give_cut v.budget _ _ flat.Enter None at room (acts.gives at others ∙ ap (plain flat.Enter at) inside) ∙ ap (plain flat.Enter at) (after (seen_current level.current) entered);
+      given = here ∙ give_cut v.budget _ _ flat.Enter None at room (has_effect.gives at others ∙ ap (plain flat.Enter at) inside) ∙ ap (plain flat.Enter at) (after (seen_current level.current) entered);
       asks = falls v.budget v.current (seen_current level.current);
       fewer = fewer v.budget v.current (seen_current level.current) room;
     }
@@ -165,7 +165,7 @@ leave_is : (gap : Option ℤ) (at : ℕ) (x : Course) → leave gap at x ≡ pla
 leave_is None at x = refl
 leave_is (Some width) at x = refl
 
-module _ (v : Doing) (undue : v.due ≡ None) (p : Packet) (outer : Stack) (inside : v.stack ≡ Within p outer) where
+module _ (v : Expansion) (undue : v.due ≡ None) (p : Packet) (outer : Stack) (inside : v.stack ≡ Within p outer) where
   packet_here : left v ≡ course_left v.reading v.eop v.at v.budget None v.current (Within p outer)
   packet_here = ap (λ (due : Option ℤ). course_left v.reading v.eop v.at v.budget due v.current v.stack) undue
       ∙ ap (course_left v.reading v.eop v.at v.budget None v.current) inside
@@ -196,7 +196,7 @@ module _ (v : Doing) (undue : v.due ≡ None) (p : Packet) (outer : Stack) (insi
 
 -- ---- the motion after a packet
 
-module _ (v : Doing) (width : ℤ) (due : v.due ≡ Some width) where
+module _ (v : Expansion) (width : ℤ) (due : v.due ≡ Some width) where
   due_here : left v ≡ course_left v.reading v.eop v.at v.budget (Some width) v.current v.stack
   due_here = ap (λ (o : Option ℤ). course_left v.reading v.eop v.at v.budget o v.current v.stack) due
 
@@ -222,7 +222,7 @@ module _ (v : Doing) (width : ℤ) (due : v.due ≡ Some width) where
 
 -- ---- the page's end, and a command that comes too late
 
-module _ (v : Doing) (undue : v.due ≡ None) where
+module _ (v : Expansion) (undue : v.due ≡ None) where
   undue_here : left v ≡ course_left v.reading v.eop v.at v.budget None v.current v.stack
   undue_here = ap (λ (o : Option ℤ). course_left v.reading v.eop v.at v.budget o v.current v.stack) undue
 

@@ -7,15 +7,15 @@ use Rattle.dvi_commands.specs.Reading.{Placed, placed, commands_of}
 use Rattle.drift_rules.specs.Position as flat
 use Rattle.page_index.specs.Document.{Reading, font_table}
 use Rattle.pk_runs.specs.declared.glyph.Glyph.{Glyph}
-use Rattle.font_decode.specs.Fonts.{FontSeen, width_of, glyph_at}
+use Rattle.font_decode.specs.Fonts.{FontSeen, scaled_width_of, glyph_at}
 use Rattle.font_decode.specs.declared.decoded.Decoded.{Decoded}
 use Rattle.font_decode.specs.declared.decoded.Decoded.TheVariants as decoded
 use Rattle.vf_expand.specs.Faults.{Depth}
 use Rattle.vf_expand.specs.Faults as fault
-use Rattle.vf_expand.specs.Course.{Current, Known, NoFont, Chosen, InPacket, MOST_DEEP, chosen, first_font, gap_of, local_key}
-use Rattle.vf_expand.specs.Members.{Member, Flat, Look}
-use Rattle.vf_expand.specs.PageLists.{AtFault, Fonts, Outcome, Goes, Faults, Packets, after, followed, framed, full_list, joined, of_change, of_command, of_found, of_kind, of_list, of_packet, of_virtual, of_width, packets_in}
-use Rattle.vf_expand.specs.Laws.{HasPacket, LoopsAreTooDeep, ThePacketIsWorked, a_packet, entered, packet_members}
+use Rattle.vf_expand.specs.Course.{Current, Known, NoFont, Chosen, InPacket, MOST_DEEP, current_of, first_font, gap_of, local_key}
+use Rattle.vf_expand.specs.Members.{Member, Flat, LookUp}
+use Rattle.vf_expand.specs.PageLists.{AtFault, Fonts, Outcome, Goes, Faults, Packets, after, go_on, in_frame, full_list, joined, of_change, of_command, of_found, of_kind, of_list, of_packet, of_virtual, of_width, packets_in}
+use Rattle.vf_expand.specs.Laws.{HasPacket, LoopsAreTooDeep, ThePacketIsWorked, a_packet, nested_entries, packet_members}
 use Rattle.vf_expand.proofs.WorkedPage.{gives_glyph, goes}
 
 -- a virtual character of the font that was found
@@ -26,7 +26,7 @@ virtual_found packets at k local f wide text put has =
 
 -- the first local font
 begins : (k local : FontKey) (f : FontSeen) (wide : ℤ) (text : List ℕ) → HasPacket f wide text local → first_font f ≡ Chosen local
-begins k local f wide text has = ap (λ (o : Option ℤ). chosen (local_key f o)) has.first ∙ ap chosen has.key
+begins k local f wide text has = ap (λ (o : Option ℤ). current_of (local_key f o)) has.first ∙ ap current_of has.key
 
 the_commands : commands_of a_packet ≡ Set (pos 65) ∷ Right (negsuc 0) ∷ Push ∷ Pop ∷ []
 unfolding commands_of
@@ -40,20 +40,20 @@ module _ (fonts : Fonts) (reading : Reading) (k local : FontKey) (f : FontSeen) 
   -- a packet of a font, where there is room for it
   packet_is : (n at : ℕ) (wide : ℤ) (text : List ℕ) (gap : Option ℤ) → HasPacket f wide text local
       → of_virtual (packets_in fonts (suc n) at) at k f (pos 65) gap
-      ≡ framed at (Known k (decoded.Font f)) gap (of_list (of_command fonts (packets_in fonts n at) (InPacket k f) at) (Chosen local) (commands_of text))
+      ≡ in_frame at (Known k (decoded.Font f)) gap (of_list (of_command fonts (packets_in fonts n at) (InPacket k f) at) (Chosen local) (commands_of text))
   unfolding packets_in
   packet_is n at wide text gap has =
       let one = of_command fonts (packets_in fonts n at) (InPacket k f) at in
       ap (of_packet (λ l g commands. of_list (of_command fonts (packets_in fonts n at) (InPacket l g) at) (first_font g) commands) at k f (pos 65) gap) has.packet
-      ∙ ap (λ (c : Current). framed at (Known k (decoded.Font f)) gap (of_list one c (commands_of text))) (begins k local f wide text has)
+      ∙ ap (λ (c : Current). in_frame at (Known k (decoded.Font f)) gap (of_list one c (commands_of text))) (begins k local f wide text has)
 
   module _ (l : FontSeen) (g : Glyph) (sized : f.size ≡ 128) (has : HasPacket f (pos 6) a_packet local) (inside : fonts local ≡ decoded.Font l)
-      (width : width_of l (pos 65) ≡ Some (pos 3)) (glyph : glyph_at l 65 ≡ Some g) where
+      (width : scaled_width_of l (pos 65) ≡ Some (pos 3)) (glyph : glyph_at l 65 ≡ Some g) where
     abbrev known : Current
     known = Known local (decoded.Font l)
 
     abbrev members_at : ℕ → ℤ → List Member
-    members_at at by = Look local at ∷ Flat (flat.Char local 65 (pos 3) false) (Some g) at ∷ Flat (flat.Right by (pos (local.size / 6))) None at
+    members_at at by = LookUp local at ∷ Flat (flat.Char local 65 (pos 3) false) (Some g) at ∷ Flat (flat.Right by (pos (local.size / 6))) None at
         ∷ Flat flat.Push None at ∷ Flat flat.Pop None at ∷ []
 
     in_the_packet : (packets : Packets) (at : ℕ) → of_list (of_command fonts packets (InPacket k f) at) (Chosen local) (commands_of a_packet) ≡ Goes (members_at at (negsuc 0)) known
@@ -61,21 +61,21 @@ module _ (fonts : Fonts) (reading : Reading) (k local : FontKey) (f : FontSeen) 
         let one = of_command fonts packets (InPacket k f) at in
         let rest : List DviCommand = Right (negsuc 0) ∷ Push ∷ Pop ∷ [] in
         ap (of_list one (Chosen local)) the_commands
-        ∙ ap (λ (d : Decoded). followed (after (Look local at ∷ []) (of_found packets at local d (pos 65) false)) (λ next. of_list one next rest)) inside
-        ∙ ap (λ (o : Outcome). followed (after (Look local at ∷ []) o) (λ next. of_list one next rest)) (gives_glyph packets at local l g (pos 3) false width glyph)
+        ∙ ap (λ (d : Decoded). go_on (after (LookUp local at ∷ []) (of_found packets at local d (pos 65) false)) (λ next. of_list one next rest)) inside
+        ∙ ap (λ (o : Outcome). go_on (after (LookUp local at ∷ []) o) (λ next. of_list one next rest)) (gives_glyph packets at local l g (pos 3) false width glyph)
         ∙ ap (λ (n : ℕ). Goes (members_at at (scale (negsuc 0) n)) known) sized
 
     whole : (at : ℕ) (put : Bool) → of_found (packets_in fonts MOST_DEEP at) at k (decoded.Font f) (pos 65) put
-        ≡ framed at (Known k (decoded.Font f)) (gap_of (pos 6) put) (Goes (members_at at (negsuc 0)) known)
+        ≡ in_frame at (Known k (decoded.Font f)) (gap_of (pos 6) put) (Goes (members_at at (negsuc 0)) known)
     whole at put =
         virtual_found (packets_in fonts MOST_DEEP at) at k local f (pos 6) a_packet put has ∙ packet_is 9 at (pos 6) a_packet (gap_of (pos 6) put) has
-        ∙ ap (framed at (Known k (decoded.Font f)) (gap_of (pos 6) put)) (in_the_packet (packets_in fonts 9 at) at)
+        ∙ ap (in_frame at (Known k (decoded.Font f)) (gap_of (pos 6) put)) (in_the_packet (packets_in fonts 9 at) at)
 
 -- where the page's font has no other packet
 module _ (fonts : Fonts) (k : FontKey) (f : FontSeen) (found : fonts k ≡ decoded.Font f) (has : HasPacket f (pos 8) (65 ∷ []) k) where
   deep : ℕ → ℕ → List Member
   deep at zero = []
-  deep at (suc n) = Flat flat.Enter None at ∷ Look k at ∷ deep at n
+  deep at (suc n) = Flat flat.Enter None at ∷ LookUp k at ∷ deep at n
 
   no_room : (at : ℕ) → of_virtual (packets_in fonts zero at) at k f (pos 65) (Some (pos 8)) ≡ Faults [] (Depth k (pos 65))
   unfolding packets_in
@@ -86,17 +86,17 @@ module _ (fonts : Fonts) (k : FontKey) (f : FontSeen) (found : fonts k ≡ decod
   too_deep reading zero at = virtual_found (packets_in fonts zero at) at k k f (pos 8) (65 ∷ []) false has ∙ no_room at
   too_deep reading (suc n) at =
       let one = of_command fonts (packets_in fonts n at) (InPacket k f) at in
-      let outer = framed at (Known k (decoded.Font f)) (Some (pos 8)) in
+      let outer = in_frame at (Known k (decoded.Font f)) (Some (pos 8)) in
       virtual_found (packets_in fonts (suc n) at) at k k f (pos 8) (65 ∷ []) false has
       ∙ packet_is fonts reading k k f n at (pos 8) (65 ∷ []) (Some (pos 8)) has
       ∙ ap (λ (commands : List DviCommand). outer (of_list one (Chosen k) commands)) one_command
-      ∙ ap (λ (d : Decoded). outer (followed (after (Look k at ∷ []) (of_found (packets_in fonts n at) at k d (pos 65) false)) (λ next. of_list one next []))) found
-      ∙ ap (λ (o : Outcome). outer (followed (after (Look k at ∷ []) o) (λ next. of_list one next []))) (too_deep reading n at)
+      ∙ ap (λ (d : Decoded). outer (go_on (after (LookUp k at ∷ []) (of_found (packets_in fonts n at) at k d (pos 65) false)) (λ next. of_list one next []))) found
+      ∙ ap (λ (o : Outcome). outer (go_on (after (LookUp k at ∷ []) o) (λ next. of_list one next []))) (too_deep reading n at)
 
-  deep_entered : (at n : ℕ) → Look k at ∷ deep at n ≡ entered k at n ++ (Look k at ∷ [])
+  deep_entered : (at n : ℕ) → LookUp k at ∷ deep at n ≡ nested_entries k at n ++ (LookUp k at ∷ [])
   unfolding deep
   deep_entered at zero = refl
-  deep_entered at (suc n) = ap (λ (members : List Member). Look k at ∷ Flat flat.Enter None at ∷ members) (deep_entered at n)
+  deep_entered at (suc n) = ap (λ (members : List Member). LookUp k at ∷ Flat flat.Enter None at ∷ members) (deep_entered at n)
 
 abbrev last : List Placed
 last = placed 83 (Right (pos 9)) (143 ∷ 9 ∷ []) ∷ []
@@ -114,18 +114,18 @@ changes reading k at table = ap (of_change at (fault.NoFont (pos 0))) table
 pub the_packet_is_worked : ThePacketIsWorked
 the_packet_is_worked fonts reading k local f l g table sized found has inside width glyph =
     let known = Known k (decoded.Font f) in
-    let set = ap (λ (d : Decoded). after (Look k 81 ∷ []) (of_found (packets_in fonts MOST_DEEP 81) 81 k d (pos 65) false)) found
-    ∙ ap (after (Look k 81 ∷ [])) (whole fonts reading k local f l g sized has inside width glyph 81 false) in
+    let set = ap (λ (d : Decoded). after (LookUp k 81 ∷ []) (of_found (packets_in fonts MOST_DEEP 81) 81 k d (pos 65) false)) found
+    ∙ ap (after (LookUp k 81 ∷ [])) (whole fonts reading k local f l g sized has inside width glyph 81 false) in
     let put = whole fonts reading k local f l g sized has inside width glyph 82 true in
     goes fonts reading 85 (placed 80 (Font (pos 0)) (171 ∷ [])) from_81 NoFont (Chosen k) (Flat flat.Skip None 80 ∷ []) _ (changes reading k 80 table)
-    (goes fonts reading 85 (placed 81 (Set (pos 65)) (65 ∷ [])) from_82 (Chosen k) known (Look k 81 ∷ packet_members local g 81 ++ (Flat (flat.Advance (pos 6)) None 81 ∷ [])) _ set
+    (goes fonts reading 85 (placed 81 (Set (pos 65)) (65 ∷ [])) from_82 (Chosen k) known (LookUp k 81 ∷ packet_members local g 81 ++ (Flat (flat.Advance (pos 6)) None 81 ∷ [])) _ set
     (goes fonts reading 85 (placed 82 (Put (pos 65)) (133 ∷ 65 ∷ [])) last known known (packet_members local g 82) _ put
     (goes fonts reading 85 (placed 83 (Right (pos 9)) (143 ∷ 9 ∷ [])) [] known known (Flat (flat.Right (pos 9) (pos (k.size / 6))) None 83 ∷ []) _ refl refl)))
 
 pub loops_are_too_deep : LoopsAreTooDeep
 loops_are_too_deep fonts reading k f table found has =
-    let set = ap (λ (d : Decoded). after (Look k 81 ∷ []) (of_found (packets_in fonts MOST_DEEP 81) 81 k d (pos 65) false)) found
-    ∙ ap (after (Look k 81 ∷ [])) (too_deep fonts k f found has reading MOST_DEEP 81) in
+    let set = ap (λ (d : Decoded). after (LookUp k 81 ∷ []) (of_found (packets_in fonts MOST_DEEP 81) 81 k d (pos 65) false)) found
+    ∙ ap (after (LookUp k 81 ∷ [])) (too_deep fonts k f found has reading MOST_DEEP 81) in
     let all = goes fonts reading 85 (placed 80 (Font (pos 0)) (171 ∷ [])) from_81 NoFont (Chosen k) (Flat flat.Skip None 80 ∷ []) _ (changes reading k 80 table)
     (ap (λ (o : Outcome). joined 81 o (λ now. full_list fonts reading 85 now from_82)) set) in
     all ∙ ap (λ (members : List Member). record { members = Flat flat.Skip None 80 ∷ members; ending = AtFault (Depth k (pos 65)) 81 }) (deep_entered fonts k f found has 81 MOST_DEEP)

@@ -14,7 +14,7 @@ use Rattle.drift_rules.specs.Position as flat
 use Rattle.page_index.specs.Document.{Reading, font_table}
 use Rattle.page_index.specs.Pages.{eop_at, page_commands}
 use Rattle.pk_runs.specs.declared.glyph.Glyph.{Glyph}
-use Rattle.font_decode.specs.Fonts.{FontSeen, width_of, glyph_at, is_virtual_of, packet_of, local_of, first_local_of}
+use Rattle.font_decode.specs.Fonts.{FontSeen, scaled_width_of, glyph_at, is_virtual_of, packet_of, local_of, first_local_of}
 use Rattle.font_decode.specs.declared.decoded.Decoded.{Decoded}
 use Rattle.font_decode.specs.declared.decoded.Decoded.TheVariants as decoded
 use Rattle.vf_expand.specs.Faults.{PageFaultSeen}
@@ -78,12 +78,12 @@ abbrev pub local_key : FontSeen → Option ℤ → Option FontKey
 local_key f None = None
 local_key f (Some n) = local_of f n
 
-abbrev pub chosen : Option FontKey → Current
-chosen None = NoFont
-chosen (Some k) = Chosen k
+abbrev pub current_of : Option FontKey → Current
+current_of None = NoFont
+current_of (Some k) = Chosen k
 
 abbrev pub first_font : FontSeen → Current
-first_font f = chosen (local_key f (first_local_of f))
+first_font f = current_of (local_key f (first_local_of f))
 
 -- ---- virtual characters
 
@@ -140,7 +140,8 @@ with_width deeper at k f c put (Some width) after =
 -- a character of the font that was found
 abbrev pub found : Deeper → ℕ → FontKey → Decoded → ℤ → Bool → Course → Course
 found deeper at k (decoded.Fault f) c put after = Stops (fault.Font k f) at
-found deeper at k (decoded.Font f) c put after = with_width deeper at k f c put (width_of f c) after
+found deeper at k (decoded.Font f) c put after =
+    with_width deeper at k f c put (scaled_width_of f c) after
 
 -- a character where no font is current; in a packet the font then has no local fonts
 abbrev pub no_font : Place → PageFaultSeen
@@ -222,11 +223,12 @@ cut (suc n) (Gives f g at rest) = Gives f g at (cut n rest)
 cut (suc n) (Asks k at rest) = Asks k at (λ d. cut (suc n) (rest d))
 cut (suc n) (Stops f at) = Stops f at
 
-abbrev pub MOST : ℕ
-MOST = 16777216
+abbrev pub MOST_FLAT : ℕ
+MOST_FLAT = 16777216
 
 -- ---- the page of a document with a number, from 0
 
 abbrev pub course_of : Reading → ℕ → Course
 course_of reading i =
-    cut MOST (page_from reading (unwrap_or (eop_at i reading) 0) NoFont (page_commands i reading))
+    cut MOST_FLAT
+    (page_from reading (unwrap_or (eop_at i reading) 0) NoFont (page_commands i reading))

@@ -9,13 +9,13 @@ use Rattle.drift_rules.specs.Position as flat
 use Rattle.page_index.specs.Document.{Reading, font_table}
 use Rattle.pk_runs.specs.declared.glyph.Glyph.{Glyph}
 use Rattle.font_decode.specs.Decoding.{IsFontIn}
-use Rattle.font_decode.specs.Fonts.{FontSeen, width_of, glyph_at, is_virtual_of, packet_of, local_of, first_local_of}
+use Rattle.font_decode.specs.Fonts.{FontSeen, scaled_width_of, glyph_at, is_virtual_of, packet_of, local_of, first_local_of}
 use Rattle.font_decode.specs.declared.decoded.Decoded.TheVariants as decoded
 use Rattle.font_decode.specs.Laws.{AreByteFiles}
 use Rattle.vf_expand.specs.Faults.{Depth, TooLong}
 use Rattle.vf_expand.specs.Course.{Course, NoFont, course_of}
-use Rattle.vf_expand.specs.Members.{Member, Flat, Look, Leads, looks_of}
-use Rattle.vf_expand.specs.PageLists.{AtEnd, AtFault, Fonts, before, full_list, limited, list_from, list_of, no_more}
+use Rattle.vf_expand.specs.Members.{Member, Flat, LookUp, Unfolds, looks_of}
+use Rattle.vf_expand.specs.PageLists.{AtEnd, AtFault, Fonts, before, full_list, up_to_limit, list_from, list_of, no_more}
 
 -- whatever the fonts are, the course of a page comes to its list
 abbrev pub CoursesAreLists : Type 0
@@ -24,37 +24,37 @@ CoursesAreLists =
     ≡ list_of fonts reading i
 
 -- the fonts of a library
-abbrev pub AreFontsIn : library.Files → Units → Fonts → Type 0
+abbrev pub AreFontsIn : library.FileTable → Units → Fonts → Type 0
 AreFontsIn l u fonts = (k : FontKey) → IsFontIn l u k (fonts k)
 
 abbrev pub LibrariesHaveFonts : Type 0
 LibrariesHaveFonts =
-    (l : library.Files) (u : Units) → AreByteFiles l → (fonts : Fonts) × AreFontsIn l u fonts
+    (l : library.FileTable) (u : Units) → AreByteFiles l → (fonts : Fonts) × AreFontsIn l u fonts
 
 -- members that are followed over a library are the first of the page's list, and what is left of
 -- the course is the rest of it
 abbrev pub MembersAreTheList : Type 0
 MembersAreTheList =
-    (l : library.Files) (u : Units) (fonts : Fonts) (reading : Reading) (i : ℕ)
+    (l : library.FileTable) (u : Units) (fonts : Fonts) (reading : Reading) (i : ℕ)
     (members : List Member) (to : Course) → AreFontsIn l u fonts
-    → Leads (IsFontIn l u) (course_of reading i) members to
+    → Unfolds (IsFontIn l u) (course_of reading i) members to
     → list_of fonts reading i ≡ before members (list_from fonts to)
 
 -- so the look-ups of a page that was broken off are the first of the page's look-ups
 abbrev pub LooksAreThePages : Type 0
 LooksAreThePages =
-    (l : library.Files) (u : Units) (fonts : Fonts) (reading : Reading) (i : ℕ)
+    (l : library.FileTable) (u : Units) (fonts : Fonts) (reading : Reading) (i : ℕ)
     (members : List Member) (to : Course) → AreFontsIn l u fonts
-    → Leads (IsFontIn l u) (course_of reading i) members to
+    → Unfolds (IsFontIn l u) (course_of reading i) members to
     → looks_of (list_of fonts reading i).members ≡ looks_of members ++ looks_of
     (list_from fonts to).members
 
 -- and a page can be followed to the end of its list
 abbrev pub ListsAreFollowed : Type 0
 ListsAreFollowed =
-    (l : library.Files) (u : Units) (fonts : Fonts) (reading : Reading) (i : ℕ)
+    (l : library.FileTable) (u : Units) (fonts : Fonts) (reading : Reading) (i : ℕ)
     → AreFontsIn l u fonts
-    → (to : Course) × Leads (IsFontIn l u) (course_of reading i)
+    → (to : Course) × Unfolds (IsFontIn l u) (course_of reading i)
     (list_of fonts reading i).members to
     × (list_from fonts to ≡ no_more (list_of fonts reading i).ending)
 
@@ -73,15 +73,16 @@ worked =
 -- is too long at the second look-up
 pub record IsWorked (fonts : Fonts) (reading : Reading) (k : FontKey) (g : Glyph) : Type 0 where
   pub whole : full_list fonts reading 68 NoFont worked ≡ record {
-    members = Flat flat.Skip None 60 ∷ Look k 61 ∷ Flat (flat.Char k 65 (pos 8) false)
+    members = Flat flat.Skip None 60 ∷ LookUp k 61 ∷ Flat (flat.Char k 65 (pos 8) false)
         (Some g) 61 ∷ Flat (flat.Char k 65 (pos 8) true) (Some g) 62
-        ∷ Flat (flat.Right (pos 9) (pos (k.size / 6))) None 64 ∷ Flat flat.Skip None 66 ∷ Look k 67
+        ∷ Flat (flat.Right (pos 9) (pos (k.size / 6))) None 64 ∷ Flat flat.Skip None 66
+        ∷ LookUp k 67
         ∷ Flat (flat.Char k 65 (pos 8) false) (Some g) 67 ∷ [];
     ending = AtEnd 68;
   }
-  pub cut : limited 5 (full_list fonts reading 68 NoFont worked).members
+  pub cut : up_to_limit 5 (full_list fonts reading 68 NoFont worked).members
       (full_list fonts reading 68 NoFont worked).ending ≡ record {
-        members = Flat flat.Skip None 60 ∷ Look k 61 ∷ Flat (flat.Char k 65 (pos 8) false)
+        members = Flat flat.Skip None 60 ∷ LookUp k 61 ∷ Flat (flat.Char k 65 (pos 8) false)
             (Some g) 61 ∷ Flat (flat.Char k 65 (pos 8) true) (Some g) 62
             ∷ Flat (flat.Right (pos 9) (pos (k.size / 6))) None 64 ∷ Flat flat.Skip None 66 ∷ [];
         ending = AtFault TooLong 67;
@@ -92,14 +93,15 @@ abbrev pub ThePageIsWorked : Type 0
 ThePageIsWorked =
     (fonts : Fonts) (reading : Reading) (k : FontKey) (f : FontSeen) (g : Glyph)
     → font_table reading (pos 7) ≡ Some k → fonts k ≡ decoded.Font f
-    → width_of f (pos 65) ≡ Some (pos 8) → glyph_at f 65 ≡ Some g → IsWorked fonts reading k g
+    → scaled_width_of f (pos 65) ≡ Some (pos 8) → glyph_at f 65 ≡ Some g
+    → IsWorked fonts reading k g
 
 -- ---- virtual characters
 
 -- a font with these local fonts and this packet of the character 65, which is so wide
 pub record HasPacket (f : FontSeen) (wide : ℤ) (text : List ℕ) (local : FontKey) : Type 0 where
   pub virtual : is_virtual_of f ≡ true
-  pub width : width_of f (pos 65) ≡ Some wide
+  pub width : scaled_width_of f (pos 65) ≡ Some wide
   pub packet : packet_of f 65 ≡ Some text
   pub first : first_local_of f ≡ Some (pos 0)
   pub key : local_of f (pos 0) ≡ Some local
@@ -120,7 +122,7 @@ a_packet = 65 ∷ 143 ∷ 255 ∷ 141 ∷ 142 ∷ []
 -- down
 abbrev pub packet_members : FontKey → Glyph → ℕ → List Member
 packet_members local g at =
-    Flat flat.Enter None at ∷ Look local at ∷ Flat (flat.Char local 65 (pos 3) false)
+    Flat flat.Enter None at ∷ LookUp local at ∷ Flat (flat.Char local 65 (pos 3) false)
     (Some g) at ∷ Flat (flat.Right (negsuc 0) (pos (local.size / 6))) None at
     ∷ Flat flat.Push None at ∷ Flat flat.Pop None at ∷ Flat flat.Leave None at ∷ []
 
@@ -131,18 +133,19 @@ ThePacketIsWorked =
     (fonts : Fonts) (reading : Reading) (k local : FontKey) (f l : FontSeen) (g : Glyph)
     → font_table reading (pos 0) ≡ Some k → f.size ≡ 128
     → fonts k ≡ decoded.Font f → HasPacket f (pos 6) a_packet local
-    → fonts local ≡ decoded.Font l → width_of l (pos 65) ≡ Some (pos 3) → glyph_at l 65 ≡ Some g
+    → fonts local ≡ decoded.Font l → scaled_width_of l (pos 65) ≡ Some (pos 3)
+    → glyph_at l 65 ≡ Some g
     → full_list fonts reading 85 NoFont characters ≡ record {
-      members = (Flat flat.Skip None 80 ∷ Look k 81 ∷ packet_members local g 81)
+      members = (Flat flat.Skip None 80 ∷ LookUp k 81 ∷ packet_members local g 81)
           ++ (Flat (flat.Advance (pos 6)) None 81 ∷ packet_members local g 82)
           ++ (Flat (flat.Right (pos 9) (pos (k.size / 6))) None 83 ∷ []);
       ending = AtEnd 85;
     }
 
 -- n packets, each of which stands in the one before it, look their font up and begin
-abbrev pub entered : FontKey → ℕ → ℕ → List Member
-entered k at zero = []
-entered k at (suc n) = Look k at ∷ Flat flat.Enter None at ∷ entered k at n
+abbrev pub nested_entries : FontKey → ℕ → ℕ → List Member
+nested_entries k at zero = []
+nested_entries k at (suc n) = LookUp k at ∷ Flat flat.Enter None at ∷ nested_entries k at n
 
 -- a font whose character sets itself: ten packets stand inside one another, and the next one is too
 -- deep
@@ -152,6 +155,6 @@ LoopsAreTooDeep =
     → font_table reading (pos 0) ≡ Some k
     → fonts k ≡ decoded.Font f → HasPacket f (pos 8) (65 ∷ []) k
     → full_list fonts reading 85 NoFont characters ≡ record {
-      members = Flat flat.Skip None 80 ∷ entered k 81 10 ++ (Look k 81 ∷ []);
+      members = Flat flat.Skip None 80 ∷ nested_entries k 81 10 ++ (LookUp k 81 ∷ []);
       ending = AtFault (Depth k (pos 65)) 81;
     }

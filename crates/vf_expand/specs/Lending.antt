@@ -3,14 +3,14 @@ use Rattle.std.specs.Prelude.{◌≡◌, [], ⊤, Option, MatchOption}
 use Rattle.std.specs.Borrow.{follows_so, MutBor, Fml}
 use mathlib.Core.Option.{none}
 use mir.Syntax.{named}
-use Rattle.vf_expand.specs.Doing.{Doing}
+use Rattle.vf_expand.specs.Expansion.{Expansion}
 use Rattle.vf_expand.specs.Steps.{GivesPlain}
 use Rattle.vf_expand.specs.declared.step.PlainStep.{PlainStep}
 use Rattle.vf_expand.specs.contracts.expander.Expander.{the_row}
 
 -- the step was given, or nothing has changed. `named 0` is the place of the index's lifetime in the
 -- signature
-abbrev pub PassesPlain : MutBor Doing → Option PlainStep → Fml
+abbrev pub PassesPlain : MutBor Expansion → Option PlainStep → Fml
 PassesPlain expander result =
     let row = the_row (record { mir = named 0; lft = [] }) in
     follows_so row row expander.ghost_name none (λ _ _. ⊤)

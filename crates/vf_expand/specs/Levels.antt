@@ -12,8 +12,8 @@ use Rattle.vf_reader.specs.Programs.{AreSoundFrom}
 use Rattle.font_decode.specs.Fonts.{FontSeen, packet_of}
 use Rattle.font_decode.specs.declared.decoded.Decoded.TheVariants as decoded
 use Rattle.vf_expand.specs.Course.{Current, Known, Place, OnPage}
-use Rattle.vf_expand.specs.Doing.{Packet, Stack, place_in}
-use Rattle.vf_expand.specs.Acts.{HasKey, seen_current}
+use Rattle.vf_expand.specs.Expansion.{Packet, Stack, place_in}
+use Rattle.vf_expand.specs.Effects.{HasKey, seen_current}
 use Rattle.vf_expand.specs.declared.frames.Frame.{Frame}
 
 -- the bytes of a packet of the font that was found

@@ -1,8 +1,8 @@
 pub mod Faults
 pub mod Course
-pub mod Doing
+pub mod Expansion
 pub mod Steps
-pub mod Acts
+pub mod Effects
 pub mod Levels
 pub mod View
 pub mod Members

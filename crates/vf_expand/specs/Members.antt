@@ -10,23 +10,23 @@ use Rattle.vf_expand.specs.Course.{Course, Gives, Asks}
 -- command that it comes from
 pub data Member : Type 0 where
   Flat : FlatCommand → Option Glyph → ℕ → Member
-  Look : FontKey → ℕ → Member
+  LookUp : FontKey → ℕ → Member
 
 -- what is found for a key
 abbrev pub Finding : Type 1
 Finding = FontKey → Decoded → Type 0
 
 -- the members lead from a course to what is left of it, where each look-up finds a font
-abbrev pub Leads : Finding → Course → List Member → Course → Type 0
-Leads Finds from [] to = from ≡ to
-Leads Finds from (Flat f g at ∷ members) to =
-    (rest : Course) × (from ≡ Gives f g at rest) × Leads Finds rest members to
-Leads Finds from (Look k at ∷ members) to =
+abbrev pub Unfolds : Finding → Course → List Member → Course → Type 0
+Unfolds Finds from [] to = from ≡ to
+Unfolds Finds from (Flat f g at ∷ members) to =
+    (rest : Course) × (from ≡ Gives f g at rest) × Unfolds Finds rest members to
+Unfolds Finds from (LookUp k at ∷ members) to =
     (rest : Decoded → Course) × (d : Decoded) × (from ≡ Asks k at rest) × Finds k d
-    × Leads Finds (rest d) members to
+    × Unfolds Finds (rest d) members to
 
 -- the keys that were looked up
 abbrev pub looks_of : List Member → List FontKey
 looks_of [] = []
 looks_of (Flat f g at ∷ members) = looks_of members
-looks_of (Look k at ∷ members) = k ∷ looks_of members
+looks_of (LookUp k at ∷ members) = k ∷ looks_of members

@@ -11,13 +11,13 @@ use Rattle.drift_rules.specs.Position as flat
 use Rattle.page_index.specs.Document.{Reading, font_table}
 use Rattle.page_index.specs.Pages.{eop_at, page_commands}
 use Rattle.pk_runs.specs.declared.glyph.Glyph.{Glyph}
-use Rattle.font_decode.specs.Fonts.{FontSeen, width_of, glyph_at, is_virtual_of, packet_of, local_of, first_local_of}
+use Rattle.font_decode.specs.Fonts.{FontSeen, scaled_width_of, glyph_at, is_virtual_of, packet_of, local_of, first_local_of}
 use Rattle.font_decode.specs.declared.decoded.Decoded.{Decoded}
 use Rattle.font_decode.specs.declared.decoded.Decoded.TheVariants as decoded
 use Rattle.vf_expand.specs.Faults.{PageFaultSeen}
 use Rattle.vf_expand.specs.Faults as fault
-use Rattle.vf_expand.specs.Course.{Course, Gives, Asks, Ends, Stops, Place, OnPage, InPacket, Current, NoFont, Chosen, Known, MOST, MOST_DEEP, dimension, first_font, gap_of, no_font, no_local, number_of, space}
-use Rattle.vf_expand.specs.Members.{Member, Flat, Look}
+use Rattle.vf_expand.specs.Course.{Course, Gives, Asks, Ends, Stops, Place, OnPage, InPacket, Current, NoFont, Chosen, Known, MOST_FLAT, MOST_DEEP, dimension, first_font, gap_of, no_font, no_local, number_of, space}
+use Rattle.vf_expand.specs.Members.{Member, Flat, LookUp}
 
 -- how a list ends: at the page's end, or at its first fault, with the position
 pub data Ending : Type 0 where
@@ -53,16 +53,16 @@ abbrev pub after : List Member → Outcome → Outcome
 after first (Goes members next) = Goes (first ++ members) next
 after first (Faults members f) = Faults (first ++ members) f
 
-abbrev pub followed : Outcome → (Current → Outcome) → Outcome
-followed (Goes members next) others = after members (others next)
-followed (Faults members f) others = Faults members f
+abbrev pub go_on : Outcome → (Current → Outcome) → Outcome
+go_on (Goes members next) others = after members (others next)
+go_on (Faults members f) others = Faults members f
 
 -- ---- virtual characters
 
 -- the commands of a packet, one after another
 abbrev pub of_list : (Current → DviCommand → Outcome) → Current → List DviCommand → Outcome
 of_list one current [] = Goes [] current
-of_list one current (c ∷ commands) = followed (one current c) (λ next. of_list one next commands)
+of_list one current (c ∷ commands) = go_on (one current c) (λ next. of_list one next commands)
 
 -- what the commands of a packet of a font give; None where no packet may stand any deeper
 abbrev pub Packets : Type 0
@@ -74,16 +74,16 @@ leaving None at = Flat flat.Leave None at ∷ []
 leaving (Some width) at = Flat flat.Leave None at ∷ Flat (flat.Advance width) None at ∷ []
 
 -- the font that is current before a packet is so after it
-abbrev pub framed : ℕ → Current → Option ℤ → Outcome → Outcome
-framed at current gap (Goes members last) =
+abbrev pub in_frame : ℕ → Current → Option ℤ → Outcome → Outcome
+in_frame at current gap (Goes members last) =
     Goes (Flat flat.Enter None at ∷ members ++ leaving gap at) current
-framed at current gap (Faults members f) = Faults (Flat flat.Enter None at ∷ members) f
+in_frame at current gap (Faults members f) = Faults (Flat flat.Enter None at ∷ members) f
 
 abbrev pub of_packet : (FontKey → FontSeen → List DviCommand → Outcome) → ℕ → FontKey → FontSeen → ℤ
     → Option ℤ → Option (List ℕ) → Outcome
 of_packet inner at k f c gap None = Faults [] (fault.NoPacket k c)
 of_packet inner at k f c gap (Some text) =
-    framed at (Known k (decoded.Font f)) gap (inner k f (commands_of text))
+    in_frame at (Known k (decoded.Font f)) gap (inner k f (commands_of text))
 
 -- too deep comes before a packet that isn't there
 abbrev pub of_virtual : Packets → ℕ → FontKey → FontSeen → ℤ → Option ℤ → Outcome
@@ -110,13 +110,13 @@ of_width packets at k f c put (Some width) = of_kind packets at k f c width put 
 -- a character of a font
 abbrev pub of_found : Packets → ℕ → FontKey → Decoded → ℤ → Bool → Outcome
 of_found packets at k (decoded.Fault f) c put = Faults [] (fault.Font k f)
-of_found packets at k (decoded.Font f) c put = of_width packets at k f c put (width_of f c)
+of_found packets at k (decoded.Font f) c put = of_width packets at k f c put (scaled_width_of f c)
 
 -- a look-up stands before the first character after its font became current, and nowhere else
 abbrev pub of_character : Fonts → Packets → Place → ℕ → Current → ℤ → Bool → Outcome
 of_character fonts packets place at NoFont c put = Faults [] (no_font place)
 of_character fonts packets place at (Chosen k) c put =
-    after (Look k at ∷ []) (of_found packets at k (fonts k) c put)
+    after (LookUp k at ∷ []) (of_found packets at k (fonts k) c put)
 of_character fonts packets place at (Known k d) c put = of_found packets at k d c put
 
 -- ---- commands
@@ -179,21 +179,22 @@ full_list fonts reading eop current (p ∷ commands) =
     joined p.at (of_command fonts (packets_in fonts MOST_DEEP p.at)
     (OnPage reading) p.at current p.command) (λ next. full_list fonts reading eop next commands)
 
--- ---- at most n flat commands, and the look-ups before them; where more comes, only the page's end may
+-- ---- at most n flat commands, and the look-ups before them; where more comes, only the page's end
+-- may
 
 abbrev pub place : Member → ℕ
 place (Flat f g at) = at
-place (Look k at) = at
+place (LookUp k at) = at
 
-abbrev pub limited : ℕ → List Member → Ending → PageList
-limited zero [] (AtEnd at) = no_more (AtEnd at)
-limited zero [] (AtFault f at) = no_more (AtFault fault.TooLong at)
-limited zero (m ∷ members) ending = no_more (AtFault fault.TooLong (place m))
-limited (suc n) [] ending = no_more ending
-limited (suc n) (Flat f g at ∷ members) ending =
-    before (Flat f g at ∷ []) (limited n members ending)
-limited (suc n) (Look k at ∷ members) ending =
-    before (Look k at ∷ []) (limited (suc n) members ending)
+abbrev pub up_to_limit : ℕ → List Member → Ending → PageList
+up_to_limit zero [] (AtEnd at) = no_more (AtEnd at)
+up_to_limit zero [] (AtFault f at) = no_more (AtFault fault.TooLong at)
+up_to_limit zero (m ∷ members) ending = no_more (AtFault fault.TooLong (place m))
+up_to_limit (suc n) [] ending = no_more ending
+up_to_limit (suc n) (Flat f g at ∷ members) ending =
+    before (Flat f g at ∷ []) (up_to_limit n members ending)
+up_to_limit (suc n) (LookUp k at ∷ members) ending =
+    before (LookUp k at ∷ []) (up_to_limit (suc n) members ending)
 
 -- ---- the list of the page of a document with a number, from 0
 
@@ -201,12 +202,12 @@ abbrev pub list_of : Fonts → Reading → ℕ → PageList
 list_of fonts reading i =
     let full = full_list fonts reading (unwrap_or (eop_at i reading) 0) NoFont
     (page_commands i reading) in
-    limited MOST full.members full.ending
+    up_to_limit MOST_FLAT full.members full.ending
 
 -- ---- what is still to come, where the fonts are given
 
 abbrev pub list_from : Fonts → Course → PageList
 list_from fonts (Gives f g at rest) = before (Flat f g at ∷ []) (list_from fonts rest)
-list_from fonts (Asks k at rest) = before (Look k at ∷ []) (list_from fonts (rest (fonts k)))
+list_from fonts (Asks k at rest) = before (LookUp k at ∷ []) (list_from fonts (rest (fonts k)))
 list_from fonts (Ends at) = no_more (AtEnd at)
 list_from fonts (Stops f at) = no_more (AtFault f at)

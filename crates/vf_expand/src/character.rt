@@ -6,11 +6,11 @@ ghost use Rattle.font_decode.specs.declared.decoded.Decoded.TheVariants as decod
 ghost use Rattle.vf_expand.specs.Course.{first_font, no_font};
 ghost use Rattle.vf_expand.specs.Faults.{seen_fault};
 ghost use Rattle.vf_expand.specs.Course as course;
-ghost use Rattle.vf_expand.specs.Doing.{font_of, glyph_in};
-ghost use Rattle.vf_expand.specs.Acts.{CharacterActs, FitsAct, FoundActs, HasKey, SetsNoPlain, SetsPlain, VirtualActs, seen_current, seen_place};
+ghost use Rattle.vf_expand.specs.Expansion.{font_of, glyph_in};
+ghost use Rattle.vf_expand.specs.Effects.{CharacterHasEffect, EffectFits, FoundHasEffect, HasKey, SetsNoPlain, SetsPlain, VirtualHasEffect, seen_current, seen_place};
 
-use crate::act::{Act, Source};
 use crate::current::Current;
+use crate::effect::{Effect, Source};
 use crate::faults::PageFault;
 use crate::frames::Frame;
 use crate::keys::PageKeys;
@@ -44,19 +44,19 @@ fn virtual_character(
     font: &Font,
     code: i32,
     gap: Option<i64>,
-) -> Result<Act, NoMemory>
+) -> Result<Effect, NoMemory>
     requires byte { (n : ℕ) × (code ≡ pos n) × (n < 256) }
     requires gap { IfSome gap IsNumber }
-    ensures acts { IfOk result (VirtualActs room (arc_value key.now) font.now code gap) }
-    ensures fits { IfOk result FitsAct }
+    ensures has_effect { IfOk result (VirtualHasEffect room (arc_value key.now) font.now code gap) }
+    ensures fits { IfOk result EffectFits }
 {
     if room == 0 {
-        return Ok(Act::Stop(PageFault::Depth(Arc::try_clone(key)?, code)));
+        return Ok(Effect::Stop(PageFault::Depth(Arc::try_clone(key)?, code)));
     }
     if font.packet(code as u32).is_none() {
-        return Ok(Act::Stop(PageFault::NoPacket(Arc::try_clone(key)?, code)));
+        return Ok(Effect::Stop(PageFault::NoPacket(Arc::try_clone(key)?, code)));
     }
-    Ok(Act::Enter(Frame {
+    Ok(Effect::Enter(Frame {
         code: code as u8,
         pos: 0,
         gap,
@@ -73,21 +73,22 @@ fn mark(
     font: &Font,
     code: i32,
     put: bool,
-) -> Result<Act, NoMemory>
-    ensures acts { IfOk result (FoundActs room (arc_value key.now) (decoded.Font font.now) code put) }
-    ensures fits { IfOk result FitsAct }
+) -> Result<Effect, NoMemory>
+    ensures has_effect { IfOk result
+        (FoundHasEffect room (arc_value key.now) (decoded.Font font.now) code put) }
+    ensures fits { IfOk result EffectFits }
 {
     let Some(width) = font.width(code) else {
-        return Ok(Act::Stop(PageFault::NoCharacter(Arc::try_clone(key)?, code)));
+        return Ok(Effect::Stop(PageFault::NoCharacter(Arc::try_clone(key)?, code)));
     };
     if font.is_virtual() {
         let gap = if put { None } else { Some(width) };
         return virtual_character(keys, room, key, font, code, gap);
     }
     if font.glyph(code as u32).is_none() {
-        return Ok(Act::Stop(PageFault::NoGlyph(Arc::try_clone(key)?, code)));
+        return Ok(Effect::Stop(PageFault::NoGlyph(Arc::try_clone(key)?, code)));
     }
-    Ok(Act::Mark(Flat::Char {
+    Ok(Effect::Mark(Flat::Char {
         key: Arc::try_clone(key)?,
         code: code as u8,
         width,
@@ -104,12 +105,13 @@ fn found(
     decoded: &Decoded,
     code: i32,
     put: bool,
-) -> Result<Act, NoMemory>
-    ensures acts { IfOk result (FoundActs room (arc_value key.now) decoded.now code put) }
-    ensures fits { IfOk result FitsAct }
+) -> Result<Effect, NoMemory>
+    ensures has_effect { IfOk result
+        (FoundHasEffect room (arc_value key.now) decoded.now code put) }
+    ensures fits { IfOk result EffectFits }
 {
     match decoded {
-        Decoded::Fault(fault) => Ok(Act::Stop(PageFault::Font(Arc::try_clone(key)?, *fault))),
+        Decoded::Fault(fault) => Ok(Effect::Stop(PageFault::Font(Arc::try_clone(key)?, *fault))),
         Decoded::Font(font) => mark(keys, room, key, font, code, put),
     }
 }
@@ -169,15 +171,15 @@ pub fn character(
     current: &Current,
     code: i32,
     put: bool,
-) -> Result<Act, NoMemory>
+) -> Result<Effect, NoMemory>
     requires { HasKey (seen_current current.now) }
-    ensures acts { IfOk result (CharacterActs (seen_place source.entry) room
+    ensures has_effect { IfOk result (CharacterHasEffect (seen_place source.entry) room
         (seen_current current.now) code put) }
-    ensures fits { IfOk result FitsAct }
+    ensures fits { IfOk result EffectFits }
 {
     match current {
-        Current::NoFont => Ok(Act::Stop(no_font(source)?)),
-        Current::Chosen(key) => Ok(Act::Ask(Arc::try_clone(key)?)),
+        Current::NoFont => Ok(Effect::Stop(no_font(source)?)),
+        Current::Chosen(key) => Ok(Effect::Ask(Arc::try_clone(key)?)),
         Current::Known(key, font) => found(keys, room, key, font, code, put),
     }
 }

@@ -2,7 +2,7 @@
 ghost use Rattle.std.specs.Prelude.{◌≡◌};
 ghost use Rattle.drift_rules.specs.Bounds.{IsSpace};
 ghost use Rattle.vf_expand.specs.Course.{space};
-ghost use Rattle.vf_expand.specs.Acts.{HasKey, seen_current};
+ghost use Rattle.vf_expand.specs.Effects.{HasKey, seen_current};
 
 use font_decode::Decoded;
 use outside::FontKey;

@@ -2,19 +2,19 @@
 ghost use Rattle.std.specs.Prelude.{◌≡◌, ◌<◌, ◌+◌, Some, None, IfOk, IfSome, IsNone, OnErr, MatchOption};
 ghost use Rattle.std.specs.Arc.{arc_value};
 ghost use Rattle.page_index.specs.Document.{pages_begun};
-ghost use Rattle.vf_expand.specs.Course.{course_of, MOST as THE_MOST};
-ghost use Rattle.vf_expand.specs.Doing.{GivesNoPlain, IsAtLook, IsEnded, answered, asks_left, left, marked_font, place_of, steps_left};
+ghost use Rattle.vf_expand.specs.Course.{course_of, MOST_FLAT as THE_MOST};
+ghost use Rattle.vf_expand.specs.Expansion.{GivesNoPlain, IsAtLook, IsEnded, answered, asks_left, left, marked_font, place_of, steps_left};
 ghost use Rattle.vf_expand.specs.Steps.{Fits, Steps};
 ghost use Rattle.drift_rules.specs.Bounds.{IsNumber};
 
-use crate::act::{Act, expanded};
 use crate::character::plain_character;
 use crate::current::Current;
+use crate::effect::{Effect, expanded};
 use crate::faults::PageFault;
 use crate::frames::{Frame, Frames};
 use crate::keys::PageKeys;
+use crate::last_step::LastStep;
 use crate::opened::opened;
-use crate::progress::Progress;
 use crate::sets::set_at;
 use crate::step::{PlainStep, Step};
 use drift_rules::Flat;
@@ -26,7 +26,7 @@ use std::marker::Model;
 use std::mem;
 use std::sync::Arc;
 
-/// How many packets may stand inside one another.
+// How many packets may stand inside one another.
 const MOST_DEEP: usize = 10;
 
 /// A page that is being expanded. The level that is read is the page or a packet; a motion is due
@@ -36,7 +36,7 @@ pub struct Expander<'a> {
     index: &'a Index<'a>,
     bytes: &'a [u8],
     start: usize,
-    progress: Progress,
+    last_step: LastStep,
     due: Option<i64>,
     level: Frame,
     outer: Frames,
@@ -44,15 +44,15 @@ pub struct Expander<'a> {
 }
 
 impl<'a> Model for Expander<'a> {
-    ghost use Rattle.vf_expand.specs.Doing.{Doing};
+    ghost use Rattle.vf_expand.specs.Expansion.{Expansion};
 
-    ghost Value = { Doing };
+    ghost Value = { Expansion };
 
-    ghost use Rattle.vf_expand.specs.View.{seen_expander, IsFine};
+    ghost use Rattle.vf_expand.specs.View.{seen_expander, IsWellFormed};
 
     ghost view = { seen_expander };
 
-    ghost invariant = { IsFine };
+    ghost invariant = { IsWellFormed };
 }
 
 impl<'a> Expander<'a> {
@@ -72,7 +72,7 @@ impl<'a> Expander<'a> {
             index,
             bytes: page.bytes,
             start: page.at,
-            progress: Progress::at_first(page.at),
+            last_step: LastStep::at_first(page.at),
             due: None,
             level: Frame {
                 code: 0,
@@ -92,12 +92,12 @@ impl<'a> Expander<'a> {
         ensures step { Steps self.old result self.new }
         ensures fits { Fits result self.new }
     {
-        if self.progress.budget == 0 {
-            self.progress = self.progress.stopped(self.progress.at);
+        if self.last_step.budget == 0 {
+            self.last_step = self.last_step.stopped(self.last_step.at);
             return Step::Stop(PageFault::TooLong);
         }
         self.due = None;
-        self.progress = self.progress.given(self.progress.at, false);
+        self.last_step = self.last_step.given(self.last_step.at, false);
         Step::Flat(Flat::Advance { width })
     }
 
@@ -110,11 +110,11 @@ impl<'a> Expander<'a> {
         ensures fits { Fits result self.new }
     {
         if self.outer.top().is_none() {
-            self.progress = self.progress.stopped(self.start + self.bytes.len());
+            self.last_step = self.last_step.stopped(self.start + self.bytes.len());
             return Step::End;
         }
-        if self.progress.budget == 0 {
-            self.progress = self.progress.stopped(self.progress.at);
+        if self.last_step.budget == 0 {
+            self.last_step = self.last_step.stopped(self.last_step.at);
             return Step::Stop(PageFault::TooLong);
         }
         let Some(outside) = self.outer.pop() else {
@@ -122,7 +122,7 @@ impl<'a> Expander<'a> {
         };
         self.due = self.level.gap;
         self.level = outside;
-        self.progress = self.progress.given(self.progress.at, false);
+        self.last_step = self.last_step.given(self.last_step.at, false);
         Step::Flat(Flat::Leave)
     }
 
@@ -138,7 +138,7 @@ impl<'a> Expander<'a> {
             self.index,
             self.bytes,
             self.start,
-            self.progress.at,
+            self.last_step.at,
             &self.level,
             &self.outer,
         );
@@ -146,8 +146,8 @@ impl<'a> Expander<'a> {
         if self.level.pos == reading.text.len() {
             return Ok(self.ended());
         }
-        if self.progress.budget == 0 {
-            self.progress = self.progress.stopped(at);
+        if self.last_step.budget == 0 {
+            self.last_step = self.last_step.stopped(at);
             return Ok(Step::Stop(PageFault::TooLong));
         }
         let room = MOST_DEEP - self.outer.len();
@@ -159,33 +159,33 @@ impl<'a> Expander<'a> {
             &self.level.current,
             &command,
         )? {
-            Act::Flat(flat) => {
+            Effect::Flat(flat) => {
                 self.level.pos = end;
-                self.progress = self.progress.given(at, false);
+                self.last_step = self.last_step.given(at, false);
                 Ok(Step::Flat(flat))
             }
-            Act::Mark(flat) => {
+            Effect::Mark(flat) => {
                 self.level.pos = end;
-                self.progress = self.progress.given(at, true);
+                self.last_step = self.last_step.given(at, true);
                 Ok(Step::Flat(flat))
             }
-            Act::Change(key) => {
+            Effect::Change(key) => {
                 self.level.pos = end;
                 self.level.current = Current::Chosen(key);
-                self.progress = self.progress.given(at, false);
+                self.last_step = self.last_step.given(at, false);
                 Ok(Step::Flat(Flat::Skip))
             }
-            Act::Ask(key) => {
-                self.progress = self.progress.stopped(at);
+            Effect::Ask(key) => {
+                self.last_step = self.last_step.stopped(at);
                 Ok(Step::Ask(key))
             }
-            Act::Enter(level) => {
+            Effect::Enter(level) => {
                 self.outer.enter(&mut self.level, level, end)?;
-                self.progress = self.progress.given(at, false);
+                self.last_step = self.last_step.given(at, false);
                 Ok(Step::Flat(Flat::Enter))
             }
-            Act::Stop(fault) => {
-                self.progress = self.progress.stopped(at);
+            Effect::Stop(fault) => {
+                self.last_step = self.last_step.stopped(at);
                 Ok(Step::Stop(fault))
             }
         }
@@ -230,14 +230,14 @@ impl<'a> Expander<'a> {
         ensures fits { IfSome result (λ plain. IsNumber plain.width) }
         ensures none { IsNone result → GivesNoPlain (left self.old) }
     {
-        if self.due.is_some() || self.progress.budget == 0 {
+        if self.due.is_some() || self.last_step.budget == 0 {
             return None;
         }
         let reading = opened(
             self.index,
             self.bytes,
             self.start,
-            self.progress.at,
+            self.last_step.at,
             &self.level,
             &self.outer,
         );
@@ -249,7 +249,7 @@ impl<'a> Expander<'a> {
             return None;
         };
         self.level.pos = end;
-        self.progress = self.progress.given(place, true);
+        self.last_step = self.last_step.given(place, true);
         Some(PlainStep {
             code: code as u8,
             width: found.width,
@@ -281,7 +281,7 @@ impl<'a> Expander<'a> {
         ensures { MatchOption result (marked_font self.now ≡ None)
             (λ font. marked_font self.now ≡ Some (arc_value font.now)) }
     {
-        if !self.progress.marked {
+        if !self.last_step.marked {
             return None;
         }
         match &self.level.current {
@@ -296,6 +296,6 @@ impl<'a> Expander<'a> {
     pub fn at(&self) -> usize
         ensures { result ≡ self.now.at }
     {
-        self.progress.at
+        self.last_step.at
     }
 }

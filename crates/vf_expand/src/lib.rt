@@ -4,16 +4,16 @@
 //! inside one another are a list of at most ten levels; a packet's bytes are read where they stand.
 #![tactic(auto)]
 
-mod act;
 mod character;
 mod current;
+mod effect;
 mod expander;
 mod faults;
 mod frames;
 mod keys;
+mod last_step;
 pub mod laws;
 mod opened;
-mod progress;
 mod sets;
 mod step;
 

@@ -4,12 +4,12 @@ ghost use Rattle.dvi_commands.specs.Reading.{Reads};
 ghost use Rattle.page_index.specs.Document as document;
 ghost use Rattle.page_index.specs.Limits.{LONGEST};
 ghost use Rattle.font_decode.specs.Fonts.{packet_of};
-ghost use Rattle.vf_expand.specs.Doing.{place_in};
-ghost use Rattle.vf_expand.specs.Acts.{seen_current, seen_place};
+ghost use Rattle.vf_expand.specs.Expansion.{place_in};
+ghost use Rattle.vf_expand.specs.Effects.{seen_current, seen_place};
 ghost use Rattle.vf_expand.specs.Levels.{AreLevels, IsVirtual, context_of, place_at, position, text_in, text_of};
 
-use crate::act::Source;
 use crate::current::Current;
+use crate::effect::Source;
 use crate::frames::{Frame, Frames};
 use dvi_commands::Context;
 use font_decode::{Decoded, Font};
@@ -18,7 +18,7 @@ use page_index::Index;
 /// The bytes of a level, what their commands stand in, and the position of the page's own command
 /// that is being expanded.
 #[derive(Clone, Copy)]
-pub struct Reading<'a> {
+pub struct OpenLevel<'a> {
     pub text: &'a [u8],
     pub context: Context,
     pub source: Source<'a>,
@@ -36,7 +36,7 @@ fn text_of(font: &Font, code: u8) -> &[u8]
 }
 
 // A packet of the font that is current outside it.
-fn packet_of(outside: &Frame, code: u8, at: usize) -> Reading
+fn packet_of(outside: &Frame, code: u8, at: usize) -> OpenLevel
     requires { IsVirtual (seen_current outside.now.current) }
     ensures text { result.text.now ≡ text_in (seen_current outside.now.current) code }
     ensures context { result.context ≡ Context.Packet }
@@ -49,7 +49,7 @@ fn packet_of(outside: &Frame, code: u8, at: usize) -> Reading
     };
     let decoded: &Decoded = found;
     match decoded {
-        Decoded::Font(font) => Reading {
+        Decoded::Font(font) => OpenLevel {
             text: text_of(font, code),
             context: Context::Packet,
             source: Source::Packet(key, font),
@@ -68,7 +68,7 @@ pub fn opened<'a>(
     at: usize,
     level: &Frame,
     outer: &'a Frames,
-) -> Reading<'a>
+) -> OpenLevel<'a>
     requires levels { AreLevels bytes.now level.now outer.now }
     requires room { start + length bytes.now ≤ LONGEST }
     ensures text { result.text.now ≡ text_of bytes.now level.now outer.now }
@@ -80,7 +80,7 @@ pub fn opened<'a>(
 {
     match outer.top() {
         Some(outside) => packet_of(outside, level.code, at),
-        None => Reading {
+        None => OpenLevel {
             text: bytes,
             context: Context::Page,
             source: Source::Page(index),

@@ -5,7 +5,7 @@ ghost use Rattle.vf_expand.specs.Sets.{IsSetTo, SetsNothing};
 
 use dvi_commands::{Command, Context, command_at};
 
-/// The last opcode of a character that is set.
+// The last opcode of a character that is set.
 const LAST_SET: u8 = 131;
 
 /// The code of the character that is set at a place of whole commands, and the place after its

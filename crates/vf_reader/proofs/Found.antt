@@ -9,34 +9,12 @@ use Rattle.std.specs.Ordering.{int_cmp, is_eq, ordering_reverse}
 use Rattle.std.proofs.lemmas.Bool.{cases_Bool, true≢false}
 use Rattle.std.proofs.lemmas.Cmp.{int_cmp_total}
 use Rattle.big_endian.specs.Numbers.{int_eq}
+use Rattle.big_endian.proofs.Integers.{int_eq_same, int_eq_refl, equal_is, own_tie}
 use Rattle.vf_reader.specs.Locals.{local_with}
 use Rattle.vf_reader.specs.Places.{ArePlaces, place_of}
 use Rattle.vf_reader.specs.declared.locals.LocalDef.{LocalDef}
 
 -- ---- two tests of a number are one
-
-int_eq_same : (a b : ℤ) → int_eq a b ≡ true → a ≡ b
-int_eq_same (pos m) (pos n) h = ap pos (eqb-true m n h)
-int_eq_same (negsuc m) (negsuc n) h = ap negsuc (eqb-true m n h)
-int_eq_same (pos m) (negsuc n) h = cc
-int_eq_same (negsuc m) (pos n) h = cc
-
-nat_same : (m : ℕ) → (m == m) ≡ true
-nat_same m = grind arith
-
-int_eq_refl : (a : ℤ) → int_eq a a ≡ true
-int_eq_refl (pos m) = nat_same m
-int_eq_refl (negsuc m) = nat_same m
-
-equal_is : (o : Ordering) → is_eq o ≡ true → o ≡ Equal
-equal_is Less h = cc
-equal_is Equal h = refl
-equal_is Greater h = cc
-
-own_tie : (o : Ordering) → o ≡ ordering_reverse o → is_eq o ≡ true
-own_tie Less h = cc
-own_tie Equal h = refl
-own_tie Greater h = cc
 
 tie : (a b : ℤ) → a ≡ b → is_eq (int_cmp a b) ≡ true
 tie a b e = ap (λ (x : ℤ). is_eq (int_cmp x b)) e ∙ own_tie (int_cmp b b) (int_cmp_total.antisymm b b)

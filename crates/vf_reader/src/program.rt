@@ -54,7 +54,7 @@ fn depth_after(code: u32, depth: usize, command: &Command) -> Result<usize, VfFa
 }
 
 /// Judges the commands of a character's packet, from the left.
-pub fn judge(code: u32, bytes: &[u8]) -> Result<(), VfFault>
+pub fn judge_program(code: u32, bytes: &[u8]) -> Result<(), VfFault>
     ensures sound { OnOk result ((commands : List DviCommand) ×
         AreCommandsOf code bytes.now commands) }
     ensures fault { IfErr result (IsProgramFault code bytes.now) }

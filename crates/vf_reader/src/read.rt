@@ -15,7 +15,7 @@ use crate::locals::{definition, fault_of, local};
 use crate::opcodes::LONG_PACKET;
 use crate::packet_table::{PacketTable, Span};
 use crate::preamble::after_preamble;
-use crate::program::judge;
+use crate::program::judge_program;
 use crate::{VfFont, VfStop};
 use big_endian::unsigned;
 use std::alloc::Global;
@@ -90,7 +90,7 @@ fn add_packet(packets: &mut PacketTable, packet: &[u8], end: usize) -> Result<()
         (λ stop. IfFault stop (IsWholeFault before packet.now)) }
 {
     let (code, start) = head(packet);
-    judge(code, &packet[start..])?;
+    judge_program(code, &packet[start..])?;
     packets.put(
         code,
         Span {

@@ -4,8 +4,9 @@ mod fields;
 mod refusals;
 
 use super::*;
+use std::process::Abort;
 
-/// A whole document of one page with one rule.
+// A whole document of one page with one rule.
 const ONE_RULE: [u8; 112] = [
     247, 2, 0, 0, 4, 246, 0, 0, 0, 3, 0, 0, 3, 232, 0, 139, 0, 0, 0, 1, 0, 0, 0, 0, 0, 0, 0, 0, 0,
     0, 0, 0, 0, 0, 0, 0, 0, 0, 0, 0, 0, 0, 0, 0, 0, 0, 0, 0, 0, 0, 0, 0, 0, 0, 0, 0, 255, 255, 255,
@@ -62,23 +63,21 @@ fn reads_each_command_of_a_document(rt: HostRuntime) {
     assert_eq!(rt; read_command(&ONE_RULE, 99, Context::Post), Ok((end, 105)));
 }
 
-/// Whether each part of a command is too short.
-fn is_short_when_cut(command: &[u8], context: Context) -> bool {
+// Each part of a command is too short.
+fn assert_short_when_cut<R: Abort>(rt: &R, command: &[u8], context: Context) {
     for len in 0..command.len() {
-        if read_command(&command[..len], 0, context) != Err(CommandFault::Short) {
-            return false;
-        }
+        let read = read_command(&command[..len], 0, context);
+        assert_eq!(rt; read, Err(CommandFault::Short), "{len} bytes");
     }
-    true
 }
 
 #[test]
 fn cut_commands_are_short(rt: HostRuntime) {
-    assert!(rt; is_short_when_cut(&ONE_RULE[..15], Context::Start));
-    assert!(rt; is_short_when_cut(&ONE_RULE[15..60], Context::Between));
-    assert!(rt; is_short_when_cut(&ONE_RULE[60..69], Context::Page));
-    assert!(rt; is_short_when_cut(&ONE_RULE[70..99], Context::Between));
-    assert!(rt; is_short_when_cut(&ONE_RULE[99..105], Context::Post));
+    assert_short_when_cut(&rt, &ONE_RULE[..15], Context::Start);
+    assert_short_when_cut(&rt, &ONE_RULE[15..60], Context::Between);
+    assert_short_when_cut(&rt, &ONE_RULE[60..69], Context::Page);
+    assert_short_when_cut(&rt, &ONE_RULE[70..99], Context::Between);
+    assert_short_when_cut(&rt, &ONE_RULE[99..105], Context::Post);
 }
 
 #[test]
@@ -100,7 +99,7 @@ fn reads_the_text_of_a_preamble(rt: HostRuntime) {
     );
 }
 
-/// The motion whose shortest spelling has the opcode.
+// The motion whose shortest spelling has the opcode.
 fn motion(opcode: u8, distance: i32) -> Command<'static> {
     match opcode {
         143 => Command::Right(distance),

@@ -3,7 +3,7 @@
 ghost use Rattle.std.specs.Prelude.{◌≡◌, ◌<◌, ◌≤◌, ◌++◌, ◌∷◌, [], pos, length, slice_index_or, OnErr, OnOk};
 ghost use Rattle.big_endian.specs.Numbers.{IsSigned};
 ghost use Rattle.dvi_commands.specs.ShortestSpelling.{motion_width as least_motion_width, number_width as least_number_width};
-ghost use Rattle.dvi_commands.specs.Spelling.{IsMotion, IsNumber, quad, with_number};
+ghost use Rattle.dvi_commands.specs.Spelling.{IsMotion, IsOperand, quad, with_number};
 
 use super::parts::append;
 use std::alloc::AllocError as NoMemory;
@@ -25,7 +25,7 @@ pub(super) fn quad_at(numbers: &[i32], place: usize) -> [u8; 4]
     quad_bytes(numbers[place])
 }
 
-/// The least number of bytes, from 1 to 4, that holds the number of a motion signed.
+// The least number of bytes, from 1 to 4, that holds the number of a motion signed.
 fn motion_width(by: i32) -> usize
     ensures least { result ≡ least_motion_width by }
     ensures fits { IsMotion result by }
@@ -42,7 +42,7 @@ fn motion_width(by: i32) -> usize
 /// unsigned, or 4.
 pub(super) fn number_width(number: i32) -> usize
     ensures least { result ≡ least_number_width number }
-    ensures fits { IsNumber result number }
+    ensures fits { IsOperand result number }
 {
     match number {
         0..=0xff => 1,
@@ -83,7 +83,7 @@ pub(super) fn append_number(out: &mut Vec<u8>, before: u8, number: i32) -> Resul
     ensures appended { OnOk result (out.new.items ≡ out.old.items ++ with_number before
         (least_number_width number) number) }
     ensures unchanged { OnErr result (out.new.items ≡ out.old.items) }
-    ensures fits { IsNumber (least_number_width number) number }
+    ensures fits { IsOperand (least_number_width number) number }
 {
     let width = number_width(number);
     append(

@@ -5,7 +5,7 @@ ghost use Rattle.dvi_commands.specs.Writing.{joined};
 
 use std::alloc::AllocError as NoMemory;
 
-/// How many bytes the parts have.
+// How many bytes the parts have.
 fn total_length(parts: &[&[u8]]) -> usize
     requires { length (joined parts.now) < 2 ^ 64 }
     ensures { result ≡ length (joined parts.now) }

@@ -2,13 +2,12 @@
 
 use super::files::{CORNER_PK, DOT_TFM, character, dot, dot_and_bar, font, library, packed};
 use super::pages::{DOT, TWO};
-use super::{document, ends_on, on};
+use super::{assert_ends_on, document, on};
 use outside::{MemFonts, SureFonts};
 use page_draw::Sheet;
-use std::process::Abort;
 use std::test::Fail;
 
-/// Two rows of eight dots, one dot below the margin.
+// Two rows of eight dots, one dot below the margin.
 const SMALL: Sheet = Sheet {
     width: 8,
     height: 2,
@@ -23,18 +22,16 @@ fn ends_at_the_first_page_without_a_character(rt: HostRuntime) -> Result<(), Fai
     let bytes = document(alloc, &DOT, &pages)?;
     let line = b"dvipbm: page 2 at 128: no character 66 in dot 128 128\n";
     let source = SureFonts::new(dot(alloc)?);
-    assert!(rt;
-        ends_on(
-            &rt,
-            rt.alloc(),
-            &on(SMALL),
-            &bytes,
-            source,
-            3,
-            b"P4\n8 2\n\xc0\xc0",
-            line
-        )?
-    );
+    assert_ends_on(
+        &rt,
+        rt.alloc(),
+        &on(SMALL),
+        &bytes,
+        source,
+        3,
+        b"P4\n8 2\n\xc0\xc0",
+        line,
+    )?;
     Ok(())
 }
 
@@ -44,7 +41,7 @@ fn ends_at_a_font_without_files(rt: HostRuntime) -> Result<(), Fail> {
     let bytes = character(alloc, b"none", 128, 128)?;
     let line = b"dvipbm: page 1 at 81: font none 128 128: missing tfm\n";
     let source = SureFonts::new(dot(alloc)?);
-    assert!(rt; ends_on(&rt, rt.alloc(), &on(SMALL), &bytes, source, 4, b"", line)?);
+    assert_ends_on(&rt, rt.alloc(), &on(SMALL), &bytes, source, 4, b"", line)?;
     Ok(())
 }
 
@@ -66,18 +63,16 @@ fn holds_the_drift_of_small_motions(rt: HostRuntime) -> Result<(), Fail> {
         left: 0,
         top: 0,
     };
-    assert!(rt;
-        ends_on(
-            &rt,
-            rt.alloc(),
-            &on(sheet),
-            &bytes,
-            source,
-            0,
-            b"P4\n8 1\n\x7c",
-            b""
-        )?
-    );
+    assert_ends_on(
+        &rt,
+        rt.alloc(),
+        &on(sheet),
+        &bytes,
+        source,
+        0,
+        b"P4\n8 1\n\x7c",
+        b"",
+    )?;
     Ok(())
 }
 
@@ -94,18 +89,16 @@ fn cuts_a_glyph_off_at_two_edges(rt: HostRuntime) -> Result<(), Fail> {
         top: 0,
     };
     let text = b"P4\n8 4\n\xc0\xc0\x00\x00";
-    assert!(rt;
-        ends_on(
-            &rt,
-            rt.alloc(),
-            &on(sheet),
-            &bytes,
-            SureFonts::new(files),
-            0,
-            text,
-            b""
-        )?
-    );
+    assert_ends_on(
+        &rt,
+        rt.alloc(),
+        &on(sheet),
+        &bytes,
+        SureFonts::new(files),
+        0,
+        text,
+        b"",
+    )?;
     Ok(())
 }
 
@@ -118,27 +111,25 @@ fn ends_where_the_source_fails(rt: HostRuntime) -> Result<(), Fail> {
     for load in 1..4 {
         let source = MemFonts::new(dot_and_bar(alloc)?, Vec::from_slice(alloc, &[load])?);
         let line = b"dvipbm: page 1: font source failed\n";
-        assert!(rt; ends_on(&rt, rt.alloc(), &on(SMALL), &bytes, source, 5, b"", line)?);
+        assert_ends_on(&rt, rt.alloc(), &on(SMALL), &bytes, source, 5, b"", line)?;
     }
     for load in 4..7 {
         let source = MemFonts::new(dot_and_bar(alloc)?, Vec::from_slice(alloc, &[load])?);
         let line = b"dvipbm: page 2: font source failed\n";
-        assert!(rt;
-            ends_on(
-                &rt,
-                rt.alloc(),
-                &on(SMALL),
-                &bytes,
-                source,
-                5,
-                b"P4\n8 2\n\xc0\xc0",
-                line
-            )?
-        );
+        assert_ends_on(
+            &rt,
+            rt.alloc(),
+            &on(SMALL),
+            &bytes,
+            source,
+            5,
+            b"P4\n8 2\n\xc0\xc0",
+            line,
+        )?;
     }
     let source = MemFonts::new(dot_and_bar(alloc)?, Vec::from_slice(alloc, &[7])?);
     let text = b"P4\n8 2\n\xc0\xc0P4\n8 2\n\xc0\xc0";
-    assert!(rt; ends_on(&rt, rt.alloc(), &on(SMALL), &bytes, source, 0, text, b"")?);
+    assert_ends_on(&rt, rt.alloc(), &on(SMALL), &bytes, source, 0, text, b"")?;
     Ok(())
 }
 
@@ -160,24 +151,22 @@ fn names_the_character_that_fails(rt: HostRuntime) -> Result<(), Fail> {
     for (page, line) in faults {
         let bytes = document(alloc, &DOT, &[page])?;
         let source = SureFonts::new(dot(alloc)?);
-        assert!(rt; ends_on(&rt, rt.alloc(), &on(SMALL), &bytes, source, 3, b"", line)?);
+        assert_ends_on(&rt, rt.alloc(), &on(SMALL), &bytes, source, 3, b"", line)?;
     }
     // A PK file without characters.
     let pk = packed(alloc, &[0xf5])?;
     let files = library(alloc, &[(b"dot.tfm", &DOT_TFM), (b"dot.300pk", &pk)])?;
     let bytes = document(alloc, &DOT, &[&[0xab, 0x85, 0x41]])?;
     let line = b"dvipbm: page 1 at 80: no glyph 65 in dot 128 128\n";
-    assert!(rt;
-        ends_on(
-            &rt,
-            rt.alloc(),
-            &on(SMALL),
-            &bytes,
-            SureFonts::new(files),
-            3,
-            b"",
-            line
-        )?
-    );
+    assert_ends_on(
+        &rt,
+        rt.alloc(),
+        &on(SMALL),
+        &bytes,
+        SureFonts::new(files),
+        3,
+        b"",
+        line,
+    )?;
     Ok(())
 }

@@ -22,7 +22,7 @@ fn rows_of(alloc: Global, page: &Page) -> Result<Vec<u8>, Fail> {
     Ok(rows)
 }
 
-/// What a page over a desk came to: its rows, or none.
+// What a page over a desk came to: its rows, or none.
 fn rows_over<R: Wait>(rt: &R, alloc: Global, cached: bool) -> Result<Option<Vec<u8>>, Fail> {
     let page: &[u8] = &[0xab, 0x41, 0xac, 0x41, 0xab, 0x41];
     let bytes = document(alloc, &TWO, &[page])?;

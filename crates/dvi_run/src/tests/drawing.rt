@@ -1,7 +1,6 @@
 //! What a page's commands blacken.
 
-use super::draws;
-use std::process::Abort;
+use super::assert_draws;
 use std::test::Fail;
 
 /// A put rule of height 2 and width 2: one dot, at hh and vv.
@@ -66,7 +65,7 @@ fn moves_by_every_command(rt: HostRuntime) -> Result<(), Fail> {
         (427, 383),
         (428, 383),
     ];
-    assert!(rt; draws(&rt, rt.alloc(), &page, &dots)?);
+    assert_draws(&rt, rt.alloc(), &page, &dots)?;
     Ok(())
 }
 
@@ -105,7 +104,7 @@ fn cuts_rules_off_at_the_edges(rt: HostRuntime) -> Result<(), Fail> {
         (300, 3299),
         (304, 3299),
     ];
-    assert!(rt; draws(&rt, rt.alloc(), &page, &dots)?);
+    assert_draws(&rt, rt.alloc(), &page, &dots)?;
     Ok(())
 }
 
@@ -129,7 +128,7 @@ fn holds_the_drift_at_two_dots(rt: HostRuntime) -> Result<(), Fail> {
         (305, 300),
         (305, 299),
     ];
-    assert!(rt; draws(&rt, rt.alloc(), &page, &dots)?);
+    assert_draws(&rt, rt.alloc(), &page, &dots)?;
     Ok(())
 }
 
@@ -141,6 +140,6 @@ fn restores_what_was_saved(rt: HostRuntime) -> Result<(), Fail> {
     page.extend_from_slice(&dot!())?;
     page.push(0x8e)?;
     page.extend_from_slice(&dot!())?;
-    assert!(rt; draws(&rt, rt.alloc(), &page, &[(310, 300), (305, 300)])?);
+    assert_draws(&rt, rt.alloc(), &page, &[(310, 300), (305, 300)])?;
     Ok(())
 }

@@ -1,9 +1,7 @@
 //! The calls of a cache, by runs over virtual fonts.
 
-use super::crews::pages_drawn;
-use super::machine::Machine;
-use super::virtual_files::{duo, duo_as, others, ping_and_pong};
-use super::virtual_runs::{Case, expected, run};
+use super::virtual_files::{duo, others, ping_and_pong};
+use super::virtual_runs::{Came, Case, expected, run};
 use cache_core::{Act, Entry};
 use outside::FontKey;
 use page_draw::Sheet;
@@ -11,21 +9,21 @@ use std::alloc::Global;
 use std::process::Abort;
 use std::test::Fail;
 
-/// Eight rows of 16 dots, the last one on the base line.
-const SHEET: Sheet = Sheet {
+// Eight rows of 16 dots, the last one on the base line.
+pub const SHEET: Sheet = Sheet {
     width: 16,
     height: 8,
     left: 0,
     top: 7,
 };
 
-/// Font 0, and its character 65 twice: `dot` and `bar`, and once more.
-static TWICE: [u8; 3] = [0xab, 0x41, 0x41];
+// Font 0, and its character 65 twice: `dot` and `bar`, and once more.
+pub static TWICE: [u8; 3] = [0xab, 0x41, 0x41];
 
-/// What is written of it. The last column of the second `bar` is cut off.
-static TWICE_TEXT: [u8; 24] = *b"P4\n16 8\n\0\0\0\0\0\0\0\0\x0a\x02\x0a\x02\xca\x32\xce\x33";
+// What is written of it. The last column of the second `bar` is cut off.
+pub static TWICE_TEXT: [u8; 24] = *b"P4\n16 8\n\0\0\0\0\0\0\0\0\x0a\x02\x0a\x02\xca\x32\xce\x33";
 
-/// What a call did.
+// What a call did.
 #[derive(Clone, Copy, Debug, PartialEq, Eq)]
 enum Did {
     Hit,
@@ -35,7 +33,7 @@ enum Did {
     Released,
 }
 
-/// A call: its seat, the name of its key, what it did, and the name of the key that left.
+// A call: its seat, the name of its key, what it did, and the name of the key that left.
 #[derive(Debug, PartialEq, Eq, Drop)]
 struct Call {
     seat: u32,
@@ -92,6 +90,30 @@ fn calls(alloc: Global, list: &[(&str, Did, Option<&str>)]) -> Result<Vec<Call>,
     Ok(calls)
 }
 
+// The calls of a history are these, of seat 1.
+fn assert_called(
+    rt: &impl Abort,
+    alloc: Global,
+    history: &[Entry],
+    wanted: &[(&str, Did, Option<&str>)],
+) -> Result<(), Fail> {
+    assert_eq!(rt; calls_of(alloc, history)?, calls(alloc, wanted)?);
+    Ok(())
+}
+
+// A run came to this.
+pub fn assert_came(
+    rt: &impl Abort,
+    alloc: Global,
+    came: &Came,
+    status: u8,
+    written: &[u8],
+    line: &str,
+) -> Result<(), Fail> {
+    assert_eq!(rt; *came, expected(alloc, status, written, line)?);
+    Ok(())
+}
+
 #[test]
 fn a_font_that_sets_itself_is_found_ten_times(rt: HostRuntime) -> Result<(), Fail> {
     let alloc = rt.alloc();
@@ -101,7 +123,7 @@ fn a_font_that_sets_itself_is_found_ten_times(rt: HostRuntime) -> Result<(), Fai
     let mut wanted = [("loop", Did::Hit, None); 12];
     wanted[0].1 = Did::Claimed;
     wanted[1].1 = Did::Filled;
-    assert_eq!(rt; calls_of(alloc, &ran.history)?, calls(alloc, &wanted)?);
+    assert_called(&rt, alloc, &ran.history, &wanted)?;
     Ok(())
 }
 
@@ -126,7 +148,7 @@ fn two_fonts_that_set_each_other_are_found_nine_times(rt: HostRuntime) -> Result
         ("pong", Did::Hit, None),
         ("ping", Did::Hit, None),
     ];
-    assert_eq!(rt; calls_of(alloc, &ran.history)?, calls(alloc, &wanted)?);
+    assert_called(&rt, alloc, &ran.history, &wanted)?;
     Ok(())
 }
 
@@ -151,8 +173,8 @@ fn a_cache_of_one_font_loads_those_of_a_packet_again(rt: HostRuntime) -> Result<
         ("bar", Did::Claimed, None),
         ("bar", Did::Filled, Some("dot")),
     ];
-    assert_eq!(rt; calls_of(alloc, &ran.history)?, calls(alloc, &wanted)?);
-    assert_eq!(rt; ran.came, expected(alloc, 0, &TWICE_TEXT, "")?);
+    assert_called(&rt, alloc, &ran.history, &wanted)?;
+    assert_came(&rt, alloc, &ran.came, 0, &TWICE_TEXT, "")?;
     // Two files of `duo`; three names for each of the others, which have no VF file.
     assert_eq!(rt; ran.loads, 14);
     Ok(())
@@ -177,14 +199,14 @@ fn a_cache_of_three_fonts_finds_those_of_a_packet(rt: HostRuntime) -> Result<(),
         ("dot", Did::Hit, None),
         ("bar", Did::Hit, None),
     ];
-    assert_eq!(rt; calls_of(alloc, &ran.history)?, calls(alloc, &wanted)?);
+    assert_called(&rt, alloc, &ran.history, &wanted)?;
     assert_eq!(rt; ran.loads, 8);
     Ok(())
 }
 
-// A claim ends with the load that fails, and what was loaded is kept where it shows a fault.
+// A claim ends with the load that fails.
 #[test]
-fn a_failed_load_releases_and_a_fault_fills(rt: HostRuntime) -> Result<(), Fail> {
+fn a_failed_load_releases(rt: HostRuntime) -> Result<(), Fail> {
     let alloc = rt.alloc();
     let pages: [&[u8]; 1] = [&TWICE];
     let case = Case {
@@ -193,93 +215,20 @@ fn a_failed_load_releases_and_a_fault_fills(rt: HostRuntime) -> Result<(), Fail>
     };
     let ran = run(&rt, alloc, &duo(alloc)?, &case)?;
     let wanted = [("duo", Did::Claimed, None), ("duo", Did::Released, None)];
-    assert_eq!(rt; calls_of(alloc, &ran.history)?, calls(alloc, &wanted)?);
-    let line = "page 1: font source failed";
-    assert_eq!(rt; ran.came, expected(alloc, 5, b"", line)?);
-    let pages: [&[u8]; 1] = [&[0xab, 0x41]];
-    let ran = run(&rt, alloc, &duo(alloc)?, &Case::new(b"none", &pages, SHEET))?;
-    let wanted = [("none", Did::Claimed, None), ("none", Did::Filled, None)];
-    assert_eq!(rt; calls_of(alloc, &ran.history)?, calls(alloc, &wanted)?);
-    let line = "page 1 at 81: font none 128 128: missing tfm";
-    assert_eq!(rt; ran.came, expected(alloc, 4, b"", line)?);
+    assert_called(&rt, alloc, &ran.history, &wanted)?;
+    assert_came(&rt, alloc, &ran.came, 5, b"", "page 1: font source failed")?;
     Ok(())
 }
 
-// Whether a call looked a font up, and whether it found none.
-fn look(entry: &Entry) -> (bool, bool) {
-    match &entry.act {
-        Act::Hit => (true, false),
-        Act::Claimed | Act::Busy => (true, true),
-        Act::Filled { .. } | Act::Released => (false, false),
-    }
-}
-
-// The first letter of the font of a call.
-fn letter(entry: &Entry) -> u8 {
-    entry.key.name.bytes().first().copied().unwrap_or(0)
-}
-
-// The loads that a call led to: the two files of a virtual font, or the three names of another one.
-fn loads(entry: &Entry) -> u64 {
-    match look(entry) {
-        (_, false) => 0,
-        (_, true) if letter(entry) == b'p' => 2,
-        (_, true) => 3,
-    }
-}
-
-// The first letters of the fonts that a seat looked up, in order.
-fn looks_of(alloc: Global, history: &[Entry], seat: u32) -> Result<Vec<u8>, Fail> {
-    let mut letters = Vec::new(alloc);
-    for entry in history {
-        if entry.seat == seat && look(entry).0 {
-            letters.push(letter(entry))?;
-        }
-    }
-    Ok(letters)
-}
-
-// The first letters of the fonts that n pages look up.
-fn looks_for(alloc: Global, pages: usize) -> Result<Vec<u8>, Fail> {
-    let mut letters = Vec::new(alloc);
-    for _ in 0..pages {
-        letters.extend_from_slice(b"pdbdb")?;
-    }
-    Ok(letters)
-}
-
-// The files of `duo` stand here under the name `pair`: the machine knows a font by its first
-// letter.
+// What was loaded is kept where it shows a fault.
 #[test]
-fn two_workers_make_the_calls_of_the_machine(rt: HostRuntime) -> Result<(), Fail> {
+fn a_fault_fills(rt: HostRuntime) -> Result<(), Fail> {
     let alloc = rt.alloc();
-    let files = duo_as(alloc, b"pair")?;
-    let pages: [&[u8]; 13] = [&TWICE; 13];
-    let mut written = Vec::new(alloc);
-    for _ in 0..13 {
-        written.extend_from_slice(&TWICE_TEXT)?;
-    }
-    for cache in [1u32, 2, 3] {
-        let case = Case {
-            cache,
-            workers: 2,
-            ..Case::new(b"pair", &pages, SHEET)
-        };
-        let ran = run(&rt, alloc, &files, &case)?;
-        assert_eq!(rt; ran.came, expected(alloc, 0, &written, "")?);
-        let mut machine = Machine::new(alloc, cache as usize);
-        let mut loaded = 0u64;
-        for entry in &ran.history {
-            assert!(rt; machine.takes(entry)?, "room for {cache}");
-            loaded = loads(entry).saturating_add(loaded);
-        }
-        assert_eq!(rt; ran.loads, loaded);
-        assert_eq!(rt; pages_drawn(alloc, &ran.drawn)?, 13);
-        // Whoever draws a page makes its look-ups.
-        for (seat, pages) in [1u32, 2].iter().zip(&ran.drawn) {
-            let looks = looks_of(alloc, &ran.history, *seat)?;
-            assert_eq!(rt; looks, looks_for(alloc, pages.len())?);
-        }
-    }
+    let pages: [&[u8]; 1] = [&[0xab, 0x41]];
+    let ran = run(&rt, alloc, &duo(alloc)?, &Case::new(b"none", &pages, SHEET))?;
+    let wanted = [("none", Did::Claimed, None), ("none", Did::Filled, None)];
+    assert_called(&rt, alloc, &ran.history, &wanted)?;
+    let line = "page 1 at 81: font none 128 128: missing tfm";
+    assert_came(&rt, alloc, &ran.came, 4, b"", line)?;
     Ok(())
 }

@@ -1,6 +1,6 @@
 //! Files that are no documents, and the lines of all endings.
 
-use super::{PUT_RULE, PUT_RULE_DOTS, document, ends, is_refused, page_text};
+use super::{PUT_RULE, PUT_RULE_DOTS, assert_ends, assert_refused, document, page_text};
 use crate::ending::Ending;
 use crate::report::tell;
 use drift_rules::PenFault;
@@ -30,40 +30,37 @@ fn tells_where_a_document_is_cut_off(rt: HostRuntime) -> Result<(), Fail> {
     let alloc = rt.alloc();
     for n in 0..109 {
         let line = format!(in alloc; "dvipbm: document: truncated at {n}\n")?;
-        assert!(rt; is_refused(&rt, rt.alloc(), &PUT_RULE[..n], line.as_bytes())?);
+        assert_refused(&rt, rt.alloc(), &PUT_RULE[..n], line.as_bytes())?;
     }
     let text = page_text(alloc, &PUT_RULE_DOTS)?;
     for n in 109..112 {
-        assert!(rt;
-            ends(
-                &rt,
-                rt.alloc(),
-                &PUT_RULE[..n],
-                (64, 65536),
-                (&[], &[]),
-                0,
-                &text,
-                b""
-            )?
-        );
+        assert_ends(
+            &rt,
+            rt.alloc(),
+            &PUT_RULE[..n],
+            (64, 65536),
+            (&[], &[]),
+            0,
+            &text,
+            b"",
+        )?;
     }
     Ok(())
 }
 
-// Whether the put rule's document with some bytes changed from a place on is refused with this
-// line.
-fn is_refused_with<R: Threads + Wait + Sync>(
+// The put rule's document with some bytes changed from a place on is refused with this line.
+fn assert_refused_with<R: Abort + Threads + Wait + Sync>(
     rt: &R,
     alloc: Global,
     at: usize,
     new: &[u8],
     line: &[u8],
-) -> Result<bool, Fail> {
+) -> Result<(), Fail> {
     let mut bytes = Vec::from_slice(alloc, &PUT_RULE)?;
     for (byte, new) in bytes.iter_mut().skip(at).zip(new) {
         *byte = *new;
     }
-    is_refused(rt, alloc, &bytes, line)
+    assert_refused(rt, alloc, &bytes, line)
 }
 
 #[test]
@@ -117,9 +114,9 @@ fn tells_which_byte_is_wrong(rt: HostRuntime) -> Result<(), Fail> {
         ),
     ];
     for (at, new, line) in wrong {
-        assert!(rt; is_refused_with(&rt, rt.alloc(), at, new, line)?, "at {at}");
+        assert_refused_with(&rt, rt.alloc(), at, new, line)?;
     }
-    assert!(rt; is_refused(&rt, rt.alloc(), b"", b"dvipbm: document: truncated at 0\n")?);
+    assert_refused(&rt, rt.alloc(), b"", b"dvipbm: document: truncated at 0\n")?;
     Ok(())
 }
 
@@ -129,23 +126,19 @@ fn tells_which_font_is_wrong(rt: HostRuntime) -> Result<(), Fail> {
     let mut fonts = Vec::from_slice(alloc, &font!(128, 128, 0x61))?;
     fonts.extend_from_slice(&font!(128, 128, 0x62))?;
     let bytes = document(alloc, &fonts, &[])?;
-    assert!(rt;
-        is_refused(
-            &rt,
-            rt.alloc(),
-            &bytes,
-            b"dvipbm: document: font clash -1 at 35\n"
-        )?
-    );
+    assert_refused(
+        &rt,
+        rt.alloc(),
+        &bytes,
+        b"dvipbm: document: font clash -1 at 35\n",
+    )?;
     let bytes = document(alloc, &font!(128, 0, 0x61), &[])?;
-    assert!(rt;
-        is_refused(
-            &rt,
-            rt.alloc(),
-            &bytes,
-            b"dvipbm: document: font definition -1 at 15\n"
-        )?
-    );
+    assert_refused(
+        &rt,
+        rt.alloc(),
+        &bytes,
+        b"dvipbm: document: font definition -1 at 15\n",
+    )?;
     Ok(())
 }
 
@@ -154,18 +147,16 @@ fn refuses_too_many_bytes(rt: HostRuntime) -> Result<(), Fail> {
     let alloc = rt.alloc();
     let bytes = vec![in alloc; 0u8; 67_108_865]?;
     let line = b"dvipbm: document: too long at 67108864\n";
-    assert!(rt;
-        ends(
-            &rt,
-            rt.alloc(),
-            &bytes,
-            (8_000_000, 64),
-            (&[], &[]),
-            2,
-            b"",
-            line
-        )?
-    );
+    assert_ends(
+        &rt,
+        rt.alloc(),
+        &bytes,
+        (8_000_000, 64),
+        (&[], &[]),
+        2,
+        b"",
+        line,
+    )?;
     Ok(())
 }
 

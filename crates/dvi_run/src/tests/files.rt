@@ -15,7 +15,7 @@ pub static DOT_TFM: [u8; 56] = [
     0, 0, 0, 0, 0, 0, 0, 0, 0, 0, 0, 0,
 ];
 
-/// The preamble of a PK file.
+// The preamble of a PK file.
 static PK_PREFIX: [u8; 19] = [
     0xf7, 0x59, 0, 0, 0xa0, 0, 0, 0, 0, 0, 0, 0, 4, 0x26, 0xae, 0, 4, 0x26, 0xae,
 ];

@@ -1,7 +1,7 @@
 //! What is wrong with a font's files, each once through a run.
 
 use super::files::{DOT_PK, DOT_TFM, changed, character, dot, library, packed};
-use super::{ends_on, on};
+use super::{assert_ends_on, on};
 use outside::{Library, SureFonts};
 use page_draw::Sheet;
 use std::alloc::Global;
@@ -17,18 +17,18 @@ const SHEET: Sheet = Sheet {
     top: 1,
 };
 
-// Whether a page with a character of a font, with these sizes and files, ends the run with status 4
-// and this line.
-fn fails<R: Threads + Wait + Sync>(
+// A page with a character of a font, with these sizes and files, ends the run with status 4 and
+// this line.
+fn assert_fails<R: Abort + Threads + Wait + Sync>(
     rt: &R,
     alloc: Global,
     name: &[u8],
     sizes: (u32, u32),
     files: Arc<Library>,
     line: &[u8],
-) -> Result<bool, Fail> {
+) -> Result<(), Fail> {
     let bytes = character(alloc, name, sizes.0, sizes.1)?;
-    ends_on(
+    assert_ends_on(
         rt,
         alloc,
         &on(SHEET),
@@ -40,41 +40,39 @@ fn fails<R: Threads + Wait + Sync>(
     )
 }
 
-// Whether a font `dot` with this TFM file ends the run with this line.
-fn fails_by_tfm<R: Threads + Wait + Sync>(
+// A font `dot` with this TFM file ends the run with this line.
+fn assert_fails_by_tfm<R: Abort + Threads + Wait + Sync>(
     rt: &R,
     alloc: Global,
     tfm: &[u8],
     line: &[u8],
-) -> Result<bool, Fail> {
+) -> Result<(), Fail> {
     let files = library(alloc, &[(b"dot.tfm", tfm)])?;
-    fails(rt, alloc, b"dot", (128, 128), files, line)
+    assert_fails(rt, alloc, b"dot", (128, 128), files, line)
 }
 
-// Whether a font `dot` with this PK file ends the run with this line.
-fn fails_by_pk<R: Threads + Wait + Sync>(
+// A font `dot` with this PK file ends the run with this line.
+fn assert_fails_by_pk<R: Abort + Threads + Wait + Sync>(
     rt: &R,
     alloc: Global,
     pk: &[u8],
     line: &[u8],
-) -> Result<bool, Fail> {
+) -> Result<(), Fail> {
     let files: [(&[u8], &[u8]); 2] = [(b"dot.tfm", &DOT_TFM), (b"dot.300pk", pk)];
-    fails(rt, alloc, b"dot", (128, 128), library(alloc, &files)?, line)
+    assert_fails(rt, alloc, b"dot", (128, 128), library(alloc, &files)?, line)
 }
 
 #[test]
 fn a_name_that_is_not_looked_for(rt: HostRuntime) -> Result<(), Fail> {
     let line = b"dvipbm: page 1 at 82: font ~???! 128 12: name\n";
-    assert!(rt;
-        fails(
-            &rt,
-            rt.alloc(),
-            b"~\x7f \xff!",
-            (128, 12),
-            dot(rt.alloc())?,
-            line
-        )?
-    );
+    assert_fails(
+        &rt,
+        rt.alloc(),
+        b"~\x7f \xff!",
+        (128, 12),
+        dot(rt.alloc())?,
+        line,
+    )?;
     Ok(())
 }
 
@@ -82,15 +80,15 @@ fn a_name_that_is_not_looked_for(rt: HostRuntime) -> Result<(), Fail> {
 fn files_that_are_not_there(rt: HostRuntime) -> Result<(), Fail> {
     let alloc = rt.alloc();
     let line = b"dvipbm: page 1 at 79: font no 128 128: missing tfm\n";
-    assert!(rt; fails(&rt, rt.alloc(), b"no", (128, 128), dot(alloc)?, line)?);
+    assert_fails(&rt, rt.alloc(), b"no", (128, 128), dot(alloc)?, line)?;
     let line = b"dvipbm: page 1 at 80: font dot 128 128: missing pk\n";
-    assert!(rt; fails_by_tfm(&rt, rt.alloc(), &DOT_TFM, line)?);
+    assert_fails_by_tfm(&rt, rt.alloc(), &DOT_TFM, line)?;
     // 300 * 1 / 1000 dots to the inch.
     let line = b"dvipbm: page 1 at 80: font dot 1 1000: size\n";
-    assert!(rt; fails(&rt, rt.alloc(), b"dot", (1, 1000), dot(alloc)?, line)?);
+    assert_fails(&rt, rt.alloc(), b"dot", (1, 1000), dot(alloc)?, line)?;
     let files = library(alloc, &[(b"dot.tfm", &DOT_TFM), (b"dot.vf", b"")])?;
     let line = b"dvipbm: page 1 at 80: font dot 128 128: vf short\n";
-    assert!(rt; fails(&rt, rt.alloc(), b"dot", (128, 128), files, line)?);
+    assert_fails(&rt, rt.alloc(), b"dot", (128, 128), files, line)?;
     Ok(())
 }
 
@@ -98,9 +96,9 @@ fn files_that_are_not_there(rt: HostRuntime) -> Result<(), Fail> {
 fn files_that_are_too_long(rt: HostRuntime) -> Result<(), Fail> {
     let long = vec![in rt.alloc(); 0u8; 8_388_609]?;
     let line = b"dvipbm: page 1 at 80: font dot 128 128: too long tfm\n";
-    assert!(rt; fails_by_tfm(&rt, rt.alloc(), &long, line)?);
+    assert_fails_by_tfm(&rt, rt.alloc(), &long, line)?;
     let line = b"dvipbm: page 1 at 80: font dot 128 128: too long pk\n";
-    assert!(rt; fails_by_pk(&rt, rt.alloc(), &long, line)?);
+    assert_fails_by_pk(&rt, rt.alloc(), &long, line)?;
     Ok(())
 }
 
@@ -108,7 +106,7 @@ fn files_that_are_too_long(rt: HostRuntime) -> Result<(), Fail> {
 fn wrong_tfm_files(rt: HostRuntime) -> Result<(), Fail> {
     let alloc = rt.alloc();
     let line = b"dvipbm: page 1 at 80: font dot 128 128: tfm short\n";
-    assert!(rt; fails_by_tfm(&rt, rt.alloc(), &DOT_TFM[..55], line)?);
+    assert_fails_by_tfm(&rt, rt.alloc(), &DOT_TFM[..55], line)?;
     let wrong: [(usize, &[u8], &[u8]); 4] = [
         (
             1,
@@ -133,7 +131,7 @@ fn wrong_tfm_files(rt: HostRuntime) -> Result<(), Fail> {
     ];
     for (at, new, line) in wrong {
         let tfm = changed(alloc, &DOT_TFM, at, new)?;
-        assert!(rt; fails_by_tfm(&rt, rt.alloc(), &tfm, line)?, "at {at}");
+        assert_fails_by_tfm(&rt, rt.alloc(), &tfm, line)?;
     }
     Ok(())
 }
@@ -143,7 +141,7 @@ fn wrong_pk_files(rt: HostRuntime) -> Result<(), Fail> {
     let alloc = rt.alloc();
     let pk = packed(alloc, &DOT_PK)?;
     let line = b"dvipbm: page 1 at 80: font dot 128 128: pk preamble\n";
-    assert!(rt; fails_by_pk(&rt, rt.alloc(), &changed(alloc, &pk, 1, &[0x58])?, line)?);
+    assert_fails_by_pk(&rt, rt.alloc(), &changed(alloc, &pk, 1, &[0x58])?, line)?;
     let wrong: [(&[u8], &[u8]); 9] = [
         (
             &DOT_PK[..12],
@@ -192,10 +190,7 @@ fn wrong_pk_files(rt: HostRuntime) -> Result<(), Fail> {
         ),
     ];
     for (rest, line) in wrong {
-        assert!(rt;
-            fails_by_pk(&rt, rt.alloc(), &packed(alloc, rest)?, line)?,
-            "{rest:?}"
-        );
+        assert_fails_by_pk(&rt, rt.alloc(), &packed(alloc, rest)?, line)?;
     }
     Ok(())
 }

@@ -1,10 +1,9 @@
 //! Documents of no page, of one and of several.
 
-use super::{PUT_RULE, PUT_RULE_DOTS, document, ends, page_text};
-use std::process::Abort;
+use super::{PUT_RULE, PUT_RULE_DOTS, assert_ends, document, page_text};
 use std::test::Fail;
 
-/// A document without pages.
+// A document without pages.
 static NO_PAGES: [u8; 56] = [
     0xf7, 2, 0, 0, 4, 0xf6, 0, 0, 0, 3, 0, 0, 3, 0xe8, 0, // pre
     0xf8, 0xff, 0xff, 0xff, 0xff, 0, 0, 4, 0xf6, 0, 0, 0, 3, 0, 0, 3, 0xe8, // post
@@ -27,47 +26,41 @@ pub static TWO: [u8; 38] = [
 fn draws_a_put_rule(rt: HostRuntime) -> Result<(), Fail> {
     let alloc = rt.alloc();
     let text = page_text(alloc, &PUT_RULE_DOTS)?;
-    assert!(rt;
-        ends(
-            &rt,
-            rt.alloc(),
-            &PUT_RULE,
-            (4096, 65536),
-            (&[], &[]),
-            0,
-            &text,
-            b""
-        )?
-    );
-    assert!(rt;
-        ends(
-            &rt,
-            rt.alloc(),
-            &PUT_RULE,
-            (1, 1),
-            (&[], &[]),
-            0,
-            &text,
-            b""
-        )?
-    );
+    assert_ends(
+        &rt,
+        rt.alloc(),
+        &PUT_RULE,
+        (4096, 65536),
+        (&[], &[]),
+        0,
+        &text,
+        b"",
+    )?;
+    assert_ends(
+        &rt,
+        rt.alloc(),
+        &PUT_RULE,
+        (1, 1),
+        (&[], &[]),
+        0,
+        &text,
+        b"",
+    )?;
     Ok(())
 }
 
 #[test]
 fn writes_nothing_of_no_pages(rt: HostRuntime) -> Result<(), Fail> {
-    assert!(rt;
-        ends(
-            &rt,
-            rt.alloc(),
-            &NO_PAGES,
-            (64, 64),
-            (&[], &[]),
-            0,
-            b"",
-            b""
-        )?
-    );
+    assert_ends(
+        &rt,
+        rt.alloc(),
+        &NO_PAGES,
+        (64, 64),
+        (&[], &[]),
+        0,
+        b"",
+        b"",
+    )?;
     Ok(())
 }
 
@@ -80,18 +73,16 @@ fn writes_pages_in_their_order(rt: HostRuntime) -> Result<(), Fail> {
     let mut text = page_text(alloc, &PUT_RULE_DOTS)?;
     text.extend_from_slice(&page_text(alloc, &[])?)?;
     text.extend_from_slice(&page_text(alloc, &[(304, 300)])?)?;
-    assert!(rt;
-        ends(
-            &rt,
-            rt.alloc(),
-            &bytes,
-            (4096, 65536),
-            (&[], &[]),
-            0,
-            &text,
-            b""
-        )?
-    );
+    assert_ends(
+        &rt,
+        rt.alloc(),
+        &bytes,
+        (4096, 65536),
+        (&[], &[]),
+        0,
+        &text,
+        b"",
+    )?;
     Ok(())
 }
 
@@ -103,18 +94,16 @@ fn ends_at_the_first_page_that_fails(rt: HostRuntime) -> Result<(), Fail> {
     let bytes = document(alloc, &[], &[&PUT_RULE[60..69], &far, &[0x8e]])?;
     let text = page_text(alloc, &PUT_RULE_DOTS)?;
     let line = b"dvipbm: page 2 at 120: overflow\n";
-    assert!(rt;
-        ends(
-            &rt,
-            rt.alloc(),
-            &bytes,
-            (64, 65536),
-            (&[], &[]),
-            3,
-            &text,
-            line
-        )?
-    );
+    assert_ends(
+        &rt,
+        rt.alloc(),
+        &bytes,
+        (64, 65536),
+        (&[], &[]),
+        3,
+        &text,
+        line,
+    )?;
     Ok(())
 }
 
@@ -124,14 +113,14 @@ fn names_the_command_that_fails(rt: HostRuntime) -> Result<(), Fail> {
     // right by 2147483647 at 60, and by 1 at 65.
     let bytes = document(alloc, &[], &[&[0x92, 0x7f, 0xff, 0xff, 0xff, 0x8f, 1]])?;
     let line = b"dvipbm: page 1 at 65: overflow\n";
-    assert!(rt; ends(&rt, rt.alloc(), &bytes, (64, 64), (&[], &[]), 3, b"", line)?);
+    assert_ends(&rt, rt.alloc(), &bytes, (64, 64), (&[], &[]), 3, b"", line)?;
     // The definition has 19 bytes, so that the first command stands at 79.
     let bytes = document(alloc, &DOT, &[&[0x8e]])?;
     let line = b"dvipbm: page 1 at 79: stack empty\n";
-    assert!(rt; ends(&rt, rt.alloc(), &bytes, (64, 64), (&[], &[]), 3, b"", line)?);
+    assert_ends(&rt, rt.alloc(), &bytes, (64, 64), (&[], &[]), 3, b"", line)?;
     let bytes = document(alloc, &DOT, &[&[0x8d]])?;
     let line = b"dvipbm: page 1 at 80: stack left\n";
-    assert!(rt; ends(&rt, rt.alloc(), &bytes, (64, 64), (&[], &[]), 3, b"", line)?);
+    assert_ends(&rt, rt.alloc(), &bytes, (64, 64), (&[], &[]), 3, b"", line)?;
     Ok(())
 }
 
@@ -142,31 +131,27 @@ fn saves_a_thousand_times(rt: HostRuntime) -> Result<(), Fail> {
     page.extend_from_slice(&vec![in alloc; 0x8eu8; 1000]?)?;
     let bytes = document(alloc, &[], &[&page])?;
     let text = page_text(alloc, &[])?;
-    assert!(rt;
-        ends(
-            &rt,
-            rt.alloc(),
-            &bytes,
-            (4096, 65536),
-            (&[], &[]),
-            0,
-            &text,
-            b""
-        )?
-    );
+    assert_ends(
+        &rt,
+        rt.alloc(),
+        &bytes,
+        (4096, 65536),
+        (&[], &[]),
+        0,
+        &text,
+        b"",
+    )?;
     let bytes = document(alloc, &[], &[&vec![in alloc; 0x8du8; 1001]?])?;
     let line = b"dvipbm: page 1 at 1060: stack deep\n";
-    assert!(rt;
-        ends(
-            &rt,
-            rt.alloc(),
-            &bytes,
-            (4096, 65536),
-            (&[], &[]),
-            3,
-            b"",
-            line
-        )?
-    );
+    assert_ends(
+        &rt,
+        rt.alloc(),
+        &bytes,
+        (4096, 65536),
+        (&[], &[]),
+        3,
+        b"",
+        line,
+    )?;
     Ok(())
 }

@@ -14,12 +14,12 @@ use std::sync::{Arc, Wait};
 use std::test::Fail;
 use std::thread::Threads;
 
-/// After a PK file's preamble: character 65 with the rows 101, 101, 101 and 111, and the end.
+// After a PK file's preamble: character 65 with the rows 101, 101, 101 and 111, and the end.
 static BAR_PK: [u8; 16] = [
     0xa8, 11, 0x41, 1, 0x80, 0, 6, 3, 4, 0, 3, 0xe2, 0x11, 0x40, 0xf5, 0xf6,
 ];
 
-/// A VF file with the fonts `dot` and `bar`, whose character 65 sets character 65 of either.
+// A VF file with the fonts `dot` and `bar`, whose character 65 sets character 65 of either.
 static DUO_VF: [u8; 64] = [
     0xf7, 0xca, 0, 0, 0, 0, 0, 0, 0xa0, 0, 0, // preamble
     0xf3, 0, 0, 0, 0, 0, 0, 0x10, 0, 0, 0, 0xf6, 0xae, 0x7d, 0, 3, 0x64, 0x6f, 0x74, // dot

@@ -15,7 +15,7 @@ use std::sync::{Arc, Wait};
 use std::test::Fail;
 use std::thread::Threads;
 
-/// What a run came to.
+// What a run came to.
 #[derive(Drop)]
 struct Came {
     status: u8,

@@ -1,7 +1,7 @@
 //! Inputs, outputs and notes that fail.
 
 use super::one::run_by_words;
-use super::{PUT_RULE, PUT_RULE_DOTS, document, ends, no_fonts, numbers, page_text};
+use super::{PUT_RULE, PUT_RULE_DOTS, assert_ends, document, no_fonts, numbers, page_text};
 use outside::{MemInput, MemOutput};
 use std::process::Abort;
 use std::test::Fail;
@@ -9,55 +9,47 @@ use std::test::Fail;
 #[test]
 fn tells_what_failed(rt: HostRuntime) -> Result<(), Fail> {
     let line = b"dvipbm: input failed\n";
-    assert!(rt;
-        ends(
-            &rt,
-            rt.alloc(),
-            &PUT_RULE,
-            (64, 64),
-            (&[1], &[]),
-            6,
-            b"",
-            line
-        )?
-    );
-    assert!(rt;
-        ends(
-            &rt,
-            rt.alloc(),
-            &PUT_RULE,
-            (64, 64),
-            (&[2], &[]),
-            6,
-            b"",
-            line
-        )?
-    );
+    assert_ends(
+        &rt,
+        rt.alloc(),
+        &PUT_RULE,
+        (64, 64),
+        (&[1], &[]),
+        6,
+        b"",
+        line,
+    )?;
+    assert_ends(
+        &rt,
+        rt.alloc(),
+        &PUT_RULE,
+        (64, 64),
+        (&[2], &[]),
+        6,
+        b"",
+        line,
+    )?;
     let line = b"dvipbm: page 1: output failed\n";
-    assert!(rt;
-        ends(
-            &rt,
-            rt.alloc(),
-            &PUT_RULE,
-            (64, 64),
-            (&[], &[1]),
-            7,
-            b"",
-            line
-        )?
-    );
-    assert!(rt;
-        ends(
-            &rt,
-            rt.alloc(),
-            &PUT_RULE,
-            (64, 5),
-            (&[], &[2]),
-            7,
-            b"P4\n25",
-            line
-        )?
-    );
+    assert_ends(
+        &rt,
+        rt.alloc(),
+        &PUT_RULE,
+        (64, 64),
+        (&[], &[1]),
+        7,
+        b"",
+        line,
+    )?;
+    assert_ends(
+        &rt,
+        rt.alloc(),
+        &PUT_RULE,
+        (64, 5),
+        (&[], &[2]),
+        7,
+        b"P4\n25",
+        line,
+    )?;
     Ok(())
 }
 
@@ -71,18 +63,16 @@ fn leaves_a_prefix_of_the_page_that_failed(rt: HostRuntime) -> Result<(), Fail> 
     text.extend_from_slice(b"P4\n2550 3300\n")?;
     text.extend_from_slice(&vec![in alloc; 0u8; 205 * 319]?)?;
     let line = b"dvipbm: page 2: output failed\n";
-    assert!(rt;
-        ends(
-            &rt,
-            rt.alloc(),
-            &bytes,
-            (4096, 2_000_000),
-            (&[], &[19]),
-            7,
-            &text,
-            line
-        )?
-    );
+    assert_ends(
+        &rt,
+        rt.alloc(),
+        &bytes,
+        (4096, 2_000_000),
+        (&[], &[19]),
+        7,
+        &text,
+        line,
+    )?;
     Ok(())
 }
 

@@ -13,7 +13,7 @@ use std::sync::{Arc, Wait};
 use std::test::Fail;
 use std::thread::Threads;
 
-/// Four rows of eight dots, the last one on the base line.
+// Four rows of eight dots, the last one on the base line.
 const SMALL: Sheet = Sheet {
     width: 8,
     height: 4,

@@ -9,7 +9,7 @@ use std::test::Fail;
 /// The fix_word of 1: a local font as large as its virtual font.
 pub const WHOLE: u32 = 0x10_0000;
 
-/// The preamble of a VF file.
+// The preamble of a VF file.
 static VF_PREFIX: [u8; 11] = [0xf7, 0xca, 0, 0, 0, 0, 0, 0, 0xa0, 0, 0];
 
 /// Character 65 sets character 65 of `dot`, then that of `bar`. What stands after the preamble.
@@ -20,33 +20,33 @@ pub static DUO_VF: [u8; 49] = [
     0xf8, 0xf8, 0xf8,
 ];
 
-/// Character 65 sets character 65 of `thin` twice.
+// Character 65 sets character 65 of `thin` twice.
 static TWIN_VF: [u8; 29] = [
     0xf3, 0, 0, 0, 0, 0, 0, 0x10, 0, 0, 0, 0xf6, 0xae, 0x7d, 0, 4, 0x74, 0x68, 0x69, 0x6e, // thin
     2, 0x41, 0, 0xc0, 0, 0x41, 0x41, // character 65
     0xf8, 0xf8,
 ];
 
-/// Character 65 sets itself.
+// Character 65 sets itself.
 static LOOP_VF: [u8; 29] = [
     0xf3, 0, 0, 0, 0, 0, 0, 0x10, 0, 0, 0, 0xf6, 0xae, 0x7d, 0, 4, 0x6c, 0x6f, 0x6f, 0x70, // loop
     1, 0x41, 1, 0, 0, 0x41, // character 65
     0xf8, 0xf8, 0xf8,
 ];
 
-/// No local font. Character 65 sets a character, and 66 is a rule of 8 by 8 units at a size of 128.
+// No local font. Character 65 sets a character, and 66 is a rule of 8 by 8 units at a size of 128.
 static BOX_VF: [u8; 21] = [
     1, 0x41, 1, 0, 0, 0x41, // character 65
     9, 0x42, 1, 0, 0, 0x84, 0, 1, 0, 0, 0, 1, 0, 0, // character 66
     0xf8,
 ];
 
-/// Character 65, three columns wide: rows 101, 101, 101 and 111, the last one on the base line.
+// Character 65, three columns wide: rows 101, 101, 101 and 111, the last one on the base line.
 static BAR_PK: [u8; 17] = [
     0xa8, 11, 0x41, 1, 0x80, 0, 6, 3, 4, 0, 3, 0xe2, 0x11, 0x40, 0xf5, 0xf6, 0xf6,
 ];
 
-/// Character 65, one black dot.
+// Character 65, one black dot.
 static THIN_PK: [u8; 13] = [0xe0, 9, 0x41, 0, 0x60, 0, 2, 1, 1, 0, 0, 0x80, 0xf5];
 
 /// A TFM file whose characters, from 65 on, have these widths as fix_words.

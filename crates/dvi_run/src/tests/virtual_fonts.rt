@@ -6,7 +6,7 @@ use page_draw::Sheet;
 use std::process::Abort;
 use std::test::Fail;
 
-/// Eight rows of 16 dots, the last one on the base line.
+// Eight rows of 16 dots, the last one on the base line.
 const WIDE: Sheet = Sheet {
     width: 16,
     height: 8,
@@ -14,7 +14,7 @@ const WIDE: Sheet = Sheet {
     top: 7,
 };
 
-/// Four rows of eight dots, the last one on the base line.
+// Four rows of eight dots, the last one on the base line.
 const SMALL: Sheet = Sheet {
     width: 8,
     height: 4,

@@ -11,7 +11,7 @@ use std::sync::Wait;
 use std::test::Fail;
 use std::thread::Threads;
 
-/// What a run came to, and how many calls of its cache there were.
+// What a run came to, and how many calls of its cache there were.
 #[derive(Debug, Drop, PartialEq)]
 struct Ran {
     status: u8,

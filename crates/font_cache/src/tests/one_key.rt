@@ -1,5 +1,6 @@
 //! The history of one key, judged from outside.
 use cache_core::{Act, Entry};
+use std::process::Abort;
 
 // A letter for what was done.
 fn letter(act: &Act) -> char {
@@ -13,12 +14,12 @@ fn letter(act: &Act) -> char {
     }
 }
 
-// Whether the entries are these seats' acts.
-pub(super) fn is_told(entries: &[Entry], expected: &[(u32, char)]) -> bool {
-    entries
-        .iter()
-        .map(|entry: &Entry| (entry.seat, letter(&entry.act)))
-        .eq(expected.iter().copied())
+// The entries are these seats' acts.
+pub(super) fn assert_told<R: Abort>(rt: &R, entries: &[Entry], expected: &[(u32, char)]) {
+    assert_eq!(rt; entries.len(), expected.len());
+    for (entry, wanted) in entries.iter().zip(expected) {
+        assert_eq!(rt; (entry.seat, letter(&entry.act)), *wanted);
+    }
 }
 
 // The seat that claims the one key, and whether its font is there.

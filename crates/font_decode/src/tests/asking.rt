@@ -38,7 +38,7 @@ fn asked(rt: &HostRuntime, key: &FontKey, file: &[u8]) -> Result<Vec<u8>, Fail>
 
 #[test]
 fn names_up_to_a_file(rt: HostRuntime) -> Result<(), Fail> {
-    let dot = key(&rt, b"dot", 128)?;
+    let dot = key(rt.alloc(), b"dot", 128)?;
     let names = asked(&rt, &dot, b"dot.vf")?;
     assert_eq!(rt; names.as_slice(), b"dot.tfm dot.vf ".as_slice());
     let names = asked(&rt, &dot, b"dot.300pk")?;
@@ -53,9 +53,9 @@ fn names_up_to_a_file(rt: HostRuntime) -> Result<(), Fail> {
         names.as_slice(),
         b"dot.tfm dot.vf dot.300pk dot.301pk dot.299pk ".as_slice()
     );
-    let names = asked(&rt, &key(&rt, b"none", 128)?, b"none.vf")?;
+    let names = asked(&rt, &key(rt.alloc(), b"none", 128)?, b"none.vf")?;
     assert_eq!(rt; names.as_slice(), b"none.tfm ".as_slice());
-    let names = asked(&rt, &key(&rt, b"../dot", 128)?, b"dot.vf")?;
+    let names = asked(&rt, &key(rt.alloc(), b"../dot", 128)?, b"dot.vf")?;
     assert_eq!(rt; names.as_slice(), b"".as_slice());
     Ok(())
 }
@@ -63,7 +63,7 @@ fn names_up_to_a_file(rt: HostRuntime) -> Result<(), Fail> {
 // The range of resolutions is judged on the font's own alone.
 #[test]
 fn names_at_the_ends_of_the_range(rt: HostRuntime) -> Result<(), Fail> {
-    let mut dot = key(&rt, b"dot", 1)?;
+    let mut dot = key(rt.alloc(), b"dot", 1)?;
     dot.design = 300;
     let names = asked(&rt, &dot, b"dot.0pk")?;
     assert_eq!(rt;
@@ -95,7 +95,7 @@ fn names_at_the_ends_of_the_range(rt: HostRuntime) -> Result<(), Fail> {
 
 #[test]
 fn names_up_to_a_failure(rt: HostRuntime) -> Result<(), Fail> {
-    let dot = key(&rt, b"dot", 128)?;
+    let dot = key(rt.alloc(), b"dot", 128)?;
     let mut source = source(&rt, b"dot.299pk", 4)?;
     let failed = fetch(rt.alloc(), &mut source, &dot, &UNITS);
     assert!(rt; matches!(failed, Err(LoadStop::Failed)));

@@ -3,10 +3,12 @@ ghost use Rattle.std.specs.Prelude.{◌<◌, ◌≤◌, ◌^◌};
 ghost use Rattle.outside.specs.FontKeys.{IsFontKey};
 
 use super::{UNITS, key};
-use crate::{Decoded, FileKind, Files, FontFault, decode, laws};
+use crate::{Decoded, FileKind, Files, Font, FontFault, decode, laws};
 use outside::FontKey;
 use pk_packets::PkFault;
 use pk_runs::Glyph;
+use std::alloc::Global;
+use std::process::Abort;
 use std::test::Fail;
 use tfm_reader::TfmFault;
 use vf_reader::VfFault;
@@ -29,16 +31,16 @@ const LONGEST: usize = 8_388_608;
 const TOO_LONG: usize = 8_388_609;
 
 // A file of these bytes, or none where there are none.
-fn file(rt: &HostRuntime, bytes: &[u8]) -> Result<Option<Vec<u8>>, Fail> {
+fn file(alloc: Global, bytes: &[u8]) -> Result<Option<Vec<u8>>, Fail> {
     if bytes.is_empty() {
         return Ok(None);
     }
-    Ok(Some(bytes.to_vec(rt.alloc())?))
+    Ok(Some(bytes.to_vec(alloc)?))
 }
 
 // What these files come to.
 pub fn decoded(
-    rt: &HostRuntime,
+    alloc: Global,
     key: &FontKey,
     tfm: &[u8],
     vf: &[u8],
@@ -47,16 +49,16 @@ pub fn decoded(
     requires { IsFontKey key.now }
 {
     let files = Files {
-        tfm: file(rt, tfm)?,
-        vf: file(rt, vf)?,
-        pk: file(rt, pk)?,
+        tfm: file(alloc, tfm)?,
+        vf: file(alloc, vf)?,
+        pk: file(alloc, pk)?,
     };
-    Ok(decode(rt.alloc(), key, &files, &UNITS)?)
+    Ok(decode(alloc, key, &files, &UNITS)?)
 }
 
 // What is wrong with these files first.
 pub fn fault(
-    rt: &HostRuntime,
+    alloc: Global,
     key: &FontKey,
     tfm: &[u8],
     vf: &[u8],
@@ -64,25 +66,41 @@ pub fn fault(
 ) -> Result<Option<FontFault>, Fail>
     requires { IsFontKey key.now }
 {
-    match decoded(rt, key, tfm, vf, pk)? {
+    match decoded(alloc, key, tfm, vf, pk)? {
         Decoded::Font(_) => Ok(None),
         Decoded::Fault(fault) => Ok(Some(fault)),
     }
 }
 
+// What is wrong with these files first is this.
+fn assert_fault(
+    rt: &impl Abort,
+    alloc: Global,
+    key: &FontKey,
+    files: [&[u8]; 3],
+    expected: Option<FontFault>,
+) -> Result<(), Fail>
+    requires { IsFontKey key.now }
+{
+    let [tfm, vf, pk] = files;
+    let found = fault(alloc, key, tfm, vf, pk)?;
+    assert_eq!(rt; found, expected);
+    Ok(())
+}
+
 // The width of a character by a TFM file, at a size in DVI units.
-fn width(rt: &HostRuntime, size: u32, tfm: &[u8], code: i32) -> Result<Option<i64>, Fail>
+fn width(alloc: Global, size: u32, tfm: &[u8], code: i32) -> Result<Option<i64>, Fail>
     requires { (1 ≤ size) × (size < 2 ^ 27) }
 {
-    match decoded(rt, &key(rt, b"dot", size)?, tfm, b"", &DOT_PK)? {
+    match decoded(alloc, &key(alloc, b"dot", size)?, tfm, b"", &DOT_PK)? {
         Decoded::Font(font) => Ok(font.width(code)),
         Decoded::Fault(_) => Err("a fault")?,
     }
 }
 
 // A file of n bytes, each of them 0.
-fn zeros(rt: &HostRuntime, length: usize) -> Result<Vec<u8>, Fail> {
-    Ok(vec![in rt.alloc(); 0u8; length]?)
+fn zeros(alloc: Global, length: usize) -> Result<Vec<u8>, Fail> {
+    Ok(vec![in alloc; 0u8; length]?)
 }
 
 // How many pixels of a glyph are black, and its sides.
@@ -99,29 +117,39 @@ fn black(glyph: Option<&Glyph>) -> (u32, u32, u32) {
     (count, glyph.raster.width(), glyph.raster.height())
 }
 
+// The font of these files.
+pub fn font(alloc: Global, key: &FontKey, vf: &[u8], pk: &[u8]) -> Result<Font, Fail>
+    requires { IsFontKey key.now }
+{
+    match decoded(alloc, key, &DOT_TFM, vf, pk)? {
+        Decoded::Font(font) => Ok(font),
+        Decoded::Fault(_) => Err("a fault")?,
+    }
+}
+
 #[test]
 fn a_font_of_one_character(rt: HostRuntime) -> Result<(), Fail> {
-    let dot = key(&rt, b"dot", 128)?;
-    match decoded(&rt, &dot, &DOT_TFM, b"", &DOT_PK)? {
-        Decoded::Font(font) => {
-            assert_eq!(rt; font.size(), 128);
-            assert_eq!(rt; font.width(65), Some(8));
-            assert_eq!(rt; black(font.glyph(65)), (4, 2, 2));
-            let offsets = font.glyph(65).map(|glyph| (glyph.hoff, glyph.voff));
-            assert_eq!(rt; offsets, Some((0, 1)));
-            assert!(rt; font.glyph(66).is_none());
-            assert!(rt; font.glyph(321).is_none());
-        }
-        Decoded::Fault(_) => assert!(rt; false, "a fault"),
-    }
+    let dot = font(rt.alloc(), &key(rt.alloc(), b"dot", 128)?, b"", &DOT_PK)?;
+    assert_eq!(rt; (dot.size(), dot.width(65)), (128, Some(8)));
+    let offsets = dot.glyph(65).map(|glyph| (glyph.hoff, glyph.voff));
+    assert_eq!(rt; offsets, Some((0, 1)));
     laws::decodings();
+    Ok(())
+}
+
+#[test]
+fn glyphs_of_a_font_of_one_character(rt: HostRuntime) -> Result<(), Fail> {
+    let dot = font(rt.alloc(), &key(rt.alloc(), b"dot", 128)?, b"", &DOT_PK)?;
+    assert_eq!(rt; black(dot.glyph(65)), (4, 2, 2));
+    assert!(rt; dot.glyph(66).is_none());
+    assert!(rt; dot.glyph(321).is_none());
     Ok(())
 }
 
 #[test]
 fn codes_without_a_width(rt: HostRuntime) -> Result<(), Fail> {
     for code in [64, 66, -1, 321, -191] {
-        assert_eq!(rt; width(&rt, 128, &DOT_TFM, code)?, None, "of {code}");
+        assert_eq!(rt; width(rt.alloc(), 128, &DOT_TFM, code)?, None, "of {code}");
     }
     Ok(())
 }
@@ -129,109 +157,193 @@ fn codes_without_a_width(rt: HostRuntime) -> Result<(), Fail> {
 // 3/128 of a size of 100 units is 2.34, and as much to the left is rounded down, too.
 #[test]
 fn widths_at_a_size(rt: HostRuntime) -> Result<(), Fail> {
-    assert_eq!(rt; width(&rt, 256, &DOT_TFM, 65)?, Some(16));
+    assert_eq!(rt; width(rt.alloc(), 256, &DOT_TFM, 65)?, Some(16));
     let mut tfm = DOT_TFM;
     tfm[41] = 0;
     tfm[42] = 96;
-    assert_eq!(rt; width(&rt, 100, &tfm, 65)?, Some(2));
+    assert_eq!(rt; width(rt.alloc(), 100, &tfm, 65)?, Some(2));
     tfm[40] = 255;
     tfm[41] = 255;
     tfm[42] = 160;
-    assert_eq!(rt; width(&rt, 100, &tfm, 65)?, Some(-3));
+    assert_eq!(rt; width(rt.alloc(), 100, &tfm, 65)?, Some(-3));
     Ok(())
 }
 
 #[test]
 fn names_and_missing_files(rt: HostRuntime) -> Result<(), Fail> {
-    let dot = key(&rt, b"dot", 128)?;
-    let found = fault(&rt, &dot, &DOT_TFM, b"", &DOT_PK)?;
-    assert_eq!(rt; found, None);
-    let found = fault(&rt, &key(&rt, b"d/t", 128)?, &DOT_TFM, b"", &DOT_PK)?;
-    assert_eq!(rt; found, Some(FontFault::Name));
-    let found = fault(&rt, &dot, b"", b"", &DOT_PK)?;
-    assert_eq!(rt; found, Some(FontFault::Missing(FileKind::Tfm)));
-    let found = fault(&rt, &dot, &DOT_TFM, b"", b"")?;
-    assert_eq!(rt; found, Some(FontFault::Missing(FileKind::Pk)));
-    let found = fault(&rt, &dot, &DOT_TFM, b"?", b"")?;
-    assert_eq!(rt; found, Some(FontFault::Vf(VfFault::Preamble)));
+    let dot = key(rt.alloc(), b"dot", 128)?;
+    assert_fault(&rt, rt.alloc(), &dot, [&DOT_TFM, b"", &DOT_PK], None)?;
+    assert_fault(
+        &rt,
+        rt.alloc(),
+        &key(rt.alloc(), b"d/t", 128)?,
+        [&DOT_TFM, b"", &DOT_PK],
+        Some(FontFault::Name),
+    )?;
+    assert_fault(
+        &rt,
+        rt.alloc(),
+        &dot,
+        [b"", b"", &DOT_PK],
+        Some(FontFault::Missing(FileKind::Tfm)),
+    )?;
+    assert_fault(
+        &rt,
+        rt.alloc(),
+        &dot,
+        [&DOT_TFM, b"", b""],
+        Some(FontFault::Missing(FileKind::Pk)),
+    )?;
+    assert_fault(
+        &rt,
+        rt.alloc(),
+        &dot,
+        [&DOT_TFM, b"?", b""],
+        Some(FontFault::Vf(VfFault::Preamble)),
+    )?;
     Ok(())
 }
 
 #[test]
 fn faults_of_a_tfm_file(rt: HostRuntime) -> Result<(), Fail> {
-    let dot = key(&rt, b"dot", 128)?;
-    let found = fault(&rt, &dot, &DOT_TFM[..55], b"", &DOT_PK)?;
-    assert_eq!(rt; found, Some(FontFault::Tfm(TfmFault::Short)));
+    let dot = key(rt.alloc(), b"dot", 128)?;
+    assert_fault(
+        &rt,
+        rt.alloc(),
+        &dot,
+        [&DOT_TFM[..55], b"", &DOT_PK],
+        Some(FontFault::Tfm(TfmFault::Short)),
+    )?;
     let mut tfm = DOT_TFM;
     tfm[32] = 2;
-    let found = fault(&rt, &dot, &tfm, b"", &DOT_PK)?;
-    assert_eq!(rt; found, Some(FontFault::Tfm(TfmFault::WidthIndex(65))));
+    assert_fault(
+        &rt,
+        rt.alloc(),
+        &dot,
+        [&tfm, b"", &DOT_PK],
+        Some(FontFault::Tfm(TfmFault::WidthIndex(65))),
+    )?;
     Ok(())
 }
 
 #[test]
 fn faults_of_a_pk_file(rt: HostRuntime) -> Result<(), Fail> {
-    let dot = key(&rt, b"dot", 128)?;
-    let found = fault(&rt, &dot, &DOT_TFM, b"", &DOT_PK[..31])?;
-    assert_eq!(rt; found, Some(FontFault::Pk(PkFault::Short)));
+    let dot = key(rt.alloc(), b"dot", 128)?;
+    assert_fault(
+        &rt,
+        rt.alloc(),
+        &dot,
+        [&DOT_TFM, b"", &DOT_PK[..31]],
+        Some(FontFault::Pk(PkFault::Short)),
+    )?;
     let mut pk = DOT_PK;
     pk[31] = 0xf7;
-    let found = fault(&rt, &dot, &DOT_TFM, b"", &pk)?;
-    assert_eq!(rt; found, Some(FontFault::Pk(PkFault::Undefined(0xf7))));
+    assert_fault(
+        &rt,
+        rt.alloc(),
+        &dot,
+        [&DOT_TFM, b"", &pk],
+        Some(FontFault::Pk(PkFault::Undefined(0xf7))),
+    )?;
     Ok(())
 }
 
 // 1,171,875 dots to the inch, less than a half, and a half.
 #[test]
 fn sizes_without_a_resolution(rt: HostRuntime) -> Result<(), Fail> {
-    let huge = key(&rt, b"dot", 500_000)?;
-    let found = fault(&rt, &huge, &DOT_TFM, b"", &DOT_PK)?;
-    assert_eq!(rt; found, Some(FontFault::Size));
-    let mut small = key(&rt, b"dot", 1)?;
+    let huge = key(rt.alloc(), b"dot", 500_000)?;
+    assert_fault(
+        &rt,
+        rt.alloc(),
+        &huge,
+        [&DOT_TFM, b"", &DOT_PK],
+        Some(FontFault::Size),
+    )?;
+    let mut small = key(rt.alloc(), b"dot", 1)?;
     small.design = 601;
-    let found = fault(&rt, &small, &DOT_TFM, b"", &DOT_PK)?;
-    assert_eq!(rt; found, Some(FontFault::Size));
+    assert_fault(
+        &rt,
+        rt.alloc(),
+        &small,
+        [&DOT_TFM, b"", &DOT_PK],
+        Some(FontFault::Size),
+    )?;
     small.design = 600;
-    let found = fault(&rt, &small, &DOT_TFM, b"", &DOT_PK)?;
-    assert_eq!(rt; found, None);
+    assert_fault(&rt, rt.alloc(), &small, [&DOT_TFM, b"", &DOT_PK], None)?;
     Ok(())
 }
 
 // A file as long as may be is refused for what it holds.
 #[test]
-fn files_that_are_too_long(rt: HostRuntime) -> Result<(), Fail> {
-    let dot = key(&rt, b"dot", 128)?;
-    let longest = zeros(&rt, LONGEST)?;
-    let found = fault(&rt, &dot, &longest, b"", &DOT_PK)?;
+fn files_as_long_as_may_be(rt: HostRuntime) -> Result<(), Fail> {
+    let dot = key(rt.alloc(), b"dot", 128)?;
+    let longest = zeros(rt.alloc(), LONGEST)?;
+    let found = fault(rt.alloc(), &dot, &longest, b"", &DOT_PK)?;
     assert_eq!(rt; found, Some(FontFault::Tfm(TfmFault::Counts)));
-    let found = fault(&rt, &dot, &DOT_TFM, b"", &longest)?;
+    let found = fault(rt.alloc(), &dot, &DOT_TFM, b"", &longest)?;
     assert_eq!(rt; found, Some(FontFault::Pk(PkFault::Preamble)));
-    let found = fault(&rt, &dot, &DOT_TFM, &longest, b"")?;
+    let found = fault(rt.alloc(), &dot, &DOT_TFM, &longest, b"")?;
     assert_eq!(rt; found, Some(FontFault::Vf(VfFault::Preamble)));
-    let too_long = zeros(&rt, TOO_LONG)?;
-    let found = fault(&rt, &dot, &too_long, b"", &DOT_PK)?;
+    Ok(())
+}
+
+#[test]
+fn files_that_are_too_long(rt: HostRuntime) -> Result<(), Fail> {
+    let dot = key(rt.alloc(), b"dot", 128)?;
+    let too_long = zeros(rt.alloc(), TOO_LONG)?;
+    let found = fault(rt.alloc(), &dot, &too_long, b"", &DOT_PK)?;
     assert_eq!(rt; found, Some(FontFault::TooLong(FileKind::Tfm)));
-    let found = fault(&rt, &dot, &DOT_TFM, &too_long, b"")?;
+    let found = fault(rt.alloc(), &dot, &DOT_TFM, &too_long, b"")?;
     assert_eq!(rt; found, Some(FontFault::TooLong(FileKind::Vf)));
-    let found = fault(&rt, &dot, &DOT_TFM, b"", &too_long)?;
+    let found = fault(rt.alloc(), &dot, &DOT_TFM, b"", &too_long)?;
     assert_eq!(rt; found, Some(FontFault::TooLong(FileKind::Pk)));
     Ok(())
 }
 
 #[test]
 fn the_first_of_several_faults(rt: HostRuntime) -> Result<(), Fail> {
-    let found = fault(&rt, &key(&rt, b".dot", 128)?, b"", b"?", b"?")?;
-    assert_eq!(rt; found, Some(FontFault::Name));
-    let huge = key(&rt, b"dot", 500_000)?;
-    let found = fault(&rt, &huge, b"", b"?", b"?")?;
-    assert_eq!(rt; found, Some(FontFault::Missing(FileKind::Tfm)));
-    let found = fault(&rt, &huge, b"?", b"?", b"?")?;
-    assert_eq!(rt; found, Some(FontFault::Tfm(TfmFault::Short)));
-    let found = fault(&rt, &huge, &DOT_TFM, b"?", b"?")?;
-    assert_eq!(rt; found, Some(FontFault::Vf(VfFault::Preamble)));
-    let found = fault(&rt, &huge, &DOT_TFM, b"", b"")?;
-    assert_eq!(rt; found, Some(FontFault::Size));
-    let found = fault(&rt, &huge, &DOT_TFM, b"", b"?")?;
-    assert_eq!(rt; found, Some(FontFault::Size));
+    assert_fault(
+        &rt,
+        rt.alloc(),
+        &key(rt.alloc(), b".dot", 128)?,
+        [b"", b"?", b"?"],
+        Some(FontFault::Name),
+    )?;
+    let huge = key(rt.alloc(), b"dot", 500_000)?;
+    assert_fault(
+        &rt,
+        rt.alloc(),
+        &huge,
+        [b"", b"?", b"?"],
+        Some(FontFault::Missing(FileKind::Tfm)),
+    )?;
+    assert_fault(
+        &rt,
+        rt.alloc(),
+        &huge,
+        [b"?", b"?", b"?"],
+        Some(FontFault::Tfm(TfmFault::Short)),
+    )?;
+    assert_fault(
+        &rt,
+        rt.alloc(),
+        &huge,
+        [&DOT_TFM, b"?", b"?"],
+        Some(FontFault::Vf(VfFault::Preamble)),
+    )?;
+    assert_fault(
+        &rt,
+        rt.alloc(),
+        &huge,
+        [&DOT_TFM, b"", b""],
+        Some(FontFault::Size),
+    )?;
+    assert_fault(
+        &rt,
+        rt.alloc(),
+        &huge,
+        [&DOT_TFM, b"", b"?"],
+        Some(FontFault::Size),
+    )?;
     Ok(())
 }

@@ -2,10 +2,11 @@
 ghost use Rattle.std.specs.Prelude.{◌<◌, ◌≤◌, ◌^◌};
 ghost use Rattle.outside.specs.FontKeys.{IsFontKey};
 
-use super::decodings::{DOT_PK, DOT_TFM, decoded, fault};
+use super::decodings::{DOT_PK, DOT_TFM, fault, font};
 use super::key;
-use crate::{Decoded, Font, FontFault};
+use crate::{Font, FontFault};
 use outside::FontKey;
+use std::alloc::Global;
 use std::sync::Arc;
 use std::test::Fail;
 use vf_reader::VfFault;
@@ -25,14 +26,11 @@ const BOX_VF: [u8; 32] = [
     0x41, 0x09, 0x42, 0x01, 0x00, 0x00, 0x84, 0x00, 0x01, 0x00, 0x00, 0x00, 0x01, 0x00, 0x00, 0xf8,
 ];
 
-// The font of these files.
-fn font(rt: &HostRuntime, key: &FontKey, vf: &[u8], pk: &[u8]) -> Result<Font, Fail>
-    requires { IsFontKey key.now }
+// The font `duo` at a size in DVI units.
+fn duo(alloc: Global, size: u32) -> Result<Font, Fail>
+    requires { (1 ≤ size) × (size < 2 ^ 27) }
 {
-    match decoded(rt, key, &DOT_TFM, vf, pk)? {
-        Decoded::Font(font) => Ok(font),
-        Decoded::Fault(_) => Err("a fault")?,
-    }
+    font(alloc, &key(alloc, b"duo", size)?, &DUO_VF, &DOT_PK)
 }
 
 // The packet of a code, or a text that is none.
@@ -48,38 +46,54 @@ fn fields(key: Option<&Arc<FontKey>>) -> Option<(&[u8], u8, u32, u32)> {
 
 // What is wrong with `duo` at a size where `dot` has this factor and this design size in points,
 // both fix_words.
-fn resized(rt: &HostRuntime, size: u32, factor: u32, points: u32) -> Result<Option<FontFault>, Fail>
+fn resized(alloc: Global, size: u32, factor: u32, points: u32) -> Result<Option<FontFault>, Fail>
     requires { (1 ≤ size) × (size < 2 ^ 27) }
 {
     let mut vf = DUO_VF;
     vf[17..21].copy_from_slice(&factor.to_be_bytes());
     vf[21..25].copy_from_slice(&points.to_be_bytes());
-    fault(rt, &key(rt, b"duo", size)?, &DOT_TFM, &vf, b"")
+    fault(alloc, &key(alloc, b"duo", size)?, &DOT_TFM, &vf, b"")
 }
 
 #[test]
-fn duo_at_two_sizes(rt: HostRuntime) -> Result<(), Fail> {
-    let duo = font(&rt, &key(&rt, b"duo", 128)?, &DUO_VF, &DOT_PK)?;
+fn duo_is_a_virtual_font(rt: HostRuntime) -> Result<(), Fail> {
+    let duo = duo(rt.alloc(), 128)?;
     assert_eq!(rt; (duo.is_virtual(), duo.size()), (true, 128));
-    assert_eq!(rt; duo.width(65), Some(8));
+    assert_eq!(rt; (duo.width(65), duo.first_local()), (Some(8), Some(0)));
+    Ok(())
+}
+
+#[test]
+fn packets_of_duo(rt: HostRuntime) -> Result<(), Fail> {
+    let duo = duo(rt.alloc(), 128)?;
     assert_eq!(rt; packet(&duo, 65), [0x41, 0xac, 0x41].as_slice());
     assert_eq!(rt; packet(&duo, 66), b"none".as_slice());
     assert!(rt; duo.glyph(65).is_none());
-    assert_eq!(rt; duo.first_local(), Some(0));
+    Ok(())
+}
+
+#[test]
+fn local_fonts_of_duo(rt: HostRuntime) -> Result<(), Fail> {
+    let duo = duo(rt.alloc(), 128)?;
     let dot = fields(duo.local(0));
     assert_eq!(rt; dot, Some((b"dot".as_slice(), 0, 128, 128)));
     let bar = fields(duo.local(1));
     assert_eq!(rt; bar, Some((b"bar".as_slice(), 0, 128, 128)));
     assert_eq!(rt; fields(duo.local(2)), None);
-    let twice = font(&rt, &key(&rt, b"duo", 256)?, &DUO_VF, &DOT_PK)?;
+    Ok(())
+}
+
+#[test]
+fn a_local_font_of_duo_at_twice_the_size(rt: HostRuntime) -> Result<(), Fail> {
+    let twice = duo(rt.alloc(), 256)?;
     let bar = fields(twice.local(1));
     assert_eq!(rt; bar, Some((b"bar".as_slice(), 0, 256, 128)));
     Ok(())
 }
 
 #[test]
-fn fonts_without_local_fonts(rt: HostRuntime) -> Result<(), Fail> {
-    let rules = font(&rt, &key(&rt, b"box", 128)?, &BOX_VF, b"")?;
+fn a_virtual_font_without_local_fonts(rt: HostRuntime) -> Result<(), Fail> {
+    let rules = font(rt.alloc(), &key(rt.alloc(), b"box", 128)?, &BOX_VF, b"")?;
     assert_eq!(rt; (rules.is_virtual(), rules.first_local()), (true, None));
     assert_eq!(rt; fields(rules.local(0)), None);
     assert_eq!(rt; packet(&rules, 65), [0x41].as_slice());
@@ -87,7 +101,12 @@ fn fonts_without_local_fonts(rt: HostRuntime) -> Result<(), Fail> {
         packet(&rules, 66),
         [0x84, 0, 1, 0, 0, 0, 1, 0, 0].as_slice()
     );
-    let dot = font(&rt, &key(&rt, b"dot", 128)?, b"", &DOT_PK)?;
+    Ok(())
+}
+
+#[test]
+fn a_packed_font_has_neither_local_fonts_nor_packets(rt: HostRuntime) -> Result<(), Fail> {
+    let dot = font(rt.alloc(), &key(rt.alloc(), b"dot", 128)?, b"", &DOT_PK)?;
     assert_eq!(rt; (dot.is_virtual(), dot.first_local()), (false, None));
     assert_eq!(rt; fields(dot.local(0)), None);
     assert_eq!(rt; packet(&dot, 65), b"none".as_slice());
@@ -98,11 +117,17 @@ fn fonts_without_local_fonts(rt: HostRuntime) -> Result<(), Fail> {
 // less than half a unit.
 #[test]
 fn local_sizes_out_of_range(rt: HostRuntime) -> Result<(), Fail> {
-    assert_eq!(rt; resized(&rt, 128, 8192, 63151)?, None);
-    assert_eq!(rt; resized(&rt, 128, 8191, 63151)?, Some(FontFault::Size));
-    assert_eq!(rt; resized(&rt, 128, 8192, 63150)?, Some(FontFault::Size));
-    assert_eq!(rt; resized(&rt, 134_217_727, 0x10_0000, 63151)?, None);
-    let large = resized(&rt, 134_217_727, 0x10_0001, 63151)?;
+    assert_eq!(rt; resized(rt.alloc(), 128, 8192, 63151)?, None);
+    assert_eq!(rt;
+        resized(rt.alloc(), 128, 8191, 63151)?,
+        Some(FontFault::Size)
+    );
+    assert_eq!(rt;
+        resized(rt.alloc(), 128, 8192, 63150)?,
+        Some(FontFault::Size)
+    );
+    assert_eq!(rt; resized(rt.alloc(), 134_217_727, 0x10_0000, 63151)?, None);
+    let large = resized(rt.alloc(), 134_217_727, 0x10_0001, 63151)?;
     assert_eq!(rt; large, Some(FontFault::Size));
     Ok(())
 }
@@ -110,14 +135,14 @@ fn local_sizes_out_of_range(rt: HostRuntime) -> Result<(), Fail> {
 // The fault of the file comes before those of sizes, and no PK file is wanted beside it.
 #[test]
 fn faults_of_a_vf_file(rt: HostRuntime) -> Result<(), Fail> {
-    let found = resized(&rt, 128, 0, 63150)?;
+    let found = resized(rt.alloc(), 128, 0, 63150)?;
     assert_eq!(rt; found, Some(FontFault::Vf(VfFault::LocalDef(0))));
     let mut vf = DUO_VF;
     vf[55] = 0x8d;
-    let huge = key(&rt, b"duo", 500_000)?;
-    let found = fault(&rt, &huge, &DOT_TFM, &vf, b"")?;
+    let huge = key(rt.alloc(), b"duo", 500_000)?;
+    let found = fault(rt.alloc(), &huge, &DOT_TFM, &vf, b"")?;
     assert_eq!(rt; found, Some(FontFault::Vf(VfFault::Unbalanced(65))));
-    let found = fault(&rt, &huge, &DOT_TFM, &DUO_VF, b"")?;
+    let found = fault(rt.alloc(), &huge, &DOT_TFM, &DUO_VF, b"")?;
     assert_eq!(rt; found, None);
     Ok(())
 }

@@ -4,7 +4,7 @@ use super::*;
 use outside::FontName;
 use std::test::Fail;
 
-/// A page's beginning without its pointer.
+// A page's beginning without its pointer.
 const BOP: [u8; 41] = [
     0x8b, 0, 0, 0, 0, 0, 0, 0, 0, 0, 0, 0, 0, 0, 0, 0, 0, 0, 0, 0, 0, 0, 0, 0, 0, 0, 0, 0, 0, 0, 0,
     0, 0, 0, 0, 0, 0, 0, 0, 0, 0,
@@ -79,7 +79,7 @@ fn a_font_may_be_defined_in_the_postamble(rt: HostRuntime) -> Result<(), Fail> {
     Ok(())
 }
 
-/// Appends an empty page whose pointer is `back`.
+// Appends an empty page whose pointer is `back`.
 fn push_page(file: &mut Vec<u8>, back: i32) -> Result<(), Fail> {
     file.extend_from_slice(&BOP)?;
     file.extend_from_slice(&back.to_be_bytes())?;

@@ -7,7 +7,7 @@ use crate::PostField;
 use dvi_commands::CommandFault;
 use std::test::Fail;
 
-/// The fault of the page's document with one byte changed.
+// The fault of the page's document with one byte changed.
 fn with_byte(alloc: Global, at: usize, byte: u8) -> Option<DocFault>
     requires { at < 112 }
 {

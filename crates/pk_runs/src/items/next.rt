@@ -3,7 +3,7 @@
 ghost use Rattle.std.specs.Prelude.{◌≤◌, MatchResult};
 ghost use Rattle.pk_runs.specs.Reading.{IsItemRead, CantRead};
 
-use super::Reading;
+use super::PackedNumber;
 use crate::faults::RunFault;
 use crate::numbers::number;
 use crate::nybbles::Nybbles;
@@ -16,7 +16,7 @@ pub fn next_item(
     dyn_f: u8,
     row: u32,
     repeated: bool,
-) -> Result<Reading, RunFault>
+) -> Result<PackedNumber, RunFault>
     requires { dyn_f ≤ 13 }
     ensures { MatchResult result (IsItemRead dyn_f nybbles.old nybbles.new repeated)
         (CantRead dyn_f nybbles.old row repeated) }
@@ -26,11 +26,11 @@ pub fn next_item(
     };
     // Most items: a run of one nybble, from 1 to dyn_f.
     if first.wrapping_sub(1) < dyn_f {
-        return Ok(Reading::Run(u64::from(first)));
+        return Ok(PackedNumber::Run(u64::from(first)));
     }
     if first < 14 {
         return match number(nybbles, dyn_f, first) {
-            Some(n) => Ok(Reading::Run(n)),
+            Some(n) => Ok(PackedNumber::Run(n)),
             None => Err(RunFault::Short),
         };
     }
@@ -38,7 +38,7 @@ pub fn next_item(
         return Err(RunFault::SecondRepeat(row));
     }
     if first == 15 {
-        return Ok(Reading::Repeat(1));
+        return Ok(PackedNumber::Repeat(1));
     }
     let Some(second) = nybbles.next() else {
         return Err(RunFault::Short);
@@ -47,7 +47,7 @@ pub fn next_item(
         return Err(RunFault::SecondRepeat(row));
     }
     match number(nybbles, dyn_f, second) {
-        Some(n) => Ok(Reading::Repeat(n)),
+        Some(n) => Ok(PackedNumber::Repeat(n)),
         None => Err(RunFault::Short),
     }
 }

@@ -5,7 +5,7 @@ use Rattle.clap.specs.Words.{found_of, kind_of, rows_of}
 use Rattle.command_line.specs.declared.parse.LineStop.TheVariants.{Usage}
 use Rattle.command_line.specs.Shaped.{is_shaped}
 use Rattle.command_line.specs.Reads.{is_allowed, settings_with}
-use Rattle.command_line.specs.declared.matches.Given.{Given}
+use Rattle.command_line.specs.declared.matches.LineValues.{LineValues}
 use Rattle.command_line.proofs.Allowed.{allowed_if}
 use Rattle.command_line.proofs.Answers.{answer_ok, answer_usage, found_rows, misshapen, no_fault}
 use Rattle.command_line.proofs.Answers.{refused_arguments, settings_taken, some_fault}
@@ -43,7 +43,7 @@ settings_given c =
     let given = c.given_in.ensures t.uses t.reads in
     let same = settings_taken arguments c.args.workers t.uses t.spelled t.distinct
     ∙ sym (c.settings.ensures
-    ∙ ap (λ (g : Given). cond (is_allowed c.args.workers g) (Some (settings_with g)) None)
+    ∙ ap (λ (g : LineValues). cond (is_allowed c.args.workers g) (Some (settings_with g)) None)
     given) in
     answer_ok c.settings.result _ c.ok_or.result c.ok_or.ensures.value same
 
@@ -75,7 +75,7 @@ returns-in-Ok-clause-usage c =
     let given = c.given_in.ensures t.uses t.reads in
     let same = settings_taken arguments c.args.workers t.uses t.spelled t.distinct
     ∙ sym (c.settings.ensures
-    ∙ ap (λ (g : Given). cond (is_allowed c.args.workers g) (Some (settings_with g)) None)
+    ∙ ap (λ (g : LineValues). cond (is_allowed c.args.workers g) (Some (settings_with g)) None)
     given) in
     answer_usage c.settings.result _ c.ok_or.result c.ok_or.ensures.value same
 

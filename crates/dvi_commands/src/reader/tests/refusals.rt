@@ -1,12 +1,13 @@
 //! Where commands may not stand, and what is no command, worked out by hand.
 
 use crate::{CommandFault, Context, read_command};
+use std::process::Abort;
 
 fn fault_in(context: Context, bytes: &[u8]) -> Option<CommandFault> {
     read_command(bytes, 0, context).err()
 }
 
-/// The first and the last opcode of each stretch that may stand in a context.
+// The first and the last opcode of each stretch that may stand in a context.
 type Stretches = [(u8, u8); 5];
 
 fn is_among(opcode: u8, stretches: &Stretches) -> bool {
@@ -18,9 +19,9 @@ fn is_among(opcode: u8, stretches: &Stretches) -> bool {
     false
 }
 
-/// Whether each opcode is refused in the context where it may not stand, and read where it may:
-/// with fields of zeros every command is whole.
-fn are_judged(context: Context, stretches: &Stretches) -> bool {
+// Each opcode is refused in the context where it may not stand, and read where it may: with fields
+// of zeros every command is whole.
+fn assert_judged<R: Abort>(rt: &R, context: Context, stretches: &Stretches) {
     let mut bytes = [0; 45];
     for opcode in 0..=255 {
         bytes[0] = opcode;
@@ -31,33 +32,28 @@ fn are_judged(context: Context, stretches: &Stretches) -> bool {
         } else {
             Some(CommandFault::Misplaced(opcode))
         };
-        if fault_in(context, &bytes) != wanted {
-            return false;
-        }
+        assert_eq!(rt; fault_in(context, &bytes), wanted, "opcode {opcode}");
     }
-    true
 }
 
 #[test]
 fn each_opcode_in_each_context(rt: HostRuntime) {
     let pre = (247, 247);
-    assert!(rt; are_judged(Context::Start, &[pre, pre, pre, pre, pre]));
+    assert_judged(&rt, Context::Start, &[pre, pre, pre, pre, pre]);
     let (nop, bop, post) = ((138, 138), (139, 139), (248, 248));
-    assert!(rt; are_judged(Context::Between, &[nop, bop, (243, 246), post, post]));
+    assert_judged(&rt, Context::Between, &[nop, bop, (243, 246), post, post]);
     let (characters, specials) = ((0, 131), (239, 242));
-    assert!(rt;
-        are_judged(
-            Context::Page,
-            &[characters, (132, 138), (140, 170), (171, 238), (239, 246)]
-        )
+    assert_judged(
+        &rt,
+        Context::Page,
+        &[characters, (132, 138), (140, 170), (171, 238), (239, 246)],
     );
-    assert!(rt;
-        are_judged(
-            Context::Packet,
-            &[characters, (132, 138), (141, 170), (171, 238), specials]
-        )
+    assert_judged(
+        &rt,
+        Context::Packet,
+        &[characters, (132, 138), (141, 170), (171, 238), specials],
     );
-    assert!(rt; are_judged(Context::Post, &[nop, (243, 246), (249, 249), nop, nop]));
+    assert_judged(&rt, Context::Post, &[nop, (243, 246), (249, 249), nop, nop]);
 }
 
 #[test]

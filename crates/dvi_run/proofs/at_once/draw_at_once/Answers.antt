@@ -1,5 +1,5 @@
 use Rattle.std.proofs.Common.{◌≡◌, ◌+◌, ℕ, Option, length, get_or, refl, sym, subst, ap, ◌∙◌, arith, rules}
-use Rattle.outside.specs.Library.{Files}
+use Rattle.outside.specs.Library.{FileTable}
 use Rattle.pixel_round.specs.declared.units.Units.{Units}
 use Rattle.turn_lock.specs.declared.view.View.{View}
 use Rattle.turn_lock.specs.Views.{opening_view}
@@ -12,7 +12,7 @@ use Rattle.dvi_run.proofs.Seated.{unused}
 use Rattle.dvi_run.proofs.Shares.{none_shared}
 use Rattle.dvi_run.proofs.at_once.draw_at_once.Goals as goal
 
-opening_is : (v : View) (capacity : ℕ) (u w : Units) (l : Option Files) → v ≡ opening_view (record { capacity = capacity; units = u; library = l }) → w ≡ u
+opening_is : (v : View) (capacity : ℕ) (u w : Units) (l : Option FileTable) → v ≡ opening_view (record { capacity = capacity; units = u; library = l }) → w ≡ u
     → v ≡ opening_view (record { capacity = v.part.capacity; units = w; library = l })
 opening_is v capacity u w l e same =
     let c : v.part.capacity ≡ capacity = ap (λ (x : View). x.part.capacity) e in

@@ -1,14 +1,14 @@
 use Rattle.std.proofs.Common.{◌≡◌, ◌<◌, ◌++◌, ◌∷◌, [], Some, length, get_or, ap, sym, subst, arith, rules}
 use Rattle.std.proofs.lemmas.List.{length_push}
 use Rattle.outside.specs.declared.mem_fonts.SureFonts.{SureFonts}
-use Rattle.outside.specs.Library.{Files}
+use Rattle.outside.specs.Library.{FileTable}
 use Rattle.page_workers.specs.declared.worker.Worker.{Worker}
 use Rattle.dvi_run.specs.Together.{IsReady}
 use Rattle.dvi_run.proofs.Together.{more_each}
 use Rattle.dvi_run.proofs.handing.own_workers.Goals as goal
 
 -- ready for a run that is told these files
-abbrev Ready : Files → Worker SureFonts → Type 0
+abbrev Ready : FileTable → Worker SureFonts → Type 0
 Ready files w = IsReady (λ s. Some s.library.value) (Some files) w
 
 pub loop-k-init : goal.loop-k-init

@@ -2,7 +2,7 @@ use mir.Syntax.{of_param}
 use Rattle.std.proofs.Common.{◌≡◌, ◌≤◌, ℕ, Option, Some, IfSome, sym, subst, rules}
 use Rattle.outside.specs.Counts.{Rose}
 use Rattle.dvi_run.specs.Endings.{IsEnding, seen_ending}
-use Rattle.dvi_run.specs.Pages.{given_by}
+use Rattle.dvi_run.specs.Pages.{setup_by}
 use Rattle.dvi_run.specs.Sampled.{FailedBy, document_by, library_by, rest_by}
 use Rattle.dvi_run.specs.Together.{SomeUsed, SourceRose}
 use Rattle.dvi_run.proofs.sampled.draw_asked.Goals as goal
@@ -34,4 +34,4 @@ returns-in-Some-clause-ends g c =
     let InputFailed = Rose (g.I.Input.faults c.args.input.now) (g.I.Input.faults c.args.input.now) in
     let left = g.I.Input.left c.args.input.now in
     subst (λ (o : Option ℕ). IsEnding old new OutputFailed (FailedBy o SourceFailed) (c.draw_sample.new.out ≡ c.args.out.now) (FailedBy o InputFailed)
-    (given_by (library_by o g.told) c.args.settings.now) (document_by o left) (rest_by o left) (seen_ending c.draw_sample.result.0)) (sym c.in-Some.is) c.draw_sample.ensures.ends
+    (setup_by (library_by o g.told) c.args.settings.now) (document_by o left) (rest_by o left) (seen_ending c.draw_sample.result.0)) (sym c.in-Some.is) c.draw_sample.ensures.ends

@@ -4,7 +4,7 @@ use Rattle.outside.specs.Counts.{Rose}
 use Rattle.cache_core.specs.Views.{calls_of}
 use Rattle.sample_maker.specs.Sample.{sample_files}
 use Rattle.dvi_run.specs.Endings.{seen_ending, status_of}
-use Rattle.dvi_run.specs.Pages.{Given, given_by}
+use Rattle.dvi_run.specs.Pages.{Setup, setup_by}
 use Rattle.dvi_run.specs.Sampled.{WasHanded}
 use Rattle.dvi_run.specs.Together.{DrewTogether, RestIsKept, SomeUsed, SourceRose}
 use Rattle.dvi_run.proofs.Handed.{done_handed, drew_handed, none_rose, sources_kept}
@@ -45,7 +45,7 @@ returns-clause-ends g c =
     let handed : (k : ℕ) (e : _) (d : _) → k < n → WasHanded (get_or last k e) (get_or before k d) (get_or after k d) = λ k e d lt. c.hand_all.ensures.handed k e d (omega (arith, lt, long_last)) in
     let old = g.O.Output.written c.args.out.now in
     let new = g.O.Output.written c.draw_document-drawn.new.out in
-    let given : Given = given_by (Some sample_files) c.args.settings.now in
+    let given : Setup = setup_by (Some sample_files) c.args.settings.now in
     let text = c.args.document.now in
     let e = seen_ending c.draw_document-drawn.result.0 in
     let OutputFailed = Rose (g.O.Output.faults c.args.out.now) (g.O.Output.faults c.draw_document-drawn.new.out) in
@@ -69,7 +69,7 @@ returns-clause-sample g c =
     let rest : RestIsKept n before after = subst (λ (m : ℕ). RestIsKept m before after) long_last c.hand_all.ensures.rest in
     let old = g.O.Output.written c.args.out.now in
     let new = g.O.Output.written c.draw_document-drawn.new.out in
-    let given : Given = given_by (Some sample_files) c.args.settings.now in
+    let given : Setup = setup_by (Some sample_files) c.args.settings.now in
     let text = c.args.document.now in
     let e = seen_ending c.draw_document-drawn.result.0 in
     let OutputFailed = Rose (g.O.Output.faults c.args.out.now) (g.O.Output.faults c.draw_document-drawn.new.out) in
@@ -114,7 +114,7 @@ returns-clause-drew g c =
     let rest : RestIsKept n before after = subst (λ (m : ℕ). RestIsKept m before after) long_last c.hand_all.ensures.rest in
     let old = g.O.Output.written c.args.out.now in
     let new = g.O.Output.written c.draw_document-drawn.new.out in
-    let given : Given = given_by (Some sample_files) c.args.settings.now in
+    let given : Setup = setup_by (Some sample_files) c.args.settings.now in
     let text = c.args.document.now in
     let e = seen_ending c.draw_document-drawn.result.0 in
     let tally = c.draw_document-drawn.result.1 in

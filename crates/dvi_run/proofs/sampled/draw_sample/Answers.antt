@@ -1,7 +1,7 @@
 use denote.Param.Send.{sendable}
 use Rattle.std.proofs.Common.{◌≡◌, ◌∙◌, ◌<◌, ◌≤◌, ℕ, List, [], Option, Some, length, get_or, refl, ap, sym, subst, rules}
 use Rattle.outside.specs.Counts.{Rose}
-use Rattle.outside.specs.Library.{Files}
+use Rattle.outside.specs.Library.{FileTable}
 use Rattle.outside.specs.declared.mem_fonts.SureFonts.{SureFonts}
 use Rattle.outside.proofs.mem_fonts.SureFonts.TheSendSync.{the_send}
 use Rattle.cache_core.specs.Views.{calls_of}
@@ -10,20 +10,20 @@ use Rattle.page_index.specs.Limits.{LONGEST}
 use Rattle.page_workers.specs.declared.worker.Worker.{Worker}
 use Rattle.sample_maker.specs.Sample.{sample_document, sample_files}
 use Rattle.dvi_run.specs.Endings.{IsEnding, seen_ending, status_of}
-use Rattle.dvi_run.specs.Pages.{given_by}
+use Rattle.dvi_run.specs.Pages.{setup_by}
 use Rattle.dvi_run.specs.Reading.{OfRead}
 use Rattle.dvi_run.specs.Together.{DrewTogether, IsReady}
 use Rattle.dvi_run.proofs.Together.{idle_done}
 use Rattle.dvi_run.proofs.sampled.draw_sample.Goals as goal
 
-abbrev Library : SureFonts → Option Files
+abbrev Library : SureFonts → Option FileTable
 Library s = Some s.library.value
 
 -- the run's own workers are ready as they are handed to a call
-own_ready : (files : Files) (n : ℕ) (items now : List (Worker SureFonts)) → now ≡ items → files ≡ sample_files → ((k : ℕ) (d : Worker SureFonts) → k < n → IsReady Library (Some files) (get_or items k d))
+own_ready : (files : FileTable) (n : ℕ) (items now : List (Worker SureFonts)) → now ≡ items → files ≡ sample_files → ((k : ℕ) (d : Worker SureFonts) → k < n → IsReady Library (Some files) (get_or items k d))
     → (k : ℕ) (d : Worker SureFonts) → k < n → IsReady Library (Some sample_files) (get_or now k d)
 own_ready files n items now same told each k d lt =
-    subst (λ (ws : List (Worker SureFonts)). IsReady Library (Some sample_files) (get_or ws k d)) (sym same) (subst (λ (fs : Files). IsReady Library (Some fs) (get_or items k d)) told (each k d lt))
+    subst (λ (ws : List (Worker SureFonts)). IsReady Library (Some sample_files) (get_or ws k d)) (sym same) (subst (λ (fs : FileTable). IsReady Library (Some fs) (get_or items k d)) told (each k d lt))
 
 pub returns-in_default-own_workers-clause-done : goal.returns-in_default-own_workers-clause-done
 returns-in_default-own_workers-clause-done g c = let q = c.requires.1.1.1.1.1 in idle_done _ _ _ _ _ _ _ _ _ _ _ q.1.1.1.1.0 tt (ap calls_of q.1.1.1.1.1)
@@ -83,7 +83,7 @@ returns-clause-ends g c =
     let old = g.O.Output.written c.args.out.now in
     let new = g.O.Output.written c.draw_by_own.new.out in
     subst (λ (text : List ℕ). IsEnding old new (Rose (g.O.Output.faults c.args.out.now) (g.O.Output.faults c.draw_by_own.new.out)) ⊥ (c.draw_by_own.new.out ≡ c.args.out.now) ⊥
-    (given_by (Some sample_files) c.args.settings.now) (Some text) (Some []) (seen_ending c.draw_by_own.result.0)) bytes c.draw_by_own.ensures.ends
+    (setup_by (Some sample_files) c.args.settings.now) (Some text) (Some []) (seen_ending c.draw_by_own.result.0)) bytes c.draw_by_own.ensures.ends
 
 pub returns-clause-done : goal.returns-clause-done
 returns-clause-done g c = c.draw_by_own.ensures.done c.args.pages
@@ -92,5 +92,5 @@ pub returns-clause-drew : goal.returns-clause-drew
 returns-clause-drew g c =
     let bytes : c.deref.result.now ≡ sample_document c.args.pages = search rules in
     let e = seen_ending c.draw_by_own.result.0 in
-    subst (λ (text : List ℕ). OfRead (Some text) (DrewTogether (given_by (Some sample_files) c.args.settings.now) c.args.settings.now.summary (g.O.Output.written c.args.out.now) (g.O.Output.written c.draw_by_own.new.out)
+    subst (λ (text : List ℕ). OfRead (Some text) (DrewTogether (setup_by (Some sample_files) c.args.settings.now) c.args.settings.now.summary (g.O.Output.written c.args.out.now) (g.O.Output.written c.draw_by_own.new.out)
     c.args.settings.now.cache c.args.settings.now.workers (status_of e) e c.draw_by_own.result.1 (calls_of c.draw_by_own.new.history.items) c.args.workers.now c.draw_by_own.new.workers)) bytes c.draw_by_own.ensures.drew

@@ -2,7 +2,7 @@ use Rattle.std.proofs.Common.{◌≡◌, ap, rules}
 use Rattle.outside.specs.Counts.{Rose}
 use Rattle.cache_core.specs.Views.{calls_of}
 use Rattle.dvi_run.specs.Endings.{seen_ending}
-use Rattle.dvi_run.specs.Pages.{given_by}
+use Rattle.dvi_run.specs.Pages.{setup_by}
 use Rattle.dvi_run.specs.Together.{SomeUsed, SourceRose}
 use Rattle.dvi_run.proofs.Outcomes.{pages_end}
 use Rattle.dvi_run.proofs.Together.{are_done, drew_together, ends_used, idle_done}
@@ -18,7 +18,7 @@ returns-in-Ok-clause-ends g c =
     let d = c.draw_pages.ensures.drew in
     let n = c.args.settings.now.workers in
     pages_end (g.O.Output.written c.args.out.now) (g.O.Output.written c.draw_pages.new.out) (Rose (g.O.Output.faults c.args.out.now) (g.O.Output.faults c.draw_pages.new.out))
-    (SomeUsed n c.args.workers.now c.draw_pages.new.workers (SourceRose g.F.FontSource.faults)) (c.draw_pages.new.out ≡ c.args.out.now) (given_by g.told c.args.settings.now) c.args.bytes.now
+    (SomeUsed n c.args.workers.now c.draw_pages.new.workers (SourceRose g.F.FontSource.faults)) (c.draw_pages.new.out ≡ c.args.out.now) (setup_by g.told c.args.settings.now) c.args.bytes.now
     c.in-Ok.index.reading d.ends.0 c.in-Ok.ensures.document d.ends.1 (seen_ending c.draw_pages.result.0) (ends_used _ _ _ _ _ _ _ _ _ _ _ _ _ _ _ _ d)
 
 pub returns-in-Ok-clause-done : goal.returns-in-Ok-clause-done

@@ -3,7 +3,7 @@ use Rattle.std.proofs.Common.{◌≡◌, List, ℕ, ap, subst, rules}
 use Rattle.outside.specs.Counts.{Rose}
 use Rattle.cache_core.specs.Views.{calls_of}
 use Rattle.dvi_run.specs.Endings.{EndsBytes, Input, Memory, seen_ending, status_of}
-use Rattle.dvi_run.specs.Pages.{Given, given_by}
+use Rattle.dvi_run.specs.Pages.{Setup, setup_by}
 use Rattle.dvi_run.specs.Together.{DrewTogether, SomeUsed, SourceRose}
 use Rattle.dvi_run.proofs.Outcomes.{bytes_end}
 use Rattle.dvi_run.proofs.Together.{idle_done, idle_drew}
@@ -29,7 +29,7 @@ draw_document-requires g c κs within =
 
 pub returns-in-Ok-clause-ends : goal.returns-in-Ok-clause-ends
 returns-in-Ok-clause-ends g c =
-    let given : Given = given_by g.told c.args.settings.now in
+    let given : Setup = setup_by g.told c.args.settings.now in
     let old = g.O.Output.written c.args.out.now in
     let new = g.O.Output.written c.draw_document.new.out in
     let OutputFailed = Rose (g.O.Output.faults c.args.out.now) (g.O.Output.faults c.draw_document.new.out) in
@@ -42,7 +42,7 @@ returns-in-Ok-clause-ends g c =
 
 pub returns-in-Ok-clause-drew : goal.returns-in-Ok-clause-drew
 returns-in-Ok-clause-drew g c =
-    let given : Given = given_by g.told c.args.settings.now in
+    let given : Setup = setup_by g.told c.args.settings.now in
     let old = g.O.Output.written c.args.out.now in
     let new = g.O.Output.written c.draw_document.new.out in
     let e = seen_ending c.draw_document.result.0 in
@@ -56,7 +56,7 @@ pub returns-in-Err-Failed-clause-drew : goal.returns-in-Err-Failed-clause-drew
 returns-in-Err-Failed-clause-drew g c =
     let q = c.requires.1.1.1.1.1.1 in
     let old = g.O.Output.written c.args.out.now in
-    idle_drew (given_by g.told c.args.settings.now) c.args.settings.now.summary old old c.args.settings.now.cache c.args.settings.now.workers (status_of Input) Input (calls_of c.args.history.now.items) c.args.workers.now
+    idle_drew (setup_by g.told c.args.settings.now) c.args.settings.now.summary old old c.args.settings.now.cache c.args.settings.now.workers (status_of Input) Input (calls_of c.args.history.now.items) c.args.workers.now
     (g.I.Input.left c.args.input.now) tt (ap calls_of q.1.1.1)
 
 pub returns-in-Err-NoMemory-clause-done : goal.returns-in-Err-NoMemory-clause-done
@@ -66,5 +66,5 @@ pub returns-in-Err-NoMemory-clause-drew : goal.returns-in-Err-NoMemory-clause-dr
 returns-in-Err-NoMemory-clause-drew g c =
     let q = c.requires.1.1.1.1.1.1 in
     let old = g.O.Output.written c.args.out.now in
-    idle_drew (given_by g.told c.args.settings.now) c.args.settings.now.summary old old c.args.settings.now.cache c.args.settings.now.workers (status_of Memory) Memory (calls_of c.args.history.now.items) c.args.workers.now
+    idle_drew (setup_by g.told c.args.settings.now) c.args.settings.now.summary old old c.args.settings.now.cache c.args.settings.now.workers (status_of Memory) Memory (calls_of c.args.history.now.items) c.args.workers.now
     (g.I.Input.left c.args.input.now) tt (ap calls_of q.1.1.1)

@@ -3,7 +3,7 @@ use Rattle.std.proofs.lemmas.List.{length-take-le}
 use Rattle.outside.specs.Counts.{Rose}
 use Rattle.cache_core.specs.Views.{calls_of}
 use Rattle.dvi_run.specs.Endings.{seen_ending}
-use Rattle.dvi_run.specs.Pages.{Given}
+use Rattle.dvi_run.specs.Pages.{Setup}
 use Rattle.dvi_run.specs.Together.{DrewPages}
 use Rattle.dvi_run.proofs.Together.{prefix_few, prefix_fresh, prefix_seatless, prefix_some, of_prefix, one_history, one_of, rest_of_prefix}
 use Rattle.dvi_run.proofs.stages.draw_pages.Goals as goal
@@ -40,7 +40,7 @@ returns-clause-drew g c =
     let counted = c.args.settings.now.summary in
     let history = calls_of c.draw_at_once.new.history.items in
     let done = c.draw_at_once.ensures in
-    let given : Given = record { library = g.told; res = c.args.index.now.res; sheet = sheet } in
+    let given : Setup = record { library = g.told; res = c.args.index.now.res; sheet = sheet } in
     let drew : DrewPages library faults loads given counted reading cache (length (take n ws)) old new P e tally history (take n ws) prefix =
     record {
       ends = done.ends;

@@ -6,7 +6,7 @@ use Rattle.page_index.specs.Pages.{IsConversionOf, document_units}
 use Rattle.font_decode.specs.Decoding.{IsFontOf}
 use Rattle.font_decode.proofs.Trails.{trail_none, trail_more, trail_as}
 use Rattle.vf_expand.specs.Course.{Ends, course_of}
-use Rattle.vf_expand.specs.Doing.{left}
+use Rattle.vf_expand.specs.Expansion.{left}
 use Rattle.page_draw.proofs.Lists.{IsSoFar, so_far_look, so_far_none, so_far_same}
 use Rattle.page_draw.proofs.Ends.{broken_at_first, broken_at_look, end_drawn, end_stop, stop_drawn}
 use Rattle.page_draw.proofs.Other.{handed_on}

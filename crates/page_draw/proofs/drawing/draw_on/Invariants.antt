@@ -3,7 +3,7 @@ use Rattle.page_index.specs.Pages.{IsConversionOf, document_units}
 use Rattle.font_decode.specs.Decoding.{IsFontOf}
 use Rattle.font_decode.specs.Desks.{TrailGrew}
 use Rattle.vf_expand.specs.Course.{course_of}
-use Rattle.vf_expand.specs.Doing.{asks_left, left, steps_left}
+use Rattle.vf_expand.specs.Expansion.{asks_left, left, steps_left}
 use Rattle.page_draw.proofs.Lists.{IsSoFar}
 use Rattle.page_draw.proofs.drawing.draw_on.Given as goal
 

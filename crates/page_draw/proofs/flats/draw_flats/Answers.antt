@@ -3,7 +3,7 @@ use Rattle.std.proofs.lemmas.Result.{err_from_is_err_and}
 use Rattle.drift_rules.specs.Position.{seen_flat}
 use Rattle.font_decode.specs.Decoding.{IsFontOf}
 use Rattle.vf_expand.specs.Course.{course_of}
-use Rattle.vf_expand.specs.Doing.{glyph_for, left}
+use Rattle.vf_expand.specs.Expansion.{glyph_for, left}
 use Rattle.pk_runs.specs.declared.glyph.Glyph.{Glyph}
 use Rattle.page_draw.specs.Inking.{Inks, set_in}
 use Rattle.page_draw.proofs.Lists.{so_far_flat, so_far_same}

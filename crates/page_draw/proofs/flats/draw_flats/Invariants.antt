@@ -1,5 +1,5 @@
 use Rattle.std.proofs.Common.{◌≡◌, ◌≤◌}
-use Rattle.vf_expand.specs.Doing.{asks_left, left, steps_left}
+use Rattle.vf_expand.specs.Expansion.{asks_left, left, steps_left}
 use Rattle.page_draw.specs.SoFar.{GoesOn}
 use Rattle.page_draw.proofs.flats.draw_flats.Given as goal
 

@@ -1,7 +1,7 @@
 use Rattle.std.proofs.Common.{ℕ, Bool, List, length, length-append, ap, subst, arith}
 use Rattle.std.proofs.lemmas.Result.{err_from_is_err_and}
 use Rattle.pk_runs.specs.Reading.{IsItemRead}
-use Rattle.pk_runs.specs.declared.items.Reading.{Reading}
+use Rattle.pk_runs.specs.declared.items.PackedNumber.{PackedNumber}
 use Rattle.pk_runs.proofs.Steps.{cant_read_at}
 use Rattle.pk_runs.proofs.Within.{within_none, within_more}
 use Rattle.pk_runs.proofs.narrow_runs.runs_in_row.Goals as goal
@@ -26,13 +26,13 @@ pub returns-then-n-from-clause-painted : goal.returns-then-n-from-clause-painted
 returns-then-n-from-clause-painted c = λ bytes first d. (
   c.loop-item.nybbles,
   c.loop-item.invariant.painted bytes first d,
-  subst (λ (x : Reading). IsItemRead c.args.dyn_f c.loop-item.nybbles c.next_item.new.nybbles c.loop-item.painter.repeated x) c.in-Run.is
+  subst (λ (x : PackedNumber). IsItemRead c.args.dyn_f c.loop-item.nybbles c.next_item.new.nybbles c.loop-item.painter.repeated x) c.in-Run.is
       (subst (λ (b : Bool). IsItemRead c.args.dyn_f c.loop-item.nybbles c.next_item.new.nybbles b c.in_ok-item.item) c.is_repeated.ensures c.in_ok-item.ensures),
 )
 
 pub loop-item-preserved : goal.loop-item-preserved
 loop-item-preserved c =
     let read = subst (λ (b : Bool). IsItemRead c.args.dyn_f c.loop-item.nybbles c.next_item.new.nybbles b c.in_ok-item.item) c.is_repeated.ensures c.in_ok-item.ensures in
-    let item = subst (λ (x : Reading). IsItemRead c.args.dyn_f c.loop-item.nybbles c.next_item.new.nybbles c.loop-item.painter.repeated x) c.in-Run.is read in
+    let item = subst (λ (x : PackedNumber). IsItemRead c.args.dyn_f c.loop-item.nybbles c.next_item.new.nybbles c.loop-item.painter.repeated x) c.in-Run.is read in
     within_more c.args.dyn_f c.args.painter.now c.args.nybbles.now c.loop-item.painter c.run_within.new.self c.loop-item.nybbles c.next_item.new.nybbles c.in-Run.n c.requires.narrow c.requires.short
     (omega (arith, c.if-n-from.false, c.from.ensures, c.left.ensures.value)) (omega (arith, ap (λ (l : List ℕ). length l) item.2, length-append item.1 c.next_item.new.nybbles)) item c.run_within.ensures c.loop-item.invariant

@@ -1,7 +1,7 @@
 use Rattle.std.proofs.Common.{sym, subst, arith}
 use Rattle.std.proofs.lemmas.Result.{err_from_is_err_and}
 use Rattle.pk_runs.specs.Reading.{IsItemRead, IsPaintedTo}
-use Rattle.pk_runs.specs.declared.items.Reading.{Reading}
+use Rattle.pk_runs.specs.declared.items.PackedNumber.{PackedNumber}
 use Rattle.pk_runs.specs.declared.painter.Painter.{Painter}
 use Rattle.pk_runs.proofs.Steps.{cant_read, run_too_long, too_many_rows, room_is_enough, ran, repeated_by}
 use Rattle.pk_runs.proofs.runs.step.Goals as goal
@@ -13,7 +13,7 @@ returns-in_err-n-clause-painted c = λ bytes first d.
 
 pub returns-then-n-from-clause-painted : goal.returns-then-n-from-clause-painted
 returns-then-n-from-clause-painted c = λ bytes first d.
-    let item = subst (λ (x : Reading). IsItemRead c.args.dyn_f c.args.nybbles.now c.next_item.new.nybbles c.args.painter.now.repeated x) c.in-Run.is c.in_ok-n.ensures in
+    let item = subst (λ (x : PackedNumber). IsItemRead c.args.dyn_f c.args.nybbles.now c.next_item.new.nybbles c.args.painter.now.repeated x) c.in-Run.is c.in_ok-n.ensures in
     run_too_long bytes c.args.dyn_f first c.args.painter.now.bits.width c.args.painter.now.bits.height c.in-Run.n c.args.nybbles.now c.next_item.new.nybbles c.args.painter.now c.requires.low
     (omega (arith, c.if-n-from.true, c.from.ensures, c.room.ensures)) item d
 
@@ -24,19 +24,19 @@ run-requires-clause-room c =
 
 pub returns-then-n-from-2-clause-painted : goal.returns-then-n-from-2-clause-painted
 returns-then-n-from-2-clause-painted c = λ bytes first d.
-    let item = subst (λ (x : Reading). IsItemRead c.args.dyn_f c.args.nybbles.now c.next_item.new.nybbles c.args.painter.now.repeated x) c.in-Repeat.is c.in_ok-n.ensures in
+    let item = subst (λ (x : PackedNumber). IsItemRead c.args.dyn_f c.args.nybbles.now c.next_item.new.nybbles c.args.painter.now.repeated x) c.in-Repeat.is c.in_ok-n.ensures in
     too_many_rows bytes c.args.dyn_f first c.args.painter.now.bits.width c.args.painter.now.bits.height c.in-Repeat.n c.args.nybbles.now c.next_item.new.nybbles c.args.painter.now c.requires.low
     (omega (arith, c.if-n-from-2.true, c.from-in-Repeat.ensures, c.height.ensures.value)) item d
 
 pub returns-else-n-from-clause-painted : goal.returns-else-n-from-clause-painted
 returns-else-n-from-clause-painted c = λ bytes first d.
-    let item = subst (λ (x : Reading). IsItemRead c.args.dyn_f c.args.nybbles.now c.next_item.new.nybbles c.args.painter.now.repeated x) c.in-Run.is c.in_ok-n.ensures in
+    let item = subst (λ (x : PackedNumber). IsItemRead c.args.dyn_f c.args.nybbles.now c.next_item.new.nybbles c.args.painter.now.repeated x) c.in-Run.is c.in_ok-n.ensures in
     ran bytes c.args.dyn_f first c.args.painter.now.bits.width c.args.painter.now.bits.height c.in-Run.n c.args.nybbles.now c.next_item.new.nybbles c.args.painter.now c.run.new.self c.requires.low c.requires.narrow c.requires.short
     (omega (arith, c.if-n-from.false, c.from.ensures, c.room.ensures)) item c.run.ensures.turned c.run.ensures.drawn d
 
 pub returns-else-n-from-2-clause-painted : goal.returns-else-n-from-2-clause-painted
 returns-else-n-from-2-clause-painted c = λ bytes first d.
-    let item = subst (λ (x : Reading). IsItemRead c.args.dyn_f c.args.nybbles.now c.next_item.new.nybbles c.args.painter.now.repeated x) c.in-Repeat.is c.in_ok-n.ensures in
+    let item = subst (λ (x : PackedNumber). IsItemRead c.args.dyn_f c.args.nybbles.now c.next_item.new.nybbles c.args.painter.now.repeated x) c.in-Repeat.is c.in_ok-n.ensures in
     subst (λ (p : Painter). IsPaintedTo bytes c.args.dyn_f first c.args.painter.now.bits.width c.args.painter.now.bits.height c.next_item.new.nybbles p) (sym c.repeat.ensures)
     (repeated_by bytes c.args.dyn_f first c.args.painter.now.bits.width c.args.painter.now.bits.height c.in-Repeat.n c.args.nybbles.now c.next_item.new.nybbles c.args.painter.now c.requires.low c.requires.short
     (omega (arith, c.if-n-from-2.false, c.from-in-Repeat.ensures, c.height.ensures.value)) item d)

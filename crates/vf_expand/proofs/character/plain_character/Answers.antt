@@ -5,7 +5,7 @@ use Rattle.std.specs.Arc.{arc_value}
 use Rattle.font_decode.specs.Fonts.{glyph_at, is_virtual_of}
 use Rattle.font_decode.specs.declared.decoded.Decoded.TheVariants as decoded
 use Rattle.vf_expand.specs.Course as course
-use Rattle.vf_expand.specs.Acts.{SetsPlain, seen_current}
+use Rattle.vf_expand.specs.Effects.{SetsPlain, seen_current}
 use Rattle.vf_expand.proofs.Plain.{sets_plain}
 use Rattle.vf_expand.proofs.character.plain_character.Goals as goal
 

@@ -9,15 +9,15 @@ use Rattle.vf_expand.specs.Course.{Stops, number_of}
 use Rattle.vf_expand.proofs.Virtual.{at_none, at_some, has_packet, no_packet, too_deep}
 use Rattle.vf_expand.proofs.character.virtual_character.Goals as goal
 
-pub returns-then-room-eq0-clause-acts : goal.returns-then-room-eq0-clause-acts
-returns-then-room-eq0-clause-acts c = λ at others.
+pub returns-then-room-eq0-clause-has_effect : goal.returns-then-room-eq0-clause-has_effect
+returns-then-room-eq0-clause-has_effect c = λ at others.
     let same : c.args.code ≡ to_z w32 (of_z w32 c.args.code) = omega (arith, ints) in
     too_deep at _ _ _ _ _ c.args.room c.if-room-eq0.true
     ∙ ap (λ (k : FontKey). Stops (Depth k c.args.code) at) (sym c.in_ok-try_clone.ensures)
     ∙ ap (λ (z : ℤ). Stops (Depth (arc_value c.in_ok-try_clone.field-0) z) at) same
 
-pub returns-then-is_none-clause-acts : goal.returns-then-is_none-clause-acts
-returns-then-is_none-clause-acts c = λ at others.
+pub returns-then-is_none-clause-has_effect : goal.returns-then-is_none-clause-has_effect
+returns-then-is_none-clause-has_effect c = λ at others.
     let same : c.args.code ≡ to_z w32 (of_z w32 c.args.code) = omega (arith, ints) in
     let number : unsigned_abs (to_z w32 (of_z w32 c.args.code)) ≡ c.requires.byte.0 = omega (arith, ints, c.requires.byte.1) in
     let none = at_none c.packet.result _ _ c.if-is_none.ensures c.packet.ensures.packet in
@@ -26,8 +26,8 @@ returns-then-is_none-clause-acts c = λ at others.
     ∙ ap (λ (k : FontKey). Stops (NoPacket k c.args.code) at) (sym c.in_ok-try_clone-2.ensures)
     ∙ ap (λ (z : ℤ). Stops (NoPacket (arc_value c.in_ok-try_clone-2.field-0) z) at) same
 
-pub returns-clause-acts : goal.returns-clause-acts
-returns-clause-acts c =
+pub returns-clause-has_effect : goal.returns-clause-has_effect
+returns-clause-has_effect c =
     let code = unsigned_abs (to_z w32 (of_z w32 c.args.code)) in
     let number : code ≡ c.requires.byte.0 = omega (arith, ints, c.requires.byte.1) in
     let there = at_some (λ x. x.now) c.packet.result (packet_of c.args.font.now code) (IsProgram code) c.if-is_none.ensures c.packet.ensures.packet c.packet.ensures.commands in

@@ -2,7 +2,7 @@ use Rattle.std.proofs.Common.{◌≡◌, ◌+◌, ◌-◌, List, ℕ, pos, ◌�
 use Rattle.std.specs.Prelude.{OnOk}
 use Rattle.std.proofs.lemmas.Int.{ints}
 use Rattle.big_endian.specs.Numbers.{number_bytes}
-use Rattle.dvi_commands.specs.Spelling.{IsNumber, quad}
+use Rattle.dvi_commands.specs.Spelling.{IsOperand, quad}
 use Rattle.dvi_commands.specs.ShortestSpelling.{number_width}
 use Rattle.dvi_commands.proofs.Motions.{stored}
 use Rattle.dvi_commands.proofs.Written.{definition_written, number_written}
@@ -15,7 +15,7 @@ returns-clause-appended c =
     let same : stored d.number ≡ d.number = omega (arith, ints) in
     let same_size : stored d.size ≡ d.size = omega (arith, ints) in
     let same_design : stored d.design ≡ d.design = omega (arith, ints) in
-    let number = number_written w d.number c.quad_bytes.result (subst (IsNumber w) same c.number_width-width.ensures.fits) (c.quad_bytes.ensures.bytes ∙ ap quad same) in
+    let number = number_written w d.number c.quad_bytes.result (subst (IsOperand w) same c.number_width-width.ensures.fits) (c.quad_bytes.ensures.bytes ∙ ap quad same) in
     let written = definition_written w d.number d.size d.design d.check d.area (length d.name.now - d.area) d.name.now _ c.to_be_bytes.result c.quad_bytes-2.result c.quad_bytes-3.result number c.to_be_bytes.ensures (c.quad_bytes-2.ensures.bytes ∙ ap quad same_size) (c.quad_bytes-3.ensures.bytes ∙ ap quad same_design) in
     let least : w ≡ number_width d.number = c.number_width-width.ensures.least ∙ ap number_width same in
     let Appended : List ℕ → Type 0 = λ x. OnOk c.append.result (c.append.new.out.items ≡ c.args.out.now.items ++ x) in

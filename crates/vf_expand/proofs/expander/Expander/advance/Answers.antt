@@ -14,6 +14,6 @@ pub returns-clause-step : goal.returns-clause-step
 returns-clause-step c =
     let x = c.self.inside in
     let due = rw (← c.self.view_is) at c.requires in
-    let room : 0 < x.progress.budget = omega (arith, c.if-self-eq0.false) in
+    let room : 0 < x.last_step.budget = omega (arith, c.if-self-eq0.false) in
     let same : c.args.width ≡ to_z w64 (of_z w64 c.args.width) = omega (arith, ints) in
     rw c.given-self-inside.ensures (rw (← c.self.view_is) (advance_step (seen_expander x) _ (due ∙ ap (λ w. Some w) same) room))

@@ -4,8 +4,8 @@ use Rattle.outside.specs.declared.keys.FontKey.{FontKey}
 use Rattle.vf_expand.specs.Course as course
 use Rattle.vf_expand.specs.declared.current.Current.{Current}
 use Rattle.vf_expand.specs.declared.current.Current.TheVariants as code
-use Rattle.vf_expand.specs.Acts.{HasKey, seen_current}
-use Rattle.vf_expand.specs.Doing.{Stack, left}
+use Rattle.vf_expand.specs.Effects.{HasKey, seen_current}
+use Rattle.vf_expand.specs.Expansion.{Stack, left}
 use Rattle.vf_expand.proofs.Heads.{stack_same}
 use Rattle.vf_expand.proofs.Levels.{has_key, same_levels}
 use Rattle.vf_expand.specs.View.{seen_expander}

@@ -2,9 +2,9 @@ use Rattle.std.proofs.Common.{◌≡◌, ◌<◌, ◌+◌, true, List, Option, S
 use Rattle.std.specs.Prelude.{MatchOption, is_some}
 use Rattle.dvi_commands.specs.Reading.{placed_from}
 use Rattle.vf_expand.proofs.Virtual.{at_none}
-use Rattle.vf_expand.specs.Doing.{IsEnded}
+use Rattle.vf_expand.specs.Expansion.{IsEnded}
 use Rattle.vf_expand.specs.Levels.{seen_packet, stack_of}
-use Rattle.vf_expand.specs.Acts.{seen_current}
+use Rattle.vf_expand.specs.Effects.{seen_current}
 use Rattle.vf_expand.specs.View.{seen_expander}
 use Rattle.vf_expand.specs.declared.frames.Frame.{Frame}
 use Rattle.vf_expand.proofs.Steps.{end_step, late_packet_step, leave_step}
@@ -41,6 +41,6 @@ returns-clause-step c =
     let parts = c.in-Some.ensures in
     let stack = ap (λ (outer : List Frame). stack_of x.bytes.now x.start x.level outer) parts in
     let none = subst IsEnded stack ended in
-    let room : 0 < x.progress.budget = omega (arith, c.if-self-eq0.false) in
+    let room : 0 < x.last_step.budget = omega (arith, c.if-self-eq0.false) in
     rw c.given-self-inside.ensures (rw (← c.self.view_is)
     (leave_step (seen_expander x) undue (seen_packet (seen_current c.in-Some.outside.current) x.level) (stack_of x.bytes.now x.start c.in-Some.outside c.pop.new.self) stack room none))

@@ -4,10 +4,10 @@ use Rattle.dvi_commands.specs.Spelling.{seen}
 use Rattle.vf_expand.specs.Course.{Current, MOST_DEEP, Stops}
 use Rattle.vf_expand.specs.Faults.{TooLong}
 use Rattle.drift_rules.specs.Position.{Skip, seen_flat}
-use Rattle.vf_expand.specs.Doing.{Doing, Stack, depth, font_of}
+use Rattle.vf_expand.specs.Expansion.{Expansion, Stack, depth, font_of}
 use Rattle.vf_expand.specs.Steps.{GivesOne}
 use Rattle.vf_expand.specs.Levels.{AreLevels, stack_of, text_of}
-use Rattle.vf_expand.specs.Acts.{seen_current, seen_place}
+use Rattle.vf_expand.specs.Effects.{seen_current, seen_place}
 use Rattle.vf_expand.specs.View.{seen_expander}
 use Rattle.vf_expand.specs.declared.frames.Frame.{Frame}
 use Rattle.vf_expand.specs.declared.current.Current.TheVariants as code
@@ -29,9 +29,9 @@ returns-then-self-eq0-clause-step c =
     let now = seen_current x.level.current in
     let undue = rw (← c.self.view_is) at c.requires.undue in
     let before : x.level.pos < length (text_of x.bytes.now x.level x.outer) = subst (λ (t : List ℕ). x.level.pos < length t) e.text (omega (arith, e.inside, c.if-self-reading.false)) in
-    let late = late_stack x.index.now.reading eop x.start x.progress.at x.bytes.now x.level x.outer now before c.self.invariant.levels ∙ ap (Stops TooLong) (sym e.at) in
+    let late = late_stack x.index.now.reading eop x.start x.last_step.at x.bytes.now x.level x.outer now before c.self.invariant.levels ∙ ap (Stops TooLong) (sym e.at) in
     rw c.stopped-self-inside.ensures (rw (← c.self.view_is)
-    (late_step (seen_expander x) undue c.opened-reading.result.at (still_at x.index.now.reading eop x.start x.progress.at x.bytes.now x.level x.outer c.opened-reading.result.at e.at now) late c.if-self-eq0.true))
+    (late_step (seen_expander x) undue c.opened-reading.result.at (still_at x.index.now.reading eop x.start x.last_step.at x.bytes.now x.level x.outer c.opened-reading.result.at e.at now) late c.if-self-eq0.true))
 
 pub expanded-requires-clause-dimensions : goal.expanded-requires-clause-dimensions
 expanded-requires-clause-dimensions c =
@@ -60,14 +60,14 @@ invariant_of-self-in-Mark c =
     let x = c.self.inside in
     let e = c.opened-reading.ensures in
     let read = c.command_at-end in
-    let acts = rw c.in-Mark.is at c.in_ok-flat.ensures.acts in
+    let has_effect = rw c.in-Mark.is at c.in_ok-flat.ensures.has_effect in
     rw c.given-self-inside-in-Mark.ensures record {
       room = c.self.invariant.room;
       deep = c.self.invariant.deep;
       levels = read_on_at x.bytes.now x.level x.outer read.result.1 (seen read.result.0) c.opened-reading.result.text.now e.text read.ensures.place.0 read.ensures.place.1
           read.ensures.spelled c.self.invariant.levels x.level.current c.opened-reading.result.context e.context read.ensures.readable (has_key x.bytes.now x.level x.outer c.self.invariant.levels);
       due = c.self.invariant.due;
-      marked = λ h. subst (λ (x : Current). IsSome (font_of x)) (sym acts.known) refl;
+      marked = λ h. subst (λ (x : Current). IsSome (font_of x)) (sym has_effect.known) refl;
     }
 
 pub invariant_of-self-in-Change : goal.invariant_of-self-in-Change
@@ -94,13 +94,13 @@ returns-in-Flat-clause-step c =
     let here = c.opened-reading.result.at in
     let place = seen_place c.opened-reading.result.source in
     let undue = rw (← c.self.view_is) at c.requires.undue in
-    let room : 0 < x.progress.budget = omega (arith, c.if-self-eq0.false) in
+    let room : 0 < x.last_step.budget = omega (arith, c.if-self-eq0.false) in
     let few : MOST_DEEP - c.len-room.result ≡ MOST_DEEP - length x.outer = ap (λ (n : ℕ). MOST_DEEP - n) c.len-room.ensures in
-    let acts = rw c.in-Flat.is at c.in_ok-flat.ensures.acts in
-    let next = head_at x.index.now.reading eop x.start x.progress.at x.bytes.now x.level x.outer read.result.1 (seen read.result.0) c.opened-reading.result.text.now place here
+    let has_effect = rw c.in-Flat.is at c.in_ok-flat.ensures.has_effect in
+    let next = head_at x.index.now.reading eop x.start x.last_step.at x.bytes.now x.level x.outer read.result.1 (seen read.result.0) c.opened-reading.result.text.now place here
     (MOST_DEEP - c.len-room.result) e.text e.place e.at few read.ensures.place.0 read.ensures.place.1 read.ensures.spelled in
-    let same = still_at x.index.now.reading eop x.start x.progress.at x.bytes.now x.level x.outer here e.at (seen_current x.level.current) in
-    rw c.given-self-inside.ensures (rw (← c.self.view_is) (flat_step (seen_expander x) undue room (MOST_DEEP - c.len-room.result) here place (seen read.result.0) (stack_of x.bytes.now x.start (record x.level { pos = read.result.1 }) x.outer) next same c.in-Flat.flat acts))
+    let same = still_at x.index.now.reading eop x.start x.last_step.at x.bytes.now x.level x.outer here e.at (seen_current x.level.current) in
+    rw c.given-self-inside.ensures (rw (← c.self.view_is) (flat_step (seen_expander x) undue room (MOST_DEEP - c.len-room.result) here place (seen read.result.0) (stack_of x.bytes.now x.start (record x.level { pos = read.result.1 }) x.outer) next same c.in-Flat.flat has_effect))
 
 pub returns-in-Mark-clause-step : goal.returns-in-Mark-clause-step
 returns-in-Mark-clause-step c =
@@ -111,13 +111,13 @@ returns-in-Mark-clause-step c =
     let here = c.opened-reading.result.at in
     let place = seen_place c.opened-reading.result.source in
     let undue = rw (← c.self.view_is) at c.requires.undue in
-    let room : 0 < x.progress.budget = omega (arith, c.if-self-eq0.false) in
+    let room : 0 < x.last_step.budget = omega (arith, c.if-self-eq0.false) in
     let few : MOST_DEEP - c.len-room.result ≡ MOST_DEEP - length x.outer = ap (λ (n : ℕ). MOST_DEEP - n) c.len-room.ensures in
-    let acts = rw c.in-Mark.is at c.in_ok-flat.ensures.acts in
-    let next = head_at x.index.now.reading eop x.start x.progress.at x.bytes.now x.level x.outer read.result.1 (seen read.result.0) c.opened-reading.result.text.now place here
+    let has_effect = rw c.in-Mark.is at c.in_ok-flat.ensures.has_effect in
+    let next = head_at x.index.now.reading eop x.start x.last_step.at x.bytes.now x.level x.outer read.result.1 (seen read.result.0) c.opened-reading.result.text.now place here
     (MOST_DEEP - c.len-room.result) e.text e.place e.at few read.ensures.place.0 read.ensures.place.1 read.ensures.spelled in
-    let same = still_at x.index.now.reading eop x.start x.progress.at x.bytes.now x.level x.outer here e.at (seen_current x.level.current) in
-    rw c.given-self-inside-in-Mark.ensures (rw (← c.self.view_is) (mark_step (seen_expander x) undue room (MOST_DEEP - c.len-room.result) here place (seen read.result.0) (stack_of x.bytes.now x.start (record x.level { pos = read.result.1 }) x.outer) next same (seen_flat c.in-Mark.flat) acts))
+    let same = still_at x.index.now.reading eop x.start x.last_step.at x.bytes.now x.level x.outer here e.at (seen_current x.level.current) in
+    rw c.given-self-inside-in-Mark.ensures (rw (← c.self.view_is) (mark_step (seen_expander x) undue room (MOST_DEEP - c.len-room.result) here place (seen read.result.0) (stack_of x.bytes.now x.start (record x.level { pos = read.result.1 }) x.outer) next same (seen_flat c.in-Mark.flat) has_effect))
 
 pub returns-in-Change-clause-step : goal.returns-in-Change-clause-step
 returns-in-Change-clause-step c =
@@ -128,18 +128,18 @@ returns-in-Change-clause-step c =
     let here = c.opened-reading.result.at in
     let place = seen_place c.opened-reading.result.source in
     let undue = rw (← c.self.view_is) at c.requires.undue in
-    let room : 0 < x.progress.budget = omega (arith, c.if-self-eq0.false) in
+    let room : 0 < x.last_step.budget = omega (arith, c.if-self-eq0.false) in
     let few : MOST_DEEP - c.len-room.result ≡ MOST_DEEP - length x.outer = ap (λ (n : ℕ). MOST_DEEP - n) c.len-room.ensures in
-    let acts = rw c.in-Change.is at c.in_ok-flat.ensures.acts in
-    let next = head_at x.index.now.reading eop x.start x.progress.at x.bytes.now x.level x.outer read.result.1 (seen read.result.0) c.opened-reading.result.text.now place here
+    let has_effect = rw c.in-Change.is at c.in_ok-flat.ensures.has_effect in
+    let next = head_at x.index.now.reading eop x.start x.last_step.at x.bytes.now x.level x.outer read.result.1 (seen read.result.0) c.opened-reading.result.text.now place here
     (MOST_DEEP - c.len-room.result) e.text e.place e.at few read.ensures.place.0 read.ensures.place.1 read.ensures.spelled in
-    let same = still_at x.index.now.reading eop x.start x.progress.at x.bytes.now x.level x.outer here e.at (seen_current x.level.current) in
+    let same = still_at x.index.now.reading eop x.start x.last_step.at x.bytes.now x.level x.outer here e.at (seen_current x.level.current) in
     let now = seen_current (code.Chosen c.in-Change.key) in
     let stack = stack_same x.bytes.now x.start (record x.level { pos = read.result.1 }) (code.Chosen c.in-Change.key) x.outer in
-    let given : Stack → Doing = λ s. record (seen_expander x) { at = here; budget = x.progress.budget - 1; marked = false; current = now; stack = s } in
+    let given : Stack → Expansion = λ s. record (seen_expander x) { at = here; budget = x.last_step.budget - 1; marked = false; current = now; stack = s } in
     rw c.given-self-inside-in-Change.ensures (rw (← c.self.view_is)
     (subst (λ (s : Stack). GivesOne (seen_expander x) (given s) Skip) (sym stack)
-    (change_step (seen_expander x) undue room (MOST_DEEP - c.len-room.result) here place (seen read.result.0) (stack_of x.bytes.now x.start (record x.level { pos = read.result.1 }) x.outer) next same c.in-Change.key acts)))
+    (change_step (seen_expander x) undue room (MOST_DEEP - c.len-room.result) here place (seen read.result.0) (stack_of x.bytes.now x.start (record x.level { pos = read.result.1 }) x.outer) next same c.in-Change.key has_effect)))
 
 pub returns-in-Ask-clause-step : goal.returns-in-Ask-clause-step
 returns-in-Ask-clause-step c =
@@ -150,13 +150,13 @@ returns-in-Ask-clause-step c =
     let here = c.opened-reading.result.at in
     let place = seen_place c.opened-reading.result.source in
     let undue = rw (← c.self.view_is) at c.requires.undue in
-    let room : 0 < x.progress.budget = omega (arith, c.if-self-eq0.false) in
+    let room : 0 < x.last_step.budget = omega (arith, c.if-self-eq0.false) in
     let few : MOST_DEEP - c.len-room.result ≡ MOST_DEEP - length x.outer = ap (λ (n : ℕ). MOST_DEEP - n) c.len-room.ensures in
-    let acts = rw c.in-Ask.is at c.in_ok-flat.ensures.acts in
-    let next = head_at x.index.now.reading eop x.start x.progress.at x.bytes.now x.level x.outer read.result.1 (seen read.result.0) c.opened-reading.result.text.now place here
+    let has_effect = rw c.in-Ask.is at c.in_ok-flat.ensures.has_effect in
+    let next = head_at x.index.now.reading eop x.start x.last_step.at x.bytes.now x.level x.outer read.result.1 (seen read.result.0) c.opened-reading.result.text.now place here
     (MOST_DEEP - c.len-room.result) e.text e.place e.at few read.ensures.place.0 read.ensures.place.1 read.ensures.spelled in
-    let same = still_at x.index.now.reading eop x.start x.progress.at x.bytes.now x.level x.outer here e.at (seen_current x.level.current) in
-    rw c.stopped-self-inside-in-Ask.ensures (rw (← c.self.view_is) (ask_step (seen_expander x) undue room (MOST_DEEP - c.len-room.result) here place (seen read.result.0) (stack_of x.bytes.now x.start (record x.level { pos = read.result.1 }) x.outer) next same c.in-Ask.key acts))
+    let same = still_at x.index.now.reading eop x.start x.last_step.at x.bytes.now x.level x.outer here e.at (seen_current x.level.current) in
+    rw c.stopped-self-inside-in-Ask.ensures (rw (← c.self.view_is) (ask_step (seen_expander x) undue room (MOST_DEEP - c.len-room.result) here place (seen read.result.0) (stack_of x.bytes.now x.start (record x.level { pos = read.result.1 }) x.outer) next same c.in-Ask.key has_effect))
 
 pub returns-in-Stop-clause-step : goal.returns-in-Stop-clause-step
 returns-in-Stop-clause-step c =
@@ -167,27 +167,27 @@ returns-in-Stop-clause-step c =
     let here = c.opened-reading.result.at in
     let place = seen_place c.opened-reading.result.source in
     let undue = rw (← c.self.view_is) at c.requires.undue in
-    let room : 0 < x.progress.budget = omega (arith, c.if-self-eq0.false) in
+    let room : 0 < x.last_step.budget = omega (arith, c.if-self-eq0.false) in
     let few : MOST_DEEP - c.len-room.result ≡ MOST_DEEP - length x.outer = ap (λ (n : ℕ). MOST_DEEP - n) c.len-room.ensures in
-    let acts = rw c.in-Stop.is at c.in_ok-flat.ensures.acts in
-    let next = head_at x.index.now.reading eop x.start x.progress.at x.bytes.now x.level x.outer read.result.1 (seen read.result.0) c.opened-reading.result.text.now place here
+    let has_effect = rw c.in-Stop.is at c.in_ok-flat.ensures.has_effect in
+    let next = head_at x.index.now.reading eop x.start x.last_step.at x.bytes.now x.level x.outer read.result.1 (seen read.result.0) c.opened-reading.result.text.now place here
     (MOST_DEEP - c.len-room.result) e.text e.place e.at few read.ensures.place.0 read.ensures.place.1 read.ensures.spelled in
-    let same = still_at x.index.now.reading eop x.start x.progress.at x.bytes.now x.level x.outer here e.at (seen_current x.level.current) in
-    rw c.stopped-self-inside-in-Stop.ensures (rw (← c.self.view_is) (stop_step (seen_expander x) undue room (MOST_DEEP - c.len-room.result) here place (seen read.result.0) (stack_of x.bytes.now x.start (record x.level { pos = read.result.1 }) x.outer) next same c.in-Stop.fault acts))
+    let same = still_at x.index.now.reading eop x.start x.last_step.at x.bytes.now x.level x.outer here e.at (seen_current x.level.current) in
+    rw c.stopped-self-inside-in-Stop.ensures (rw (← c.self.view_is) (stop_step (seen_expander x) undue room (MOST_DEEP - c.len-room.result) here place (seen read.result.0) (stack_of x.bytes.now x.start (record x.level { pos = read.result.1 }) x.outer) next same c.in-Stop.fault has_effect))
 
 pub invariant_of-self-in-Enter : goal.invariant_of-self-in-Enter
 invariant_of-self-in-Enter c =
     let x = c.self.inside in
     let e = c.opened-reading.ensures in
     let read = c.command_at-end in
-    let acts = rw c.in-Enter.is at c.in_ok-flat.ensures.acts in
+    let has_effect = rw c.in-Enter.is at c.in_ok-flat.ensures.has_effect in
     let fits = rw c.in-Enter.is at c.in_ok-flat.ensures.fits in
     let outside : Frame = record x.level { pos = read.result.1 } in
     let own = read_on_at x.bytes.now x.level x.outer read.result.1 (seen read.result.0) c.opened-reading.result.text.now e.text read.ensures.place.0 read.ensures.place.1
     read.ensures.spelled c.self.invariant.levels x.level.current c.opened-reading.result.context e.context read.ensures.readable
     (has_key x.bytes.now x.level x.outer c.self.invariant.levels) in
-    let fine = entered_levels x.bytes.now c.in-Enter.level outside x.outer _ _ acts fits.0 fits.1 own in
-    let few : length x.outer < MOST_DEEP = omega (arith, acts.some, c.len-room.ensures) in
+    let fine = entered_levels x.bytes.now c.in-Enter.level outside x.outer _ _ has_effect fits.0 fits.1 own in
+    let few : length x.outer < MOST_DEEP = omega (arith, has_effect.some, c.len-room.ensures) in
     rw c.given-self-inside-in-Enter.ensures record {
       room = c.self.invariant.room;
       deep = omega (arith, ap length c.in_ok-enter-in-Enter.ensures.outer, few);
@@ -206,14 +206,14 @@ returns-in_ok-enter-in-Enter-clause-step c =
     let here = c.opened-reading.result.at in
     let place = seen_place c.opened-reading.result.source in
     let undue = rw (← c.self.view_is) at c.requires.undue in
-    let room : 0 < x.progress.budget = omega (arith, c.if-self-eq0.false) in
+    let room : 0 < x.last_step.budget = omega (arith, c.if-self-eq0.false) in
     let few : MOST_DEEP - c.len-room.result ≡ MOST_DEEP - length x.outer = ap (λ (n : ℕ). MOST_DEEP - n) c.len-room.ensures in
-    let acts = rw c.in-Enter.is at c.in_ok-flat.ensures.acts in
+    let has_effect = rw c.in-Enter.is at c.in_ok-flat.ensures.has_effect in
     let outside : Frame = record x.level { pos = read.result.1 } in
-    let next = head_at x.index.now.reading eop x.start x.progress.at x.bytes.now x.level x.outer read.result.1 (seen read.result.0) c.opened-reading.result.text.now place here
+    let next = head_at x.index.now.reading eop x.start x.last_step.at x.bytes.now x.level x.outer read.result.1 (seen read.result.0) c.opened-reading.result.text.now place here
     (MOST_DEEP - c.len-room.result) e.text e.place e.at few read.ensures.place.0 read.ensures.place.1 read.ensures.spelled in
-    let same = still_at x.index.now.reading eop x.start x.progress.at x.bytes.now x.level x.outer here e.at (seen_current x.level.current) in
+    let same = still_at x.index.now.reading eop x.start x.last_step.at x.bytes.now x.level x.outer here e.at (seen_current x.level.current) in
     let rest = stack_of x.bytes.now x.start outside x.outer in
     let deep : MOST_DEEP - c.len-room.result ≡ MOST_DEEP - depth rest = few ∙ ap (λ (n : ℕ). MOST_DEEP - n) (sym (depth_is x.bytes.now x.start outside x.outer)) in
     rw (c.given-self-inside-in-Enter.ensures, c.in_ok-enter-in-Enter.ensures.level, c.in_ok-enter-in-Enter.ensures.outer) (rw (← c.self.view_is)
-    (enter_step (seen_expander x) undue room (MOST_DEEP - c.len-room.result) here place (seen read.result.0) rest next same deep c.in-Enter.level acts))
+    (enter_step (seen_expander x) undue room (MOST_DEEP - c.len-room.result) here place (seen read.result.0) rest next same deep c.in-Enter.level has_effect))

@@ -8,9 +8,9 @@ use Rattle.drift_rules.specs.Position.{Char, FlatCommand}
 use Rattle.drift_rules.specs.Bounds.{IsNumber}
 use Rattle.pk_runs.specs.declared.glyph.Glyph.{Glyph}
 use Rattle.vf_expand.specs.Course.{Current, MOST_DEEP, character, deeper}
-use Rattle.vf_expand.specs.Doing.{Doing, GivesNoPlain, font_of, glyph_in, left}
+use Rattle.vf_expand.specs.Expansion.{Expansion, GivesNoPlain, font_of, glyph_in, left}
 use Rattle.vf_expand.specs.Levels.{context_of, stack_of, text_of}
-use Rattle.vf_expand.specs.Acts.{IsMark, SetsNoPlain, seen_current, seen_place}
+use Rattle.vf_expand.specs.Effects.{IsMark, SetsNoPlain, seen_current, seen_place}
 use Rattle.vf_expand.specs.Sets.{SetsNothing}
 use Rattle.vf_expand.specs.View.{seen_expander}
 use Rattle.vf_expand.proofs.Heads.{head_at, still_at}
@@ -32,7 +32,7 @@ returns-then-is_some c =
       | then-is_some-via-then-is_some w ↦ none_due v (sym c.is_some.ensures ∙ w.if-is_some.true)
       | then-is_some-via-else-is_some+then-self-eq0 w ↦ none_late v w.if-self-eq0.true
     ] in
-    ((refl, λ _. tt, same), record { passes = tt; fits = tt; none = λ is. subst (λ (w : Doing). GivesNoPlain (left w)) c.self.view_is none })
+    ((refl, λ _. tt, same), record { passes = tt; fits = tt; none = λ is. subst (λ (w : Expansion). GivesNoPlain (left w)) c.self.view_is none })
 
 pub returns-in_default : goal.returns-in_default
 returns-in_default c =
@@ -43,8 +43,8 @@ returns-in_default c =
     let nothing : SetsNothing c.opened-reading.result.context (drop x.level.pos c.opened-reading.result.text.now) = c.in_default.ensures.none refl in
     let head : AtHead (context_of x.outer) (seen_current x.level.current) (drop x.level.pos (text_of x.bytes.now x.level x.outer)) = λ code first rest begins.
     absurd (rw (e.context, e.text) at nothing code first rest begins) in
-    let none = none_undue v undue (none_stack x.index.now.reading v.eop x.start x.progress.at x.bytes.now x.level x.outer c.self.invariant.levels head) in
-    ((refl, λ _. tt, c.self.view_is), record { passes = tt; fits = tt; none = λ is. subst (λ (w : Doing). GivesNoPlain (left w)) c.self.view_is none })
+    let none = none_undue v undue (none_stack x.index.now.reading v.eop x.start x.last_step.at x.bytes.now x.level x.outer c.self.invariant.levels head) in
+    ((refl, λ _. tt, c.self.view_is), record { passes = tt; fits = tt; none = λ is. subst (λ (w : Expansion). GivesNoPlain (left w)) c.self.view_is none })
 
 pub returns-in_default-plain_character : goal.returns-in_default-plain_character
 returns-in_default-plain_character c =
@@ -58,22 +58,22 @@ returns-in_default-plain_character c =
     let alone = rw (e.context, e.text) at there in
     let head : AtHead (context_of x.outer) (seen_current x.level.current) (drop x.level.pos (text_of x.bytes.now x.level x.outer)) = λ code first rest begins.
     subst (SetsNoPlain (seen_current x.level.current)) (sym (alone code first rest begins)) here in
-    let none = none_undue v undue (none_stack x.index.now.reading v.eop x.start x.progress.at x.bytes.now x.level x.outer c.self.invariant.levels head) in
-    ((refl, λ _. tt, c.self.view_is), record { passes = tt; fits = tt; none = λ is. subst (λ (w : Doing). GivesNoPlain (left w)) c.self.view_is none })
+    let none = none_undue v undue (none_stack x.index.now.reading v.eop x.start x.last_step.at x.bytes.now x.level x.outer c.self.invariant.levels head) in
+    ((refl, λ _. tt, c.self.view_is), record { passes = tt; fits = tt; none = λ is. subst (λ (w : Expansion). GivesNoPlain (left w)) c.self.view_is none })
 
 pub invariant_of-self-2 : goal.invariant_of-self-2
 invariant_of-self-2 c =
     let x = c.self.inside in
     let e = c.opened-reading.ensures in
     let set = c.in-Some.ensures.set in
-    let acts = c.in-Some-plain_character.ensures.sets (seen_place c.opened-reading.result.source) 0 in
+    let has_effect = c.in-Some-plain_character.ensures.sets (seen_place c.opened-reading.result.source) 0 in
     rw c.given-self-inside.ensures record {
       room = c.self.invariant.room;
       deep = c.self.invariant.deep;
       levels = read_on_at x.bytes.now x.level x.outer c.in-Some.end (Set c.in-Some.code) c.opened-reading.result.text.now e.text set.after set.inside
           set.spelled c.self.invariant.levels x.level.current c.opened-reading.result.context e.context c.in-Some.ensures.readable (has_key x.bytes.now x.level x.outer c.self.invariant.levels);
       due = c.self.invariant.due;
-      marked = λ h. subst (λ (x : Current). IsSome (font_of x)) (sym acts.known) refl;
+      marked = λ h. subst (λ (x : Current). IsSome (font_of x)) (sym has_effect.known) refl;
     }
 
 pub returns : goal.returns
@@ -88,10 +88,10 @@ returns c =
     let current = seen_current x.level.current in
     let room_left = MOST_DEEP - length x.outer in
     let undue = is_undue x.due (sym c.is_some.ensures ∙ c.if-is_some.false) in
-    let room : 0 < x.progress.budget = omega (arith, c.if-self-eq0.false) in
-    let next = head_at x.index.now.reading eop x.start x.progress.at x.bytes.now x.level x.outer c.in-Some.end (Set c.in-Some.code) c.opened-reading.result.text.now place here
+    let room : 0 < x.last_step.budget = omega (arith, c.if-self-eq0.false) in
+    let next = head_at x.index.now.reading eop x.start x.last_step.at x.bytes.now x.level x.outer c.in-Some.end (Set c.in-Some.code) c.opened-reading.result.text.now place here
     room_left e.text e.place e.at refl set.after set.inside set.spelled in
-    let same = still_at x.index.now.reading eop x.start x.progress.at x.bytes.now x.level x.outer here e.at current in
+    let same = still_at x.index.now.reading eop x.start x.last_step.at x.bytes.now x.level x.outer here e.at current in
     let level = record x.level { pos = c.in-Some.end } in
     let key = arc_value found.key.now in
     let code = to_z w32 (of_z w32 c.in-Some.code) in
@@ -100,7 +100,7 @@ returns c =
     let same_width : found.width ≡ width = omega (arith, ints) in
     let flat = Char key (unsigned_abs code) width false in
     let is_flat : Char key (unsigned_abs code) found.width false ≡ flat = ap (λ (w : ℤ). Char key (unsigned_abs code) w false) same_width in
-    let acts = subst (λ (z : ℤ). IsMark (λ now at others. character (deeper room_left at) place at now z false others) current flat) same_code
+    let has_effect = subst (λ (z : ℤ). IsMark (λ now at others. character (deeper room_left at) place at now z false others) current flat) same_code
     (subst (λ (f : FlatCommand). IsMark (λ now at others. character (deeper room_left at) place at now code false others) current f) is_flat
     (c.in-Some-plain_character.ensures.sets place room_left)) in (
       (
@@ -108,7 +108,7 @@ returns c =
         λ _. tt,
         rw c.given-self-inside.ensures (rw (← c.self.view_is) record {
           key = key;
-          one = mark_step (seen_expander x) undue room room_left here place (Set c.in-Some.code) (stack_of x.bytes.now x.start level x.outer) next same flat acts;
+          one = mark_step (seen_expander x) undue room room_left here place (Set c.in-Some.code) (stack_of x.bytes.now x.start level x.outer) next same flat has_effect;
           glyph = c.in-Some-plain_character.ensures.glyph;
           place = refl;
         }),

@@ -1,6 +1,6 @@
 use Rattle.std.proofs.Common.{◌≤◌, ◌-◌, length, drop}
 use Rattle.vf_reader.proofs.Steps.{IsReadTo}
-use Rattle.vf_reader.proofs.program.judge.Given as goal
+use Rattle.vf_reader.proofs.program.judge_program.Given as goal
 
 abbrev pub invariant-loop-at : goal.invariant-loop-at
 invariant-loop-at l = record {

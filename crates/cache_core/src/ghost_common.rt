@@ -8,20 +8,20 @@ use std::marker::Model;
 
 /// A common part that only proofs read. It takes no bytes, and owns nothing.
 #[derive(Drop)]
-pub struct About {
+pub struct GhostCommon {
     pub ghost part: { Common } by { common_code },
 }
 
-impl Model for About {
+impl Model for GhostCommon {
     ghost also_owns = { λ _. ftrue };
 }
 
-impl About {
+impl GhostCommon {
     /// The part that the caller's proof picks.
-    pub fn pick() -> About
+    pub fn pick() -> GhostCommon
         ghost part: { Common }
         ensures { result.part ≡ part }
     {
-        About {}
+        GhostCommon {}
     }
 }

@@ -2,7 +2,7 @@ use Rattle.std.proofs.Common.{arith}
 use Rattle.std.proofs.lemmas.Result.{err_from_is_err_and}
 use Rattle.dvi_commands.specs.Spelling.{seen}
 use Rattle.vf_reader.proofs.Steps.{all_read, command_read, command_wrong, few_open, left_open, not_read}
-use Rattle.vf_reader.proofs.program.judge.Goals as goal
+use Rattle.vf_reader.proofs.program.judge_program.Goals as goal
 
 pub returns-in_err-depth-in-Ok-clause-fault : goal.returns-in_err-depth-in-Ok-clause-fault
 returns-in_err-depth-in-Ok-clause-fault c =

@@ -15,14 +15,14 @@ use Rattle.font_decode.specs.declared.decoded.Decoded.TheVariants as decoded
 use Rattle.vf_expand.specs.Faults.{seen_fault}
 use Rattle.vf_expand.specs.Course.{Course, Gives, Asks, Stops, plain, Place, OnPage, InPacket, deeper, expand_one, expand_list, character, first_font, font_change, leave, virtual}
 use Rattle.vf_expand.specs.Course as course
-use Rattle.vf_expand.specs.Doing.{GivesNoPlain, glyph_in}
+use Rattle.vf_expand.specs.Expansion.{GivesNoPlain, glyph_in}
 use Rattle.vf_expand.specs.declared.current.Current.{Current}
 use Rattle.vf_expand.specs.declared.current.Current.TheVariants as code
 use Rattle.vf_expand.specs.declared.frames.Frame.{Frame}
-use Rattle.vf_expand.specs.declared.act.Source.{Source}
-use Rattle.vf_expand.specs.declared.act.Source.TheVariants.{Page, Packet}
-use Rattle.vf_expand.specs.declared.act.Act.{Act}
-use Rattle.vf_expand.specs.declared.act.Act.TheVariants.{Flat, Mark, Change, Ask, Enter, Stop}
+use Rattle.vf_expand.specs.declared.effect.Source.{Source}
+use Rattle.vf_expand.specs.declared.effect.Source.TheVariants.{Page, Packet}
+use Rattle.vf_expand.specs.declared.effect.Effect.{Effect}
+use Rattle.vf_expand.specs.declared.effect.Effect.TheVariants.{Flat, Mark, Change, Ask, Enter, Stop}
 
 abbrev pub seen_current : Current → course.Current
 seen_current code.NoFont = course.NoFont
@@ -56,11 +56,11 @@ HasDimensions place (Z a) = IsDimension place a
 HasDimensions place _ = Unit {0}
 
 -- what a command makes of the current font, its position and what stands after it
-abbrev pub Part : Type 0
-Part = course.Current → ℕ → (course.Current → Course) → Course
+abbrev pub Meaning : Type 0
+Meaning = course.Current → ℕ → (course.Current → Course) → Course
 
 -- a character, with its glyph in the font that was found
-pub record IsMark (part : Part) (current : course.Current) (f : FlatCommand) : Type 0 where
+pub record IsMark (part : Meaning) (current : course.Current) (f : FlatCommand) : Type 0 where
   pub key : FontKey
   pub font : Decoded
   pub code : ℕ
@@ -75,7 +75,8 @@ pub record IsMark (part : Part) (current : course.Current) (f : FlatCommand) : T
 
 -- the beginning of a packet of the font that was found, where one packet fewer may then stand
 -- inside it
-pub record IsEntry (n : ℕ) (part : Part) (current : course.Current) (level : Frame) : Type 0 where
+pub record IsEntry (n : ℕ) (part : Meaning) (current : course.Current) (level : Frame)
+    : Type 0 where
   pub key : FontKey
   pub font : FontSeen
   pub text : List ℕ
@@ -93,42 +94,43 @@ pub record IsEntry (n : ℕ) (part : Part) (current : course.Current) (level : F
 abbrev pub IsPlain : FlatCommand → Type 0
 IsPlain f = (k : FontKey) (c : ℕ) (width : ℤ) (put : Bool) → f ≡ Char k c width put → ⊥
 
--- an act is what a command gives, whatever stands after it, where n packets may stand inside one
+-- an effect is what a command gives, whatever stands after it, where n packets may stand inside one
 -- another
-abbrev pub IsPart : ℕ → Part → course.Current → Act → Type 0
-IsPart n part current (Flat f) =
+abbrev pub IsMeaning : ℕ → Meaning → course.Current → Effect → Type 0
+IsMeaning n part current (Flat f) =
     (at : ℕ) (others : course.Current → Course) → part current at others ≡ plain (seen_flat f) at
     (others current)
-IsPart n part current (Mark f) = IsMark part current (seen_flat f)
-IsPart n part current (Change key) =
+IsMeaning n part current (Mark f) = IsMark part current (seen_flat f)
+IsMeaning n part current (Change key) =
     (at : ℕ) (others : course.Current → Course) → part current at others ≡ plain flat.Skip at
     (others (course.Chosen (arc_value key)))
-IsPart n part current (Ask key) = (current ≡ course.Chosen (arc_value key))
+IsMeaning n part current (Ask key) = (current ≡ course.Chosen (arc_value key))
     × ((at : ℕ) (others : course.Current → Course)
     → part current at others ≡ Asks (arc_value key) at (λ d. part (course.Known (arc_value key) d)
     at others))
-IsPart n part current (Enter level) = IsEntry n part current level
-IsPart n part current (Stop fault) =
+IsMeaning n part current (Enter level) = IsEntry n part current level
+IsMeaning n part current (Stop fault) =
     (at : ℕ) (others : course.Current → Course) → part current at others ≡ Stops (seen_fault fault)
     at
 
-abbrev pub Acts : Place → ℕ → course.Current → DviCommand → Act → Type 0
-Acts place n current c act =
-    IsPart n (λ now at others. expand_one (deeper n at) place at now c others) current act
+abbrev pub HasEffect : Place → ℕ → course.Current → DviCommand → Effect → Type 0
+HasEffect place n current c effect =
+    IsMeaning n (λ now at others. expand_one (deeper n at) place at now c others) current effect
 
-abbrev pub CharacterActs : Place → ℕ → course.Current → ℤ → Bool → Act → Type 0
-CharacterActs place n current c put act =
-    IsPart n (λ now at others. character (deeper n at) place at now c put others) current act
+abbrev pub CharacterHasEffect : Place → ℕ → course.Current → ℤ → Bool → Effect → Type 0
+CharacterHasEffect place n current c put effect =
+    IsMeaning n (λ now at others. character (deeper n at) place at now c put others) current effect
 
 -- a character of a virtual font that was found
-abbrev pub VirtualActs : ℕ → FontKey → FontSeen → ℤ → Option ℤ → Act → Type 0
-VirtualActs n k f c gap act =
-    IsPart n (λ now at others. virtual (deeper n at) at k f c gap (others now))
-    (course.Known k (decoded.Font f)) act
+abbrev pub VirtualHasEffect : ℕ → FontKey → FontSeen → ℤ → Option ℤ → Effect → Type 0
+VirtualHasEffect n k f c gap effect =
+    IsMeaning n (λ now at others. virtual (deeper n at) at k f c gap (others now))
+    (course.Known k (decoded.Font f)) effect
 
 -- a character of a font that was found, wherever it stands
-abbrev pub FoundActs : ℕ → FontKey → Decoded → ℤ → Bool → Act → Type 0
-FoundActs n k d c put act = (place : Place) → CharacterActs place n (course.Known k d) c put act
+abbrev pub FoundHasEffect : ℕ → FontKey → Decoded → ℤ → Bool → Effect → Type 0
+FoundHasEffect n k d c put effect =
+    (place : Place) → CharacterHasEffect place n (course.Known k d) c put effect
 
 -- a character that is set, wherever it stands, is one of a packed font with this key and this width
 abbrev pub SetsPlain : course.Current → ℤ → FontKey → ℤ → Type 0
@@ -143,15 +145,15 @@ SetsNoPlain current c =
     (place : Place) (n at : ℕ) (others : course.Current → Course)
     → GivesNoPlain (character (deeper n at) place at current c false others)
 
-abbrev pub ChangeActs : Place → ℕ → course.Current → ℤ → Act → Type 0
-ChangeActs place n current number act =
-    IsPart n (λ now at others. font_change place at number others) current act
+abbrev pub ChangeHasEffect : Place → ℕ → course.Current → ℤ → Effect → Type 0
+ChangeHasEffect place n current number effect =
+    IsMeaning n (λ now at others. font_change place at number others) current effect
 
 -- a flat command may be handed to a pen, and a key to a decoder
-abbrev pub FitsAct : Act → Type 0
-FitsAct (Flat f) = IsInReach (seen_flat f) × IsPlain (seen_flat f)
-FitsAct (Mark f) = IsInReach (seen_flat f)
-FitsAct (Change key) = IsFontKey (arc_value key)
-FitsAct (Ask key) = IsFontKey (arc_value key)
-FitsAct (Enter level) = HasKey (seen_current level.current) × IfSome level.gap IsNumber
-FitsAct (Stop fault) = Unit {0}
+abbrev pub EffectFits : Effect → Type 0
+EffectFits (Flat f) = IsInReach (seen_flat f) × IsPlain (seen_flat f)
+EffectFits (Mark f) = IsInReach (seen_flat f)
+EffectFits (Change key) = IsFontKey (arc_value key)
+EffectFits (Ask key) = IsFontKey (arc_value key)
+EffectFits (Enter level) = HasKey (seen_current level.current) × IfSome level.gap IsNumber
+EffectFits (Stop fault) = Unit {0}

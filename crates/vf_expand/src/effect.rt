@@ -7,7 +7,7 @@ ghost use Rattle.drift_rules.specs.Position.{Rule, seen_flat};
 ghost use Rattle.drift_rules.specs.Bounds.{IsNumber};
 ghost use Rattle.vf_expand.specs.Course.{dimension, no_local};
 ghost use Rattle.vf_expand.specs.Faults.{seen_fault};
-ghost use Rattle.vf_expand.specs.Acts.{Acts, ChangeActs, FitsAct, HasDimensions, HasKey, IsDimension, seen_current, seen_place};
+ghost use Rattle.vf_expand.specs.Effects.{HasEffect, ChangeHasEffect, EffectFits, HasDimensions, HasKey, IsDimension, seen_current, seen_place};
 
 use crate::character::character;
 use crate::current::{Current, space_of};
@@ -33,7 +33,7 @@ pub enum Source<'a> {
 /// What a command gives: a flat command, that of a character, a new current font, a look-up, the
 /// beginning of a packet, or a stop.
 #[derive(Drop)]
-pub enum Act {
+pub enum Effect {
     Flat(Flat),
     Mark(Flat),
     Change(Arc<FontKey>),
@@ -75,19 +75,19 @@ fn change(
     source: Source,
     current: &Current,
     number: i32,
-) -> Result<Act, NoMemory>
-    ensures acts { IfOk result (λ act. (n : ℕ) → ChangeActs (seen_place source.entry) n
-        (seen_current current.now) number act) }
-    ensures fits { IfOk result FitsAct }
+) -> Result<Effect, NoMemory>
+    ensures has_effect { IfOk result (λ effect. (n : ℕ)
+        → ChangeHasEffect (seen_place source.entry) n (seen_current current.now) number effect) }
+    ensures fits { IfOk result EffectFits }
 {
     match source {
         Source::Page(index) => match index.font(number) {
-            Some(key) => Ok(Act::Change(keys.own(key)?)),
-            None => Ok(Act::Stop(PageFault::NoFont(number))),
+            Some(key) => Ok(Effect::Change(keys.own(key)?)),
+            None => Ok(Effect::Stop(PageFault::NoFont(number))),
         },
         Source::Packet(key, font) => match font.local(number) {
-            Some(local) => Ok(Act::Change(keys.own(local)?)),
-            None => Ok(Act::Stop(no_local(key, font, number)?)),
+            Some(local) => Ok(Effect::Change(keys.own(local)?)),
+            None => Ok(Effect::Stop(no_local(key, font, number)?)),
         },
     }
 }
@@ -108,12 +108,12 @@ pub fn expanded(
     room: usize,
     current: &Current,
     command: &Command,
-) -> Result<Act, NoMemory>
+) -> Result<Effect, NoMemory>
     requires key { HasKey (seen_current current.now) }
     requires dimensions { HasDimensions (seen_place source) (seen command.now) }
-    ensures acts { IfOk result (Acts (seen_place source.entry) room (seen_current current.now)
-        (seen command.now)) }
-    ensures fits { IfOk result FitsAct }
+    ensures has_effect { IfOk result (HasEffect (seen_place source.entry) room
+        (seen_current current.now) (seen command.now)) }
+    ensures fits { IfOk result EffectFits }
 {
     let space = space_of(current);
     let flat = match command {
@@ -162,5 +162,5 @@ pub fn expanded(
         Command::Pop => Flat::Pop,
         _ => Flat::Skip,
     };
-    Ok(Act::Flat(flat))
+    Ok(Effect::Flat(flat))
 }

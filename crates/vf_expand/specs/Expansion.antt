@@ -69,7 +69,7 @@ due_left (Some width) at rest = plain (Advance width) at rest
 
 -- `at` is the position of the last step, and `budget` how many flat commands may still be given.
 -- The last step gave a character where it is marked
-pub record Doing : Type 0 where
+pub record Expansion : Type 0 where
   pub reading : Reading
   pub eop : ℕ
   pub at : ℕ
@@ -84,7 +84,7 @@ unfoldable pub course_left : Reading → ℕ → ℕ → ℕ → Option ℤ → 
 course_left reading eop at budget due current stack =
     cut budget (due_left due at (stack_left reading eop at current stack))
 
-abbrev pub left : Doing → Course
+abbrev pub left : Expansion → Course
 left v = course_left v.reading v.eop v.at v.budget v.due v.current v.stack
 
 -- a look-up stands next
@@ -126,7 +126,7 @@ font_of (Chosen k) = None
 font_of (Known k d) = Some d
 
 -- the font of the character that the last step gave
-abbrev pub marked_font : Doing → Option Decoded
+abbrev pub marked_font : Expansion → Option Decoded
 marked_font v = if v.marked then font_of v.current else None
 
 -- the glyph of a code in what was found
@@ -136,7 +136,7 @@ glyph_in (Some (decoded.Fault f)) c = None
 glyph_in (Some (decoded.Font f)) c = glyph_at f c
 
 -- the glyph of a flat command that the last step gave
-abbrev pub glyph_for : Doing → FlatCommand → Option Glyph
+abbrev pub glyph_for : Expansion → FlatCommand → Option Glyph
 glyph_for v (Char k c width put) = glyph_in (marked_font v) c
 glyph_for v f = None
 
@@ -146,9 +146,9 @@ asks_from budget NoFont = budget
 asks_from budget (Chosen k) = budget
 asks_from budget (Known k d) = budget - 1
 
-abbrev pub asks_left : Doing → ℕ
+abbrev pub asks_left : Expansion → ℕ
 asks_left v = asks_from v.budget v.current
 
 -- more than the steps that may come before the end
-abbrev pub steps_left : Doing → ℕ
+abbrev pub steps_left : Expansion → ℕ
 steps_left v = v.budget + asks_left v
