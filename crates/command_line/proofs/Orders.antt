@@ -8,6 +8,7 @@ use Rattle.std.specs.Option.{option_map_or}
 use Rattle.std.specs.Str.Parse.{digits_value}
 use Rattle.std.proofs.lemmas.Bool.{and_parts, true≢false}
 use Rattle.std.proofs.lemmas.Slice.Eq.{bytes_eq-Decides}
+use Rattle.raster_page.specs.Limits.{LONGEST_PAGE_SIDE}
 use Rattle.command_line.specs.declared.settings.Settings.{Settings}
 use Rattle.command_line.specs.Line.{Choice, Part, Text, Use, are_distinct, choices, is_named}
 use Rattle.command_line.specs.Line.{is_used}
@@ -139,8 +140,8 @@ chosen_by workers distinct numbers used =
     (Some (record {
       res = res;
       sheet = record {
-        width = unwrap_or (numbers (codes "width")) (min 20000 (17 * res / 2));
-        height = unwrap_or (numbers (codes "height")) (min 20000 (11 * res));
+        width = unwrap_or (numbers (codes "width")) (min LONGEST_PAGE_SIDE (17 * res / 2));
+        height = unwrap_or (numbers (codes "height")) (min LONGEST_PAGE_SIDE (11 * res));
         left = unwrap_or (numbers (codes "left")) res;
         top = unwrap_or (numbers (codes "top")) res;
       };

@@ -7,6 +7,8 @@ use Rattle.std.specs.List.{list_any, list_all, before_first, after_first}
 use Rattle.std.specs.Option.{option_map_or}
 use Rattle.std.specs.Char.{is_ascii_digit}
 use Rattle.std.specs.Str.Parse.{digits_value}
+use Rattle.pixel_round.specs.Limits.{HIGHEST_RESOLUTION}
+use Rattle.raster_page.specs.Limits.{LONGEST_PAGE_SIDE}
 use Rattle.command_line.specs.declared.settings.Settings.{Settings}
 
 abbrev pub Text : Type 0
@@ -27,11 +29,11 @@ abbrev pub switch : Text → Choice
 switch name = record { name = name; range = None }
 
 abbrev pub choices : List Choice
-choices = number_in (codes "res") 1 4800
-    ∷ number_in (codes "width") 1 20000
-    ∷ number_in (codes "height") 1 20000
-    ∷ number_in (codes "left") 0 20000
-    ∷ number_in (codes "top") 0 20000
+choices = number_in (codes "res") 1 HIGHEST_RESOLUTION
+    ∷ number_in (codes "width") 1 LONGEST_PAGE_SIDE
+    ∷ number_in (codes "height") 1 LONGEST_PAGE_SIDE
+    ∷ number_in (codes "left") 0 LONGEST_PAGE_SIDE
+    ∷ number_in (codes "top") 0 LONGEST_PAGE_SIDE
     ∷ number_in (codes "workers") 1 32
     ∷ number_in (codes "cache") 1 256
     ∷ number_in (codes "sample") 1 1000
@@ -159,8 +161,8 @@ abbrev pub settings_from : List Use → Settings
 settings_from us = let res = number_or 300 (codes "res") us in record {
   res = res;
   sheet = record {
-    width = number_or (min 20000 (17 * res / 2)) (codes "width") us;
-    height = number_or (min 20000 (11 * res)) (codes "height") us;
+    width = number_or (min LONGEST_PAGE_SIDE (17 * res / 2)) (codes "width") us;
+    height = number_or (min LONGEST_PAGE_SIDE (11 * res)) (codes "height") us;
     left = number_or res (codes "left") us;
     top = number_or res (codes "top") us;
   };

@@ -1,5 +1,6 @@
 -- What a run is told besides its input and its fonts.
 use Rattle.std.specs.Prelude.{◌≤◌, false, None, IfSome}
+use Rattle.pixel_round.specs.Limits.{HIGHEST_RESOLUTION}
 use Rattle.page_draw.specs.Sheets.{IsDrawable}
 use Rattle.page_draw.specs.declared.sheet.Sheet.{Sheet}
 use Rattle.command_line.specs.declared.settings.Settings.{Settings}
@@ -23,7 +24,7 @@ default_settings = record {
 
 -- settings within their limits
 pub record AreSettings (settings : Settings) : Type 0 where
-  pub resolution : (1 ≤ settings.res) × (settings.res ≤ 4800)
+  pub resolution : (1 ≤ settings.res) × (settings.res ≤ HIGHEST_RESOLUTION)
   pub sheet : IsDrawable settings.sheet
   pub workers : (1 ≤ settings.workers) × (settings.workers ≤ 32)
   pub cache : (1 ≤ settings.cache) × (settings.cache ≤ 256)

@@ -10,6 +10,12 @@ use crate::{Settings, default_settings};
 use clap::ArgMatches;
 use page_draw::Sheet;
 
+// The most dots to the inch.
+const HIGHEST_RESOLUTION: u32 = 4800;
+
+// The greatest width, height and margin of a page, in dots.
+const LONGEST_PAGE_SIDE: u32 = 20000;
+
 /// The numbers and switches of a line.
 #[derive(Clone, Copy, Debug)]
 pub struct LineValues {
@@ -70,11 +76,11 @@ pub fn settings(given: &LineValues, workers: usize) -> Option<Settings>
     ensures { result ≡ (if are_allowed workers given.now then Some (settings_with given.now)
         else None) }
 {
-    let allowed = within(given.res, 1, 4800)
-        & within(given.width, 1, 20000)
-        & within(given.height, 1, 20000)
-        & within(given.left, 0, 20000)
-        & within(given.top, 0, 20000)
+    let allowed = within(given.res, 1, HIGHEST_RESOLUTION)
+        & within(given.width, 1, LONGEST_PAGE_SIDE)
+        & within(given.height, 1, LONGEST_PAGE_SIDE)
+        & within(given.left, 0, LONGEST_PAGE_SIDE)
+        & within(given.top, 0, LONGEST_PAGE_SIDE)
         & within(given.workers, 1, 32)
         & within(given.cache, 1, 256)
         & within(given.sample, 1, 1000)
@@ -87,8 +93,8 @@ pub fn settings(given: &LineValues, workers: usize) -> Option<Settings>
     Some(Settings {
         res,
         sheet: Sheet {
-            width: given.width.unwrap_or((17 * res / 2).min(20000)),
-            height: given.height.unwrap_or((11 * res).min(20000)),
+            width: given.width.unwrap_or((17 * res / 2).min(LONGEST_PAGE_SIDE)),
+            height: given.height.unwrap_or((11 * res).min(LONGEST_PAGE_SIDE)),
             left: given.left.unwrap_or(res),
             top: given.top.unwrap_or(res),
         },

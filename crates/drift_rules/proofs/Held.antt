@@ -4,6 +4,7 @@ use Rattle.std.specs.Prelude.{unsigned_abs}
 use Rattle.std.specs.List.{AllByRecursion}
 use Rattle.std.proofs.lemmas.Int.{ints, to_z-of_z, fits_signed_from_abs}
 use Rattle.pixel_round.specs.Pixels.{Fraction, round}
+use Rattle.packed_rows.specs.declared.offset.TheConstants.{MAX_COORDINATE}
 use Rattle.drift_rules.specs.declared.flat.Registers.{Registers}
 use Rattle.drift_rules.specs.declared.faults.PenFault.{PenFault}
 use Rattle.drift_rules.specs.declared.faults.PenFault.TheVariants.{Overflow}
@@ -12,7 +13,7 @@ use Rattle.drift_rules.specs.Bounds.{AreHeld, IsHeldState}
 use Rattle.drift_rules.proofs.Near.{near_drifted, zeros_are_near}
 
 -- a number of at most 42 bits is read as it was written
-pub kept : (z : ℤ) → unsigned_abs z ≤ 2 ^ 42 → to_z w64 (of_z w64 z) ≡ z
+pub kept : (z : ℤ) → unsigned_abs z ≤ MAX_COORDINATE → to_z w64 (of_z w64 z) ≡ z
 kept z small = to_z-of_z w64 z (fits_signed_from_abs w64 z (omega (arith, small)))
 
 abbrev pub read_again : Registers → Registers
@@ -131,7 +132,7 @@ held_at_v c r v place held small bounded = record {
 
 -- what the code makes at a new h, where `dots` is the rounded h and `hh` the column after the drift
 -- rule; and at a new v
-pub at_h_kept : (c : Fraction) (r : Registers) (h column dots hh : ℤ) → AreHeld c r → unsigned_abs h ≤ 2147483647 → unsigned_abs column ≤ 2 ^ 42
+pub at_h_kept : (c : Fraction) (r : Registers) (h column dots hh : ℤ) → AreHeld c r → unsigned_abs h ≤ 2147483647 → unsigned_abs column ≤ MAX_COORDINATE
     → dots ≡ round c (to_z w64 (of_z w64 h)) → unsigned_abs dots ≤ 512 * unsigned_abs (to_z w64 (of_z w64 h)) + 1
     → hh ≡ after_drift (to_z w64 (of_z w64 column)) (to_z w64 (of_z w64 dots))
     → (read_again (record r { h = h; hh = hh }) ≡ at_h c r h column) × AreHeld c (at_h c r h column)
@@ -145,7 +146,7 @@ at_h_kept c r h column dots hh held small near value bounded drift =
     let after = held_at_h c r h column held small within' in
     (rw drifted' (registers_kept c (at_h c r h column) after), after)
 
-pub at_v_kept : (c : Fraction) (r : Registers) (v row dots vv : ℤ) → AreHeld c r → unsigned_abs v ≤ 2147483647 → unsigned_abs row ≤ 2 ^ 42
+pub at_v_kept : (c : Fraction) (r : Registers) (v row dots vv : ℤ) → AreHeld c r → unsigned_abs v ≤ 2147483647 → unsigned_abs row ≤ MAX_COORDINATE
     → dots ≡ round c (to_z w64 (of_z w64 v)) → unsigned_abs dots ≤ 512 * unsigned_abs (to_z w64 (of_z w64 v)) + 1
     → vv ≡ after_drift (to_z w64 (of_z w64 row)) (to_z w64 (of_z w64 dots))
     → (read_again (record r { v = v; vv = vv }) ≡ at_v c r v row) × AreHeld c (at_v c r v row)

@@ -2,6 +2,8 @@
 use Rattle.std.specs.Prelude.{◌+◌, ◌<◌, ◌≤◌, ◌^◌, ℤ, pos, ◌≤ℤ◌, unsigned_abs}
 use Rattle.std.specs.List.{AllByRecursion}
 use Rattle.pixel_round.specs.Pixels.{Fraction}
+use Rattle.outside.specs.Limits.{SIZES}
+use Rattle.packed_rows.specs.declared.offset.TheConstants.{MAX_COORDINATE}
 use Rattle.drift_rules.specs.declared.flat.Registers.{Registers}
 use Rattle.drift_rules.specs.declared.flat.Mark.{Mark}
 use Rattle.drift_rules.specs.declared.flat.Mark.TheVariants as code
@@ -14,7 +16,7 @@ IsNumber z = unsigned_abs z ≤ 2 ^ 31
 -- a space: less than a font's size, which is below 2^27
 pub record IsSpace (space : ℤ) : Type 0 where
   pub some : pos 0 ≤ℤ space
-  pub small : space ≤ℤ pos (2 ^ 27)
+  pub small : space ≤ℤ pos SIZES
 
 -- what may be handed to a pen
 abbrev pub IsInReach : FlatCommand → Type 0
@@ -56,12 +58,12 @@ pub record IsHeldState (c : Fraction) (s : State) : Type 0 where
 
 -- a row or a column so near that it stays within 2^42 where a margin of at most 2^20 dots is added
 abbrev pub IsWithinReach : ℤ → Type 0
-IsWithinReach z = unsigned_abs z + 2 ^ 20 ≤ 2 ^ 42
+IsWithinReach z = unsigned_abs z + 2 ^ 20 ≤ MAX_COORDINATE
 
 -- a row or a column so near that it stays there where the offset of a glyph, a number of four
 -- bytes, is taken away too
 abbrev pub IsPlaceable : ℤ → Type 0
-IsPlaceable z = unsigned_abs z + 2 ^ 32 ≤ 2 ^ 42
+IsPlaceable z = unsigned_abs z + 2 ^ 32 ≤ MAX_COORDINATE
 
 -- a rectangle with at least one dot
 pub record IsRectangle (x y w h : ℤ) : Type 0 where

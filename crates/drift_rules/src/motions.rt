@@ -2,6 +2,7 @@
 
 ghost use Rattle.std.specs.Prelude.{◌≡◌, ◌≤◌, ◌^◌, ◌+ℤ◌, unsigned_abs, false, if◌then◌else◌, List, Ok, Err, IfOk, IfErr, IsTrue};
 ghost use Rattle.pixel_round.specs.Pixels.{round};
+ghost use Rattle.packed_rows.specs.declared.offset.TheConstants.{MAX_COORDINATE};
 ghost use Rattle.drift_rules.specs.declared.faults.PenFault.{PenFault};
 ghost use Rattle.drift_rules.specs.Position.{State, after, at_h, at_v, after_drift, is_held, is_word_space, is_line_space, moved_right, moved_down, moved_over, seen_flat};
 ghost use Rattle.drift_rules.specs.Stack.{is_pop, is_push};
@@ -133,7 +134,7 @@ fn column_right(conv: &Conv, now: Registers, h: i64, by: i64, space: i64) -> i64
     requires space { IsSpace space }
     ensures value { result ≡ (if is_word_space by space then round conv.now h else now.hh
         +ℤ round conv.now by) }
-    ensures bounded { unsigned_abs result ≤ 2 ^ 42 }
+    ensures bounded { unsigned_abs result ≤ MAX_COORDINATE }
 {
     if is_word_space(by, space) {
         conv.round(h)
@@ -151,7 +152,7 @@ fn row_down(conv: &Conv, now: Registers, v: i64, by: i64, space: i64) -> i64
     requires space { IsSpace space }
     ensures value { result ≡ (if is_line_space by space then round conv.now v else now.vv
         +ℤ round conv.now by) }
-    ensures bounded { unsigned_abs result ≤ 2 ^ 42 }
+    ensures bounded { unsigned_abs result ≤ MAX_COORDINATE }
 {
     if is_line_space(by, space) {
         conv.round(v)
@@ -193,7 +194,7 @@ fn is_line_space(by: i64, space: i64) -> bool
 fn at_column(conv: &Conv, now: Registers, h: i64, column: i64) -> Registers
     requires held { AreHeld conv.now now }
     requires h { unsigned_abs h ≤ 2147483647 }
-    requires column { unsigned_abs column ≤ 2 ^ 42 }
+    requires column { unsigned_abs column ≤ MAX_COORDINATE }
     ensures moved { result ≡ at_h conv.now now h column }
     ensures held { AreHeld conv.now result }
 {
@@ -209,7 +210,7 @@ fn at_column(conv: &Conv, now: Registers, h: i64, column: i64) -> Registers
 fn at_row(conv: &Conv, now: Registers, v: i64, row: i64) -> Registers
     requires held { AreHeld conv.now now }
     requires v { unsigned_abs v ≤ 2147483647 }
-    requires row { unsigned_abs row ≤ 2 ^ 42 }
+    requires row { unsigned_abs row ≤ MAX_COORDINATE }
     ensures moved { result ≡ at_v conv.now now v row }
     ensures held { AreHeld conv.now result }
 {
@@ -223,8 +224,8 @@ fn at_row(conv: &Conv, now: Registers, v: i64, row: i64) -> Registers
 // The drift rule: a place in dots is brought within two of the rounded one.
 #[inline(always)]
 fn drift(place: i64, rounded: i64) -> i64
-    requires place { unsigned_abs place ≤ 2 ^ 42 }
-    requires rounded { unsigned_abs rounded ≤ 2 ^ 42 }
+    requires place { unsigned_abs place ≤ MAX_COORDINATE }
+    requires rounded { unsigned_abs rounded ≤ MAX_COORDINATE }
     ensures { result ≡ after_drift place rounded }
 {
     if place > rounded + MAX_DRIFT {

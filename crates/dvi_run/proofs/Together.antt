@@ -16,7 +16,7 @@ use Rattle.page_index.specs.Document.{IsDocument, Reading, pages_begun}
 use Rattle.page_draw.specs.Values.{PageValue}
 use Rattle.page_workers.specs.declared.worker.Worker.{Worker}
 use Rattle.dvi_run.specs.Pages.{Setup}
-use Rattle.dvi_run.specs.Sampled.{LoadedBy, given_to}
+use Rattle.dvi_run.specs.Sampled.{LoadedBy, setup_to}
 use Rattle.dvi_run.specs.Promises.{HasEnded, IsNoted}
 use Rattle.dvi_run.specs.Report.{loads_of, report_text}
 use Rattle.dvi_run.specs.Reading.{OfRead}
@@ -241,9 +241,9 @@ module _ {F : Type 0} (library : F → Option FileTable) (faults loads : F → �
 -- the end of a run
 pub ended_at : {F : Type 0} (faults : F → ℕ) (told : Option FileTable) (settings : Settings) (e : EndingSeen) (tally : Option Tally) (left old new notes_old notes_new : Option (List ℕ)) (notes_before notes_now : ℕ)
     (history : List Call) (before after : List (Worker F))
-    → IsNoted (given_to told settings) e left old new notes_old notes_new notes_before notes_now (report_text settings tally (loads_of settings.workers after) history e) → CountsTo tally e
+    → IsNoted (setup_to told settings) e left old new notes_old notes_new notes_before notes_now (report_text settings tally (loads_of settings.workers after) history e) → CountsTo tally e
     → ((page : ℕ) → e ≡ Source page → SomeUsed settings.workers before after (FailedAt faults page))
-    → OfRead left (DrewTogether (given_to told settings) settings.summary old new settings.cache settings.workers (status_of e) e tally history before after)
+    → OfRead left (DrewTogether (setup_to told settings) settings.summary old new settings.cache settings.workers (status_of e) e tally history before after)
     → (status : ℕ) → status ≡ status_of e → HasEnded faults told settings status e tally left old new notes_old notes_new notes_before notes_now history before after
 ended_at faults told settings e tally left old new notes_old notes_new notes_before notes_now history before after noted counted failed drew status is =
     subst (λ (m : ℕ). HasEnded faults told settings m e tally left old new notes_old notes_new notes_before notes_now history before after) (sym is)

@@ -16,7 +16,7 @@ use Rattle.dvi_run.specs.Tally.{CountsTo}
 use Rattle.dvi_run.specs.Endings.{EndingSeen, Source, IsAmong, IsPlaced, OfRun, Stopped, Tells, TellsBy, Wrote, WroteAll, WroteBefore, WrotePrefix, WroteSome, page_status, status_of, statuses}
 use Rattle.dvi_run.specs.Rounds.{FailedAt}
 use Rattle.dvi_run.specs.Together.{DrewTogether, SomeUsed}
-use Rattle.dvi_run.specs.Sampled.{given_to}
+use Rattle.dvi_run.specs.Sampled.{setup_to}
 use Rattle.command_line.specs.declared.settings.Settings.{Settings}
 use Rattle.dvi_run.specs.declared.tally.Tally.{Tally}
 
@@ -148,7 +148,7 @@ pub record HasEnded {F : Type 0} (faults : F → ℕ) (told : Option FileTable) 
     (history : List Call) (before after : List (Worker F)) : Type 0 where
   -- the notes took the report of this end: the history's lines and the summary where they are asked
   -- for, with the tally and all loads of the used workers, and the line of the end, which is true
-  pub noted : IsNoted (given_to told settings)
+  pub noted : IsNoted (setup_to told settings)
       e left old new notes_old notes_new notes_before notes_now
       (report_text settings tally (loads_of settings.workers after) history e)
   -- there is no tally where the run ended before a cache was made, and else it counts pages up to
@@ -163,7 +163,7 @@ pub record HasEnded {F : Type 0} (faults : F → ℕ) (told : Option FileTable) 
   -- most, or of the next one where its write failed; the calls of each worker answer what its pages
   -- looked up; and the tally is that of the pages written whole, with their black pixels if the
   -- summary is asked for
-  pub drew : OfRead left (DrewTogether (given_to told settings)
+  pub drew : OfRead left (DrewTogether (setup_to told settings)
       settings.summary old new settings.cache settings.workers status e tally history before after)
 
 -- A run whose words give no settings: nothing was read, written, loaded, drawn or asked of a cache.

@@ -41,8 +41,8 @@ LoadedBy (Some pages) most before now count count_now = RoseUpTo most count coun
 
 -- ---- by the settings
 
-abbrev pub given_to : (told : Option FileTable) → Settings → Setup
-given_to told s = setup_by (library_by s.sample told) s
+abbrev pub setup_to : (told : Option FileTable) → Settings → Setup
+setup_to told s = setup_by (library_by s.sample told) s
 
 abbrev pub document_to : Settings → (left : Option (List ℕ)) → Option (List ℕ)
 document_to s left = document_by s.sample left

@@ -9,7 +9,7 @@ use outside::{Failed, Input};
 use std::alloc::{AllocError, Global};
 
 // One byte more than a document may have.
-const LONGEST_READ: usize = 67_108_865;
+const LONGEST_INPUT_READ: usize = 67_108_865;
 
 // How much room a first read has, in bytes.
 const PIECE: usize = 65_536;
@@ -58,7 +58,7 @@ fn make_room(bytes: &mut Vec<u8>, len: usize) -> Result<(), AllocError>
     ensures room { OnOk result (len < length bytes.new.items) }
 {
     if bytes.len() == len {
-        bytes.resize((2 * len).max(PIECE).min(LONGEST_READ), 0u8)?;
+        bytes.resize((2 * len).max(PIECE).min(LONGEST_INPUT_READ), 0u8)?;
     }
     Ok(())
 }
@@ -89,7 +89,7 @@ pub fn read_all<I: Input>(alloc: Global, input: &mut I) -> Result<Vec<u8>, ReadS
 {
     let mut bytes = Vec::new(alloc);
     let mut len: usize = 0;
-    while len < LONGEST_READ {
+    while len < LONGEST_INPUT_READ {
         let n = read_more(input, &mut bytes, len)?;
         if n == 0 {
             bytes.truncate(len);

@@ -6,7 +6,7 @@ ghost use Rattle.cache_core.specs.Views.{calls_of};
 ghost use Rattle.command_line.specs.Line.{settings_of};
 ghost use Rattle.command_line.specs.Settings.{AreSettings};
 ghost use Rattle.dvi_run.specs.Shares.{AreShares};
-ghost use Rattle.dvi_run.specs.Sampled.{FailedTo, UsesTheSample, document_to, given_to, rest_to};
+ghost use Rattle.dvi_run.specs.Sampled.{FailedTo, UsesTheSample, document_to, setup_to, rest_to};
 ghost use Rattle.dvi_run.specs.Together.{IsOneHistory, IsReady, RestIsKept, SomeUsed, SourceRose, Worked};
 ghost use Rattle.dvi_run.specs.Promises.{HasEnded, IsCaused, IsCutShort, IsWritten, NoCountFalls, WasRefused};
 ghost use Rattle.dvi_run.specs.Endings.{EndingSeen, status_of};
@@ -86,7 +86,7 @@ pub fn run_with<R: Threads + Wait + Sync, I: Input, F: FontSource + Send, O: Out
     requires empty { history.old.items ≡ [] }
 
     // Why it ended so: the causes of each status, both ways.
-    ensures caused { IsCaused (given_to told settings.now) result
+    ensures caused { IsCaused (setup_to told settings.now) result
         (document_to settings.now (I.left input.old))
         (FailedTo settings.now (Rose (I.faults input.old) (I.faults input.new)))
         (FailedTo settings.now
@@ -95,7 +95,7 @@ pub fn run_with<R: Threads + Wait + Sync, I: Input, F: FontSource + Send, O: Out
         (Rose (N.faults notes.old) (N.faults notes.new)) }
 
     // The bytes written where it ended well.
-    ensures written { IsWritten (given_to told settings.now) result
+    ensures written { IsWritten (setup_to told settings.now) result
         (document_to settings.now (I.left input.old)) (rest_to settings.now (I.left input.new))
         (O.written out.old) (O.written out.new) }
 
@@ -120,7 +120,7 @@ pub fn run_with<R: Threads + Wait + Sync, I: Input, F: FontSource + Send, O: Out
         (slice_index_or workers.new k d) }
 
     // What was written where it was refused: pages from the first on, and a prefix of one at most.
-    ensures cut_short { IsCutShort (given_to told settings.now) result
+    ensures cut_short { IsCutShort (setup_to told settings.now) result
         (document_to settings.now (I.left input.old)) (O.written out.old) (O.written out.new)
         (out.new ≡ out.old) }
 
@@ -176,7 +176,7 @@ pub fn dvipbm_run<R: Threads + Wait + Sync, I: Input, F: FontSource + Send, O: O
     // Why it ended so: the causes of each status, both ways.
     ensures caused { (s : Settings)
         → settings_of (length workers.old) (map string_bytes words.now) ≡ Some s
-        → IsCaused (given_to told s) result (document_to s (I.left input.old))
+        → IsCaused (setup_to told s) result (document_to s (I.left input.old))
         (FailedTo s (Rose (I.faults input.old) (I.faults input.new)))
         (FailedTo s (SomeUsed s.workers workers.old workers.new (SourceRose F.faults)))
         (Rose (O.faults out.old) (O.faults out.new))
@@ -185,7 +185,7 @@ pub fn dvipbm_run<R: Threads + Wait + Sync, I: Input, F: FontSource + Send, O: O
     // The bytes written where it ended well.
     ensures written { (s : Settings)
         → settings_of (length workers.old) (map string_bytes words.now) ≡ Some s
-        → IsWritten (given_to told s) result (document_to s (I.left input.old))
+        → IsWritten (setup_to told s) result (document_to s (I.left input.old))
         (rest_to s (I.left input.new)) (O.written out.old) (O.written out.new) }
 
     // The report in the notes, what was written whole, the worker whose source failed, and the
@@ -215,7 +215,7 @@ pub fn dvipbm_run<R: Threads + Wait + Sync, I: Input, F: FontSource + Send, O: O
     // What was written where it was refused: pages from the first on, and a prefix of one at most.
     ensures cut_short { (s : Settings)
         → settings_of (length workers.old) (map string_bytes words.now) ≡ Some s
-        → IsCutShort (given_to told s) result (document_to s (I.left input.old)) (O.written out.old)
+        → IsCutShort (setup_to told s) result (document_to s (I.left input.old)) (O.written out.old)
         (O.written out.new) (out.new ≡ out.old) }
 
     // The pages that were drawn, the first n, each once and by one worker.

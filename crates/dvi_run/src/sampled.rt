@@ -11,7 +11,7 @@ ghost use Rattle.sample_maker.specs.Sample.{sample_document, sample_files};
 ghost use Rattle.dvi_run.specs.Reading.{OfRead};
 ghost use Rattle.dvi_run.specs.Pages.{setup_by};
 ghost use Rattle.dvi_run.specs.Endings.{IsEnding, seen_ending, status_of};
-ghost use Rattle.dvi_run.specs.Sampled.{FailedTo, UsesTheSample, document_to, given_to, rest_to};
+ghost use Rattle.dvi_run.specs.Sampled.{FailedTo, UsesTheSample, document_to, setup_to, rest_to};
 ghost use Rattle.dvi_run.specs.Together.{AreDone, DrewTogether, IsReady, SomeUsed, SourceRose};
 
 use crate::ending::Ending;
@@ -147,13 +147,13 @@ pub fn draw_asked<R: Threads + Wait + Sync, I: Input, F: FontSource + Send, O: O
         (FailedTo settings.now
         (SomeUsed settings.now.workers workers.old workers.new (SourceRose F.faults)))
         (out.new ≡ out.old) (FailedTo settings.now (Rose (I.faults input.old) (I.faults input.new)))
-        (given_to told settings.now) (document_to settings.now (I.left input.old))
+        (setup_to told settings.now) (document_to settings.now (I.left input.old))
         (rest_to settings.now (I.left input.new)) (seen_ending result.0) }
     ensures done { AreDone F.library F.faults F.loads told settings.now.sample settings.now.cache
         settings.now.workers (status_of (seen_ending result.0)) (seen_ending result.0) result.1
         (calls_of history.new.items) workers.old workers.new }
     ensures drew { OfRead (document_to settings.now (I.left input.old))
-        (DrewTogether (given_to told settings.now)
+        (DrewTogether (setup_to told settings.now)
         settings.now.summary (O.written out.old) (O.written out.new) settings.now.cache
         settings.now.workers (status_of (seen_ending result.0)) (seen_ending result.0) result.1
         (calls_of history.new.items) workers.old workers.new) }

@@ -9,7 +9,7 @@ use std::rt::Files;
 use std::{fs, str};
 
 // One byte more than a font file may have.
-const LONGEST_READ: u64 = 8_388_609;
+const LONGEST_FILE_READ: u64 = 8_388_609;
 
 // How many bytes of a font file are read at once.
 const PIECE: usize = 65_536;
@@ -48,7 +48,7 @@ impl<'a, R: Files> FolderFonts<'a, R> {
     fn open(&self, name: &FileName) -> io::Result<Take<R::File>> {
         let name = str::from_utf8(name.bytes()).map_err(|_| ErrorKind::InvalidInput)?;
         let path = self.folder.join(self.alloc, name)?;
-        Ok(fs::open(self.rt, path)?.take(LONGEST_READ))
+        Ok(fs::open(self.rt, path)?.take(LONGEST_FILE_READ))
     }
 
     // The bytes of a file, of a long one more than a font file may have.

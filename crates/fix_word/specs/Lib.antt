@@ -1,1 +1,2 @@
+pub mod FixWords
 pub mod Scale

@@ -1,5 +1,6 @@
 //! Widths at a size, and design sizes.
-ghost use Rattle.std.specs.Prelude.{◌≡◌, ◌≤◌, ◌<◌, ◌-◌, ◌*◌, ◌/◌, ◌^◌, ◌≤ℤ◌, ◌<ℤ◌, pos, negsuc};
+ghost use Rattle.std.specs.Prelude.{◌≡◌, ◌≤◌, ◌<◌, ◌-◌, ◌*◌, ◌/◌, ◌^◌};
+ghost use Rattle.fix_word.specs.FixWords.{IsFixWord};
 ghost use Rattle.fix_word.specs.Scale.{half_up, kept_size, scale, shift, tex_units};
 
 // What the lowest bit that is kept of a size weighs.
@@ -34,8 +35,7 @@ fn kept(z: u32) -> u32
 /// with as many low bits of `z` left out as keep it at 23 bits (Knuth, DVItype, "Reading the font
 /// information").
 pub fn scale(x: i32, z: u32) -> i64
-    requires least { negsuc (2 ^ 24 - 1) ≤ℤ x }
-    requires most { x <ℤ pos (2 ^ 24) }
+    requires word { IsFixWord x }
     requires some { 1 ≤ z }
     requires size { z < 2 ^ 27 }
     ensures { result ≡ scale x z }

@@ -9,10 +9,11 @@ use Rattle.fix_word.specs.Scale.{kept_size, scale, shift}
 use Rattle.std.proofs.lemmas.Bool.{and_parts, cases_lt, le-ltb, leb-true}
 use Rattle.std.proofs.lemmas.List.{get_or_past}
 use Rattle.std.proofs.lemmas.Option.{unwrap_or-slice_get}
-use Rattle.tfm_reader.specs.Fits.{IsFixWord}
+use Rattle.fix_word.specs.FixWords.{IsFixWord}
 use Rattle.tfm_reader.specs.Tfm.{are_right, bc, codes_of, ec, fault_if, first_some, indexed_width, lf, lh, nw, others, tables_fault, tfm_fault, tfm_width, width_index, width_of}
 use Rattle.tfm_reader.specs.declared.faults.TfmFault.{TfmFault}
 use Rattle.tfm_reader.specs.declared.faults.TfmFault.TheVariants.{Counts, Short}
+use Rattle.outside.specs.Limits.{SIZES}
 use Rattle.font_decode.specs.Fonts.{IsWidth}
 use Rattle.font_decode.specs.Decoding.{scaled_width}
 use Rattle.font_decode.specs.Reading.{IsTfmOf}
@@ -23,9 +24,9 @@ use Rattle.font_decode.specs.Reading.{IsTfmOf}
 abbrev floor_20 : ℤ → ℤ
 floor_20 x = int_div_euclid x (pos (2 ^ 20))
 
-product_fits : (m z : ℕ) → m ≤ 2 ^ 24 → z < 2 ^ 27 → m * kept_size z ≤ 2 ^ 51
+product_fits : (m z : ℕ) → m ≤ 2 ^ 24 → z < SIZES → m * kept_size z ≤ 2 ^ 51
 product_fits m z few lt =
-    let kept : kept_size z ≤ 2 ^ 27 = omega (arith, div-mul-le_self z (2 ^ shift z)) in
+    let kept : kept_size z ≤ SIZES = omega (arith, div-mul-le_self z (2 ^ shift z)) in
     mul-le-mul few kept
 
 left : (n : ℕ) → n ≤ 2 ^ 51 → IsWidth (floor_20 (neg_ℤ (pos n)))
@@ -35,7 +36,7 @@ left (suc n) h = omega arith
 negsuc-mul : (m k : ℕ) → negsuc m *ℤ pos k ≡ neg_ℤ (pos (suc m * k))
 negsuc-mul m k = grind (arith, ints)
 
-pub scale_fits : (x : ℤ) (z : ℕ) → IsFixWord x → z < 2 ^ 27 → IsWidth (scale x z)
+pub scale_fits : (x : ℤ) (z : ℕ) → IsFixWord x → z < SIZES → IsWidth (scale x z)
 scale_fits (pos m) z h lt =
     let few : m ≤ 2 ^ 24 = omega (arith, ints, h.1) in
     omega (arith, product_fits m z few lt)

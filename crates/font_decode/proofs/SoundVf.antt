@@ -18,6 +18,8 @@ use Rattle.vf_reader.specs.Locals.{agrees_with, definition_fault, is_factor, loc
 use Rattle.vf_reader.specs.Fonts.{AreSound, IsFontOf, IsItemSound, Virtual, program_with}
 use Rattle.vf_reader.specs.declared.locals.LocalDef.{LocalDef}
 use Rattle.vf_reader.specs.declared.faults.VfFault.TheVariants as fault
+use Rattle.outside.specs.Limits.{SIZES}
+use Rattle.fix_word.specs.FixWords.{FIX_WORDS}
 use Rattle.font_decode.specs.Fonts.{AreShapes, IsProgram, key_with}
 use Rattle.font_decode.specs.declared.shapes.Shapes.TheVariants as shape
 use Rattle.font_decode.specs.Locals.{are_local_sizes, is_local_size, is_size, local_design, local_key, local_size}
@@ -45,7 +47,7 @@ right_sizes known d h = by (is_factor d.size && int_lt (pos 0) d.design) (agrees
     by true agrees h = refl
     by false agrees h = cc
 
-factor_fits : (z : ℤ) → is_factor z ≡ true → (1 ≤ unsigned_abs z) × (unsigned_abs z < 2 ^ 24)
+factor_fits : (z : ℤ) → is_factor z ≡ true → (1 ≤ unsigned_abs z) × (unsigned_abs z < FIX_WORDS)
 factor_fits z h = (grind (arith, ints), grind (arith, ints))
 
 power_fits : (n : ℕ) → n ≤ 4 → 256 ^ n ≤ 2 ^ 32
@@ -116,7 +118,7 @@ module _ (u : Units) (size : ℕ) where
       let sizes = and_parts (is_size (local_size size d)) (is_size (pos (local_design u d))) right in
       record { size = size_fits (local_size size d) sizes.0; design = size_fits (pos (local_design u d)) sizes.1; area = is.area }
     where
-      size_fits : (z : ℤ) → is_size z ≡ true → (1 ≤ unsigned_abs z) × (unsigned_abs z < 2 ^ 27)
+      size_fits : (z : ℤ) → is_size z ≡ true → (1 ≤ unsigned_abs z) × (unsigned_abs z < SIZES)
       size_fits z h = (grind (arith, ints), grind (arith, ints))
 
   keys_fit : (locals : List LocalDef) (n : ℤ) → All IsLocalDef locals → are_local_sizes u size locals ≡ true → IfSome (option_map (local_key u size) (local_with locals n)) IsFontKey

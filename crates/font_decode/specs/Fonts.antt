@@ -13,6 +13,7 @@ use Rattle.pk_runs.specs.declared.glyph.Glyph.{Glyph}
 use Rattle.pk_packets.specs.Fonts.{glyph_of}
 use Rattle.vf_reader.specs.Fonts as vf
 use Rattle.vf_reader.specs.Programs.{AreCommandsOf}
+use Rattle.outside.specs.Limits.{SIZES}
 use Rattle.font_decode.specs.declared.shapes.Shapes.{Shapes}
 use Rattle.font_decode.specs.declared.shapes.Shapes.TheVariants.{Packed, Virtual}
 
@@ -77,7 +78,7 @@ first_local_of f = first_in f.shapes
 
 -- ---- what holds of every font
 
--- a width at a size below 2 ^ 27
+-- a width at a size below 2^27
 abbrev pub IsWidth : ℤ → Type 0
 IsWidth w = unsigned_abs w ≤ 2 ^ 31
 
@@ -99,7 +100,7 @@ pub record AreShapes (shapes : Shapes) : Type 0 where
 -- no character has a code above 255
 pub record IsFontSeen (f : FontSeen) : Type 0 where
   pub some : 1 ≤ f.size
-  pub fits : f.size < 2 ^ 27
+  pub fits : f.size < SIZES
   pub codes : length f.widths ≤ 256
   pub widths : AreWidths f.widths
   pub shapes : AreShapes f.shapes

@@ -7,6 +7,7 @@ use Rattle.fix_word.specs.Scale.{scale, tex_units}
 use Rattle.outside.specs.declared.keys.FontKey.{FontKey}
 use Rattle.pixel_round.specs.declared.units.Units.{Units}
 use Rattle.vf_reader.specs.declared.locals.LocalDef.{LocalDef}
+use Rattle.outside.specs.Limits.{SIZES}
 
 -- the size and the design size in DVI units, in a virtual font of a size
 abbrev pub local_size : ℕ → LocalDef → ℤ
@@ -17,7 +18,7 @@ local_design u d = tex_units d.points u.num u.den
 
 -- from 1 to 2^27 - 1
 abbrev pub is_size : ℤ → Bool
-is_size z = int_lt (pos 0) z && int_lt z (pos 134217728)
+is_size z = int_lt (pos 0) z && int_lt z (pos SIZES)
 
 abbrev pub is_local_size : Units → ℕ → LocalDef → Bool
 is_local_size u size d = is_size (local_size size d) && is_size (pos (local_design u d))

@@ -3,6 +3,7 @@ use Rattle.std.specs.Prelude.{◌≡◌, ℕ, ◌^◌, ◌<◌, ◌≤◌, ℤ, 
 use Rattle.tfm_reader.specs.Tfm.{tfm_fault, tfm_width, width_of}
 use Rattle.vf_reader.specs.Fonts.{AreSound, IsFontOf, Virtual}
 use Rattle.vf_reader.specs.declared.locals.LocalDef.{LocalDef}
+use Rattle.fix_word.specs.FixWords.{FIX_WORDS}
 
 -- the bytes are a sound TFM file, and this is its table of widths
 pub record IsTfmOf (bytes : List ℕ) (table : List (Option ℤ)) : Type 0 where
@@ -12,7 +13,7 @@ pub record IsTfmOf (bytes : List ℕ) (table : List (Option ℤ)) : Type 0 where
 -- what holds of a sound definition: the factor and the design size are positive fix_words, the
 -- factor one below 16, and the area lies in the name
 pub record IsLocalDef (d : LocalDef) : Type 0 where
-  pub factor : (1 ≤ d.factor) × (d.factor < 2 ^ 24)
+  pub factor : (1 ≤ d.factor) × (d.factor < FIX_WORDS)
   pub points : (1 ≤ d.points) × (d.points < 2 ^ 31)
   pub area : d.area ≤ length d.name
 

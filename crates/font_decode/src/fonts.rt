@@ -2,6 +2,7 @@
 ghost use Rattle.std.specs.Prelude.{◌≡◌, ◌≤◌, ◌<◌, ◌^◌, ℕ, pos, length, unsigned_abs, IfSome, IsSome, MatchOption, None, Some};
 ghost use Rattle.std.specs.Arc.{arc_value};
 ghost use Rattle.outside.specs.FontKeys.{IsFontKey};
+ghost use Rattle.outside.specs.Limits.{SIZES};
 ghost use Rattle.font_decode.specs.Fonts.{AreShapes, AreWidths, IsProgram, first_local_of, glyph_at, is_virtual_of, local_of, packet_of, scaled_width_of};
 
 use crate::shapes::Shapes;
@@ -13,8 +14,7 @@ use std::sync::Arc;
 /// A font at a size: its widths, and its glyphs in dots or, of a virtual font, its packets of
 /// commands and its local fonts. A contract sees it as its size, the widths of the codes from 0 on,
 /// and what its characters are; `scaled_width_of`, `glyph_at` and `packet_of` say which ones a code
-/// has,
-/// and `local_of` which font a number.
+/// has, and `local_of` which font a number.
 #[derive(Drop)]
 pub struct Font {
     size: u32,
@@ -37,7 +37,7 @@ impl Font {
     // A font of this size, with these widths and characters.
     pub(crate) fn new(size: u32, widths: Vec<Option<i64>>, shapes: Shapes) -> Font
         requires some { 1 ≤ size }
-        requires fits { size < 2 ^ 27 }
+        requires fits { size < SIZES }
         requires codes { length widths.items ≤ 256 }
         requires widths { AreWidths widths.items }
         requires shapes { AreShapes shapes }
@@ -132,7 +132,7 @@ impl Font {
     #[inline(always)]
     pub fn size(&self) -> u32
         ensures size { result ≡ self.now.size }
-        ensures fits { (1 ≤ result) × (result < 2 ^ 27) }
+        ensures fits { (1 ≤ result) × (result < SIZES) }
     {
         self.size
     }

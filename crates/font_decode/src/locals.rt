@@ -4,6 +4,7 @@ ghost use Rattle.std.specs.Arc.{arc_value};
 ghost use Rattle.std.specs.Option.{option_map};
 ghost use Rattle.pixel_round.specs.Preamble.{AreUnits};
 ghost use Rattle.vf_reader.specs.Locals.{local_with};
+ghost use Rattle.outside.specs.Limits.{SIZES as FONT_SIZES};
 ghost use Rattle.font_decode.specs.Fonts.{key_with};
 ghost use Rattle.font_decode.specs.Locals.{are_local_sizes, is_local_size, local_key};
 ghost use Rattle.font_decode.specs.Reading.{IsLocalDef};
@@ -30,7 +31,7 @@ fn key_of(
     requires units { AreUnits units.now }
     requires local { IsLocalDef local.now }
     requires some { 1 ≤ size }
-    requires fits { size < 2 ^ 27 }
+    requires fits { size < FONT_SIZES }
     ensures { IfOk result (λ key. MatchOption key
         (IsFalse (is_local_size units.now size local.now))
         (λ key. IsTrue (is_local_size units.now size local.now)
@@ -61,7 +62,7 @@ pub fn local_keys(
     requires units { AreUnits units.now }
     requires locals { All IsLocalDef locals.now }
     requires some { 1 ≤ size }
-    requires fits { size < 2 ^ 27 }
+    requires fits { size < FONT_SIZES }
     ensures { IfOk result (λ keys. MatchOption keys
         (IsFalse (are_local_sizes units.now size locals.now))
         (λ keys. IsTrue (are_local_sizes units.now size locals.now)

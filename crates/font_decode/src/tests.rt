@@ -1,13 +1,15 @@
 //! Fonts by hand, each file of which holds its own name.
-ghost use Rattle.std.specs.Prelude.{◌≡◌, ◌<◌, ◌≤◌, ◌^◌, IfOk};
+ghost use Rattle.std.specs.Prelude.{◌<◌, ◌≤◌, ◌^◌, IfOk};
 ghost use Rattle.outside.specs.FontKeys.{IsFontKey};
+ghost use Rattle.outside.specs.Limits.{SIZES};
 
 mod asking;
 mod decodings;
+mod faults;
+mod names;
 mod virtual_fonts;
 
-use crate::names::is_resolution;
-use crate::{dpi, fetch, file_name, is_valid_name, laws};
+use crate::fetch;
 use outside::{FileName, FontKey, FontName, FontSource, Library, LoadStop, MemFonts, SureFonts};
 use pixel_round::Units;
 use std::alloc::Global;
@@ -25,7 +27,7 @@ const UNITS: Units = Units {
 
 // A font of a design size of 128 units.
 fn key(alloc: Global, name: &[u8], size: u32) -> Result<FontKey, Fail>
-    requires { (1 ≤ size) × (size < 2 ^ 27) }
+    requires { (1 ≤ size) × (size < SIZES) }
     ensures { IfOk result IsFontKey }
 {
     Ok(FontKey {
@@ -86,48 +88,6 @@ fn assert_finds(
         matches!(next, Err(LoadStop::Failed)),
         "load {loads} is not the last"
     );
-    Ok(())
-}
-
-// This is the name of a file of the font `dot`.
-fn assert_named(rt: &impl Abort, alloc: Global, which: usize, bytes: &[u8]) -> Result<(), Fail>
-    requires { which < 5 }
-{
-    let key = key(alloc, b"dot", 128)?;
-    if !is_valid_name(&key) || !is_resolution(dpi(&UNITS, &key)) {
-        return Err(Fail::from("no file of the font is looked for"));
-    }
-    let name = file_name(alloc, &key, &UNITS, which)?;
-    assert_eq!(rt; name.bytes(), bytes);
-    Ok(())
-}
-
-#[test]
-fn resolutions_of_packed_fonts(rt: HostRuntime) -> Result<(), Fail> {
-    let mut dot = key(rt.alloc(), b"dot", 128)?;
-    assert_eq!(rt; dpi(&UNITS, &dot), 300);
-    let twice = Units {
-        num: 1270,
-        den: 3,
-        mag: 2000,
-        res: 300,
-    };
-    assert_eq!(rt; dpi(&twice, &dot), 600);
-    dot.size = 1;
-    dot.design = 600;
-    assert_eq!(rt; dpi(&UNITS, &dot), 1, "a half, up");
-    laws::names();
-    laws::answers();
-    Ok(())
-}
-
-#[test]
-fn names_of_files(rt: HostRuntime) -> Result<(), Fail> {
-    assert_named(&rt, rt.alloc(), 0, b"dot.tfm")?;
-    assert_named(&rt, rt.alloc(), 1, b"dot.vf")?;
-    assert_named(&rt, rt.alloc(), 2, b"dot.300pk")?;
-    assert_named(&rt, rt.alloc(), 3, b"dot.301pk")?;
-    assert_named(&rt, rt.alloc(), 4, b"dot.299pk")?;
     Ok(())
 }
 

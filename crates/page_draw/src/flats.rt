@@ -1,5 +1,5 @@
 //! Draws the flat commands of a page.
-ghost use Rattle.std.specs.Prelude.{◌≡◌, ◌≤◌, ◌<ℤ◌, ◌≤ℤ◌, ◌+ℤ◌, ◌-ℤ◌, ◌^◌, ◌++◌, neg_ℤ, pos};
+ghost use Rattle.std.specs.Prelude.{◌≡◌, ◌≤◌, ◌<ℤ◌, ◌≤ℤ◌, ◌+ℤ◌, ◌-ℤ◌, ◌++◌, neg_ℤ, pos};
 ghost use Rattle.std.specs.Prelude.{List, Some, IfOk, IfErr, IfSome, IsErrOf, OnOk};
 ghost use Rattle.std.specs.Option.{option_map};
 ghost use Rattle.outside.specs.declared.keys.FontKey.{FontKey};
@@ -8,6 +8,7 @@ ghost use Rattle.drift_rules.specs.Bounds.{IsInReach, IsNumber, IsPaintable, IsP
 ghost use Rattle.raster_page.specs.Ink.{Inked, page_of};
 ghost use Rattle.vf_expand.specs.Expansion.{asks_left, glyph_for, left};
 ghost use Rattle.vf_expand.specs.Steps.{Fits, Steps};
+ghost use Rattle.packed_rows.specs.declared.offset.TheConstants.{MAX_COORDINATE};
 ghost use Rattle.page_draw.specs.Inking.{Inks, Moves, step_of, set_in};
 ghost use Rattle.page_draw.specs.Sheets.{IsDrawable, inks_of};
 ghost use Rattle.page_draw.specs.SoFar.{GoesOn, HasFewerAtLook, StopsSo};
@@ -44,8 +45,8 @@ fn placed(place: i64, offset: i32, margin: u32) -> i64
     requires near { IsPlaceable place }
     requires few { margin ≤ LONGEST_PAGE_SIDE }
     ensures value { result ≡ place -ℤ offset +ℤ pos margin }
-    ensures low { neg_ℤ (pos (2 ^ 42)) ≤ℤ result }
-    ensures high { result <ℤ pos (2 ^ 42) }
+    ensures low { neg_ℤ (pos MAX_COORDINATE) ≤ℤ result }
+    ensures high { result <ℤ pos MAX_COORDINATE }
 {
     place - i64::from(offset) + i64::from(margin)
 }

@@ -1,5 +1,5 @@
 -- The keys that a sound reading defines.
-use Rattle.std.proofs.Common.{◌≡◌, ℕ, ◌<◌, ◌≤◌, ◌^◌, ℤ, Bool, true, false, [], ◌∷◌, arith, Option, Some, None, refl, subst}
+use Rattle.std.proofs.Common.{◌≡◌, ℕ, ◌<◌, ◌≤◌, ℤ, Bool, true, false, [], ◌∷◌, arith, Option, Some, None, refl, subst}
 use Rattle.std.specs.Option.{option_map}
 use Rattle.std.specs.Prelude.{IfSome, ◌&&◌, not, if◌then◌else◌, unsigned_abs}
 use Rattle.std.proofs.lemmas.Bool.{and_parts}
@@ -8,12 +8,13 @@ use Rattle.big_endian.specs.Numbers.{int_eq}
 use Rattle.outside.specs.declared.keys.FontKey.{FontKey}
 use Rattle.dvi_commands.specs.Spelling.{Definition, DviCommand, Define, Spells}
 use Rattle.dvi_commands.specs.Reading.{Placed}
+use Rattle.outside.specs.Limits.{SIZES}
 use Rattle.page_index.specs.Judged.{agrees_with, define_fault, is_size}
 use Rattle.page_index.specs.Document.{IsSound, Reading, Sound, font_table, key_of, key_or, whole_fault}
 use Rattle.outside.specs.FontKeys.{IsFontKey}
 use Rattle.page_index.specs.declared.faults.DocFault.TheVariants.{FontClash, FontDef}
 
-size_fits : (z : ℤ) → is_size z ≡ true → (1 ≤ unsigned_abs z) × (unsigned_abs z < 2 ^ 27)
+size_fits : (z : ℤ) → is_size z ≡ true → (1 ≤ unsigned_abs z) × (unsigned_abs z < SIZES)
 size_fits z h = (grind (arith, ints), grind (arith, ints))
 
 are_sizes : (known : Option FontKey) (at : ℕ) (d : Definition) → define_fault known at d ≡ None → (is_size d.size && is_size d.design) ≡ true

@@ -9,7 +9,8 @@ use Rattle.big_endian.specs.Numbers.{int_eq}
 use Rattle.big_endian.specs.Fields.{judge, whole_until, signed_at, Field}
 use Rattle.outside.specs.declared.keys.FontKey.{FontKey}
 use Rattle.dvi_commands.specs.Spelling.{Definition, Preamble, Postamble}
-use Rattle.page_index.specs.Limits.{MOST_PAGES, SIZES}
+use Rattle.outside.specs.Limits.{SIZES}
+use Rattle.page_index.specs.Limits.{MOST_PAGES}
 use Rattle.page_index.specs.declared.faults.DocFault.{DocFault}
 use Rattle.page_index.specs.declared.faults.DocFault.TheVariants as fault
 use Rattle.page_index.specs.declared.faults.PostField.TheVariants as field

@@ -3,6 +3,7 @@ ghost use Rattle.std.specs.Prelude.{◌≡◌, ◌≤◌, IfErr, IfOk, true};
 ghost use Rattle.page_index.specs.Document.{IsDocument};
 ghost use Rattle.page_index.specs.Faults.{IsStopFor};
 ghost use Rattle.page_index.specs.Walked.{IsBegun, IsReadTo};
+ghost use Rattle.pixel_round.specs.Limits.{HIGHEST_RESOLUTION};
 
 use crate::faults::{DocFault, IndexStop};
 use crate::index::Index;
@@ -33,7 +34,7 @@ impl<'a> Index<'a> {
     /// inch.
     pub fn read(alloc: Global, bytes: &'a [u8], res: u32) -> Result<Index<'a>, IndexStop>
         requires some { 1 ≤ res }
-        requires fine { res ≤ 4800 }
+        requires fine { res ≤ HIGHEST_RESOLUTION }
         ensures document { IfOk result (λ index. IsDocument res bytes.now index.reading) }
         ensures resolution { IfOk result (λ index. index.res ≡ res) }
         ensures stop { IfErr result (λ stop. IsStopFor stop res bytes.now) }

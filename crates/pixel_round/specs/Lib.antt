@@ -1,3 +1,4 @@
 pub mod Pixels
 pub mod Examples
+pub mod Limits
 pub mod Preamble

@@ -18,6 +18,7 @@ use Rattle.page_index.specs.Judged.{agrees_with, bop_fault, define_fault, is_sam
 use Rattle.page_index.specs.Document.{Reading, Sound, context_after, end_of, font_table, is_eop, key_of, key_or, last_bop, whole_fault}
 use Rattle.page_index.specs.declared.faults.DocFault.TheVariants.{FontClash, FontDef}
 use Rattle.page_index.proofs.Keys.{key_is, sizes_agree}
+use Rattle.outside.specs.Limits.{SIZES}
 use Rattle.sample_maker.specs.DviFile.{DefineRightly, IsFontSpelled, IsPageText, IsRightDefinition, IsWritable, are_apart, beginning, after, after_text, definition, with_fonts, with_page, with_pages}
 use Rattle.sample_maker.proofs.Spelled.{AreSpelled}
 use Rattle.sample_maker.proofs.PageTexts.{IsEven, IsPlain, Stands, commands_are, plain, plain_more, text_more, text_none, with}
@@ -82,8 +83,8 @@ name_same (x ∷ xs) = and_from (nat_eq x x) (pointwise nat_eq xs xs) (eq-eqb x 
 nat_same : (m : ℕ) → (m == m) ≡ true
 nat_same m = eq-eqb m m refl
 
-size_right : (n : ℕ) → 1 ≤ n → n < 2 ^ 27 → is_size (pos n) ≡ true
-size_right n some few = rw (lt-ltb 0 n (omega (arith, some)), lt-ltb n 134217728 (omega (arith, few))) refl
+size_right : (n : ℕ) → 1 ≤ n → n < SIZES → is_size (pos n) ≡ true
+size_right n some few = rw (lt-ltb 0 n (omega (arith, some)), lt-ltb n SIZES (omega (arith, few))) refl
 
 abbrev defined : ℤ × FontKey → Definition
 defined f = record { number = f.0; check = 0; size = pos f.1.size; design = pos f.1.design; area = f.1.area; name = f.1.name }

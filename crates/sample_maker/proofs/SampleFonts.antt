@@ -9,7 +9,7 @@ use Rattle.dvi_commands.specs.Spelling.{Font, Set}
 use Rattle.pk_runs.specs.Numbers.{Item, Repeat, Run, SpellsItem, SpellsItems}
 use Rattle.pk_runs.specs.Raster.{Fits}
 use Rattle.pk_packets.specs.Fonts.{HasRaster}
-use Rattle.tfm_reader.specs.Fits.{IsFixWord}
+use Rattle.fix_word.specs.FixWords.{IsFixWord}
 use Rattle.tfm_reader.specs.Right.{IsTfm}
 use Rattle.tfm_reader.specs.Tfm.{tfm_width}
 use Rattle.vf_reader.specs.Fonts.{IsVfFile}

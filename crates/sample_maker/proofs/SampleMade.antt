@@ -4,6 +4,7 @@ use Rattle.std.specs.Prelude.{All, IsTrue, slice_index}
 use Rattle.std.specs.List.{AllByRecursion, flat_map, range_with_len, repeat}
 use Rattle.std.proofs.lemmas.Bool.{le-leb}
 use Rattle.outside.specs.declared.keys.FontKey.{FontKey}
+use Rattle.pixel_round.specs.Limits.{HIGHEST_RESOLUTION}
 use Rattle.dvi_commands.specs.Spelling.{DviCommand, Down, FieldsFit, Font, Pop, Push, Set, Spells}
 use Rattle.dvi_commands.specs.Refusal.{may_stand}
 use Rattle.dvi_commands.specs.Reading.{AreCommands, commands_of}
@@ -159,7 +160,7 @@ spelled (suc (suc (suc n))) f lt = absurd (omega (arith, lt))
 
 -- ---- the laws
 
-pub is_sample : (n res : ℕ) → 1 ≤ n → n ≤ 1000 → 1 ≤ res → res ≤ 4800 → (reading : Reading) × IsDocument res (sample_document n) reading
+pub is_sample : (n res : ℕ) → 1 ≤ n → n ≤ 1000 → 1 ≤ res → res ≤ HIGHEST_RESOLUTION → (reading : Reading) × IsDocument res (sample_document n) reading
 unfolding sample_document
 is_sample n res some few fine coarse = (
   document_reading sample_units sample_fonts (sample_pages n),

@@ -9,7 +9,7 @@ use Rattle.std.proofs.lemmas.List.{length-append}
 use Rattle.std.proofs.lemmas.List.FromFn.{get_or-range_with_len, length-range_with_len}
 use Rattle.big_endian.specs.Numbers.{IsSigned, signed_of}
 use Rattle.big_endian.proofs.Bytes.{signed_is_read_again}
-use Rattle.tfm_reader.specs.Fits.{IsFixWord}
+use Rattle.fix_word.specs.FixWords.{IsFixWord}
 use Rattle.tfm_reader.specs.Tfm.{bc, indexed_width, tfm_width, width_at, width_index, width_word}
 use Rattle.tfm_reader.specs.Tfm as tfm
 use Rattle.tfm_reader.specs.Right.{IsTfm}

@@ -7,6 +7,7 @@ use Rattle.std.specs.Cmp.Lexicographic.{slice_cmp}
 use Rattle.std.specs.Ordering.{nat_cmp}
 use Rattle.outside.specs.Library.{FileTable}
 use Rattle.outside.specs.declared.keys.FontKey.{FontKey}
+use Rattle.pixel_round.specs.Limits.{HIGHEST_RESOLUTION}
 use Rattle.pixel_round.specs.declared.units.Units.{Units}
 use Rattle.page_index.specs.Document.{IsDocument, Reading}
 use Rattle.page_index.specs.Limits.{LONGEST}
@@ -114,7 +115,8 @@ sample_files = from_entries named_files
 
 -- each sample is a document, at any resolution
 abbrev pub SamplesAreDocuments : Type 0
-SamplesAreDocuments = (n res : ℕ) → 1 ≤ n → n ≤ 1000 → 1 ≤ res → res ≤ 4800
+SamplesAreDocuments = (n res : ℕ) → 1 ≤ n → n ≤ 1000 → 1 ≤ res
+    → res ≤ HIGHEST_RESOLUTION
     → (reading : Reading) × IsDocument res (sample_document n) reading
 
 -- whose reading gives its units, pages and fonts

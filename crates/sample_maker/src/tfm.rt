@@ -1,7 +1,7 @@
 //! TFM files of given widths (Knuth, TFtoPL, "Font metric data").
 ghost use Rattle.std.specs.Prelude.{◌≡◌, ℤ, ◌≤◌, ◌<◌, ◌++◌, IfOk, IsTrue, OnOk, length};
 ghost use Rattle.std.specs.List.{AllByRecursion, flat_map, range_with_len};
-ghost use Rattle.tfm_reader.specs.Fits.{IsFixWord};
+ghost use Rattle.fix_word.specs.FixWords.{IsFixWord};
 ghost use Rattle.tfm_reader.specs.Right.{IsTfm};
 ghost use Rattle.tfm_reader.specs.Tfm.{tfm_width};
 ghost use Rattle.sample_maker.specs.TfmFile.{are_rising, code_at as code_of, codes_of, counts_of, first_code, index_word, last_code, place_from, tfm_file, two, width_given, word};

@@ -5,7 +5,7 @@ use Rattle.std.proofs.lemmas.Bool.{lt-ltb, le-ltb}
 use Rattle.std.proofs.lemmas.Bool.Decides.{nat_tests}
 use Rattle.std.proofs.lemmas.Int.{ints}
 use Rattle.big_endian.specs.Numbers.{in_twos_complement, signed_of}
-use Rattle.tfm_reader.specs.Fits.{IsFixWord}
+use Rattle.fix_word.specs.FixWords.{IsFixWord}
 
 low_word : (m : ℕ) → m < 2 ^ 24 → IsFixWord (in_twos_complement 4 m)
 low_word m lt =

@@ -1,6 +1,6 @@
 //! The tables of a TFM file: what is wrong with them, and the width of a code.
 ghost use Rattle.std.specs.Prelude.{◌≡◌, ◌<◌, IfSome, MatchResult, None, Some, pos};
-ghost use Rattle.tfm_reader.specs.Fits.{IsFixWord};
+ghost use Rattle.fix_word.specs.FixWords.{IsFixWord};
 ghost use Rattle.tfm_reader.specs.Layout.{IsLayoutOf};
 ghost use Rattle.tfm_reader.specs.Tfm.{byte_fault, index_fault, is_width_byte_wrong, tables_fault, tfm_width, width_index, width_word};
 

@@ -1,6 +1,7 @@
 //! A TFM file that was read.
 ghost use Rattle.std.specs.Prelude.{◌≡◌, ℤ, IfErr, IfOk, IfSome, None, OnOk};
-ghost use Rattle.tfm_reader.specs.Fits.{AreFixWords, IsFixWord};
+ghost use Rattle.fix_word.specs.FixWords.{IsFixWord};
+ghost use Rattle.tfm_reader.specs.Fits.{AreFixWords};
 ghost use Rattle.tfm_reader.specs.Stops.{IsStopFor};
 ghost use Rattle.tfm_reader.specs.Tfm.{tables_fault, tfm_fault, tfm_width, width_of};
 ghost use Rattle.tfm_reader.specs.Layout.{IsLayoutOf};

@@ -1,6 +1,6 @@
 -- The levels of an expansion, as commands are read.
-use Rattle.std.proofs.Common.{◌≡◌, ℕ, ◌-◌, ◌<◌, ◌≤◌, ℤ, pos, negsuc, Bool, true, false, not, List, [], ◌∷◌, ◌++◌, length, length-append, length-take, length-drop, drop, refl, sym, ap, subst, ◌∙◌, arith, Option, Some, None}
-use Rattle.std.specs.Prelude.{slice_range, unwrap_or, IfSome, if◌then◌else◌, int_le, int_lt, ◌≤ℤ◌, ◌<ℤ◌}
+use Rattle.std.proofs.Common.{◌≡◌, ℕ, ◌-◌, ◌<◌, ◌≤◌, ℤ, pos, Bool, true, false, not, List, [], ◌∷◌, ◌++◌, length, length-append, length-take, length-drop, drop, refl, sym, ap, subst, ◌∙◌, arith, Option, Some, None}
+use Rattle.std.specs.Prelude.{slice_range, unwrap_or, IfSome, if◌then◌else◌, int_le, int_lt}
 use Rattle.std.specs.List.{list_all}
 use Rattle.std.proofs.lemmas.Bool.{and_parts}
 use Rattle.std.proofs.lemmas.Int.{ints}
@@ -16,6 +16,7 @@ use Rattle.drift_rules.specs.Bounds.{IsNumber}
 use Rattle.page_index.specs.Document.{Reading}
 use Rattle.vf_reader.specs.Programs.{AreSoundFrom, command_fault, open_after, dimensions, is_dimension}
 use Rattle.font_decode.specs.Fonts.{FontSeen}
+use Rattle.fix_word.specs.FixWords.{FIX_WORDS, IsFixWord, LEAST_FIX_WORD}
 use Rattle.vf_expand.specs.Course.{Current, Place, OnPage, InPacket}
 use Rattle.vf_expand.specs.Expansion.{place_in}
 use Rattle.vf_expand.specs.Effects.{HasDimensions, HasKey, IsEntry, Meaning, seen_current}
@@ -62,14 +63,14 @@ no_fault : {A : Type 0} (right : Bool) (f : A) (other : Option A) → (if not ri
 no_fault true f other e = refl
 no_fault false f other e = absurd cc
 
-in_range : (z : ℤ) → is_dimension z ≡ true → (negsuc 16777215 ≤ℤ z) × (z <ℤ pos 16777216)
-in_range z e = let parts = and_parts (int_le (negsuc 16777215) z) (int_lt z (pos 16777216)) e in (omega (arith, ints, parts.0), omega (arith, ints, parts.1))
+in_range : (z : ℤ) → is_dimension z ≡ true → IsFixWord z
+in_range z e = let parts = and_parts (int_le LEAST_FIX_WORD z) (int_lt z (pos FIX_WORDS)) e in (omega (arith, ints, parts.0), omega (arith, ints, parts.1))
 
-one_in_range : (z : ℤ) → list_all is_dimension (z ∷ []) ≡ true → (negsuc 16777215 ≤ℤ z) × (z <ℤ pos 16777216)
+one_in_range : (z : ℤ) → list_all is_dimension (z ∷ []) ≡ true → IsFixWord z
 one_in_range z e = in_range z (and_parts (is_dimension z) true e).0
 
 two_in_range : (z w : ℤ) → list_all is_dimension (z ∷ w ∷ []) ≡ true
-    → ((negsuc 16777215 ≤ℤ z) × (z <ℤ pos 16777216)) × ((negsuc 16777215 ≤ℤ w) × (w <ℤ pos 16777216))
+    → IsFixWord z × IsFixWord w
 two_in_range z w e =
     let parts = and_parts (is_dimension z) (list_all is_dimension (w ∷ [])) e in
     (in_range z parts.0, one_in_range w parts.1)

@@ -1,5 +1,5 @@
 -- What one command gives, by the definition.
-use Rattle.std.specs.Prelude.{◌≡◌, ◌<◌, ℕ, ◌-◌, ℤ, pos, negsuc, ◌≤ℤ◌, ◌<ℤ◌, unsigned_abs, Bool, false, List, Option, Some, IfSome}
+use Rattle.std.specs.Prelude.{◌≡◌, ◌<◌, ℕ, ◌-◌, ℤ, pos, unsigned_abs, Bool, false, List, Option, Some, IfSome}
 use Rattle.std.specs.Arc.{arc_value}
 use Rattle.outside.specs.declared.keys.FontKey.{FontKey}
 use Rattle.dvi_commands.specs.Spelling.{DviCommand, SetRule, PutRule, Right, W, X, Down, Y, Z}
@@ -12,6 +12,7 @@ use Rattle.pk_runs.specs.declared.glyph.Glyph.{Glyph}
 use Rattle.font_decode.specs.Fonts.{FontSeen, packet_of, IsProgram}
 use Rattle.font_decode.specs.declared.decoded.Decoded.{Decoded}
 use Rattle.font_decode.specs.declared.decoded.Decoded.TheVariants as decoded
+use Rattle.fix_word.specs.FixWords.{IsFixWord}
 use Rattle.vf_expand.specs.Faults.{seen_fault}
 use Rattle.vf_expand.specs.Course.{Course, Gives, Asks, Stops, plain, Place, OnPage, InPacket, deeper, expand_one, expand_list, character, first_font, font_change, leave, virtual}
 use Rattle.vf_expand.specs.Course as course
@@ -39,10 +40,10 @@ HasKey course.NoFont = Unit {0}
 HasKey (course.Chosen k) = IsFontKey k
 HasKey (course.Known k d) = IsFontKey k
 
--- in a packet dimensions are fix_words from -16 up to 16
+-- in a packet dimensions are fix_words from -16 to less than 16
 abbrev pub IsDimension : Place → ℤ → Type 0
 IsDimension (OnPage reading) z = Unit {0}
-IsDimension (InPacket k f) z = (negsuc 16777215 ≤ℤ z) × (z <ℤ pos 16777216)
+IsDimension (InPacket k f) z = IsFixWord z
 
 abbrev pub HasDimensions : Place → DviCommand → Type 0
 HasDimensions place (SetRule a b) = IsDimension place a × IsDimension place b
@@ -60,7 +61,7 @@ abbrev pub Meaning : Type 0
 Meaning = course.Current → ℕ → (course.Current → Course) → Course
 
 -- a character, with its glyph in the font that was found
-pub record IsMark (part : Meaning) (current : course.Current) (f : FlatCommand) : Type 0 where
+pub record IsMark (meaning : Meaning) (current : course.Current) (f : FlatCommand) : Type 0 where
   pub key : FontKey
   pub font : Decoded
   pub code : ℕ
@@ -71,11 +72,11 @@ pub record IsMark (part : Meaning) (current : course.Current) (f : FlatCommand) 
   pub char : f ≡ Char key code width put
   pub has : glyph_in (Some font) code ≡ Some glyph
   pub gives : (at : ℕ) (others : course.Current → Course)
-      → part current at others ≡ Gives f (Some glyph) at (others current)
+      → meaning current at others ≡ Gives f (Some glyph) at (others current)
 
 -- the beginning of a packet of the font that was found, where one packet fewer may then stand
 -- inside it
-pub record IsEntry (n : ℕ) (part : Meaning) (current : course.Current) (level : Frame)
+pub record IsEntry (n : ℕ) (meaning : Meaning) (current : course.Current) (level : Frame)
     : Type 0 where
   pub key : FontKey
   pub font : FontSeen
@@ -86,7 +87,7 @@ pub record IsEntry (n : ℕ) (part : Meaning) (current : course.Current) (level 
   pub program : IsProgram level.code text
   pub prefix : level.pos ≡ 0
   pub first : seen_current level.current ≡ first_font font
-  pub gives : (at : ℕ) (others : course.Current → Course) → part current at others
+  pub gives : (at : ℕ) (others : course.Current → Course) → meaning current at others
       ≡ plain flat.Enter at (expand_list (expand_one (deeper (n - 1) at) (InPacket key font) at)
       (first_font font) (commands_of text) (leave level.gap at (others current)))
 
@@ -97,21 +98,21 @@ IsPlain f = (k : FontKey) (c : ℕ) (width : ℤ) (put : Bool) → f ≡ Char k 
 -- an effect is what a command gives, whatever stands after it, where n packets may stand inside one
 -- another
 abbrev pub IsMeaning : ℕ → Meaning → course.Current → Effect → Type 0
-IsMeaning n part current (Flat f) =
-    (at : ℕ) (others : course.Current → Course) → part current at others ≡ plain (seen_flat f) at
+IsMeaning n meaning current (Flat f) =
+    (at : ℕ) (others : course.Current → Course) → meaning current at others ≡ plain (seen_flat f) at
     (others current)
-IsMeaning n part current (Mark f) = IsMark part current (seen_flat f)
-IsMeaning n part current (Change key) =
-    (at : ℕ) (others : course.Current → Course) → part current at others ≡ plain flat.Skip at
+IsMeaning n meaning current (Mark f) = IsMark meaning current (seen_flat f)
+IsMeaning n meaning current (Change key) =
+    (at : ℕ) (others : course.Current → Course) → meaning current at others ≡ plain flat.Skip at
     (others (course.Chosen (arc_value key)))
-IsMeaning n part current (Ask key) = (current ≡ course.Chosen (arc_value key))
+IsMeaning n meaning current (Ask key) = (current ≡ course.Chosen (arc_value key))
     × ((at : ℕ) (others : course.Current → Course)
-    → part current at others ≡ Asks (arc_value key) at (λ d. part (course.Known (arc_value key) d)
-    at others))
-IsMeaning n part current (Enter level) = IsEntry n part current level
-IsMeaning n part current (Stop fault) =
-    (at : ℕ) (others : course.Current → Course) → part current at others ≡ Stops (seen_fault fault)
-    at
+    → meaning current at others ≡ Asks (arc_value key) at
+    (λ d. meaning (course.Known (arc_value key) d) at others))
+IsMeaning n meaning current (Enter level) = IsEntry n meaning current level
+IsMeaning n meaning current (Stop fault) =
+    (at : ℕ) (others : course.Current → Course) → meaning current at others
+    ≡ Stops (seen_fault fault) at
 
 abbrev pub HasEffect : Place → ℕ → course.Current → DviCommand → Effect → Type 0
 HasEffect place n current c effect =

@@ -11,7 +11,7 @@ use crate::character::plain_character;
 use crate::current::Current;
 use crate::effect::{Effect, expanded};
 use crate::faults::PageFault;
-use crate::frames::{Frame, Frames};
+use crate::frames::{Frame, Frames, MOST_DEEP};
 use crate::keys::PageKeys;
 use crate::last_step::LastStep;
 use crate::opened::opened;
@@ -25,9 +25,6 @@ use std::alloc::{AllocError as NoMemory, Global};
 use std::marker::Model;
 use std::mem;
 use std::sync::Arc;
-
-// How many packets may stand inside one another.
-const MOST_DEEP: usize = 10;
 
 /// A page that is being expanded. The level that is read is the page or a packet; a motion is due
 /// after the packet of a character that was set.

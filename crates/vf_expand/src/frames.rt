@@ -7,6 +7,9 @@ use std::alloc::{AllocError as NoMemory, Global};
 use std::marker::Model;
 use std::mem;
 
+/// How many packets may stand inside one another.
+pub const MOST_DEEP: usize = 10;
+
 /// The page, or a packet: the packet's code in the font that is current outside it, the place of
 /// the next command in its bytes, how far its character moves after it where it was set, and the
 /// font that is current in it.

@@ -1,5 +1,6 @@
 //! How far a page was expanded.
 ghost use Rattle.std.specs.Prelude.{◌≡◌, ◌<◌, ◌-◌, true, false};
+ghost use Rattle.vf_expand.specs.Course.{MOST_FLAT as THE_MOST};
 
 // How many flat commands a page may have.
 const MOST_FLAT: u32 = 16777216;
@@ -16,7 +17,7 @@ pub struct LastStep {
 impl LastStep {
     /// At a page's first command.
     pub fn at_first(at: usize) -> LastStep
-        ensures { result ≡ record { at = at; budget = 16777216; marked = false } }
+        ensures { result ≡ record { at = at; budget = THE_MOST; marked = false } }
     {
         LastStep {
             at,

@@ -3,6 +3,7 @@ use Rattle.std.specs.Prelude.{ℕ, ℤ, pos, Bool, true, not, ◌&&◌, ◌==◌
 use Rattle.std.specs.Cmp.Lexicographic.{pointwise}
 use Rattle.big_endian.specs.Numbers.{int_eq}
 use Rattle.dvi_commands.specs.Spelling.{Definition}
+use Rattle.fix_word.specs.FixWords.{FIX_WORDS}
 use Rattle.vf_reader.specs.Items.{definition_of, is_packet}
 use Rattle.vf_reader.specs.declared.locals.LocalDef.{LocalDef}
 use Rattle.vf_reader.specs.declared.faults.VfFault.{VfFault}
@@ -41,7 +42,7 @@ locals_of (item ∷ before) =
 
 -- a factor is more than 0 and less than 16, as a fix_word
 abbrev pub is_factor : ℤ → Bool
-is_factor z = int_lt (pos 0) z && int_lt z (pos 16777216)
+is_factor z = int_lt (pos 0) z && int_lt z (pos FIX_WORDS)
 
 -- two definitions say the same
 abbrev pub is_same_local : LocalDef → LocalDef → Bool

@@ -1,19 +1,20 @@
 -- The commands of a packet: Knuth, VFtoVP, "Virtual fonts". They are judged from the left.
-use Rattle.std.specs.Prelude.{◌≡◌, ◌⊎◌, ℕ, suc, ◌-◌, ◌<◌, ◌==◌, ℤ, pos, negsuc, Bool, true, false, not, ◌&&◌, List, [], ◌∷◌, length, int_le, int_lt, if◌then◌else◌, Option, Some, None}
+use Rattle.std.specs.Prelude.{◌≡◌, ◌⊎◌, ℕ, suc, ◌-◌, ◌<◌, ◌==◌, ℤ, pos, Bool, true, false, not, ◌&&◌, List, [], ◌∷◌, length, int_le, int_lt, if◌then◌else◌, Option, Some, None}
 use Rattle.std.specs.List.{list_all}
 use Rattle.dvi_commands.specs.Spelling.{DviCommand, SetRule, PutRule, Push, Pop, Right, W, X, Down, Y, Z}
 use Rattle.dvi_commands.specs.Refusal.{refusal}
 use Rattle.dvi_commands.specs.Reading.{Begins}
 use Rattle.dvi_commands.specs.declared.command.Context.TheVariants as context
 use Rattle.dvi_commands.specs.declared.command.CommandFault.{CommandFault}
+use Rattle.fix_word.specs.FixWords.{FIX_WORDS, LEAST_FIX_WORD}
 use Rattle.vf_reader.specs.declared.faults.VfFault.{VfFault}
 use Rattle.vf_reader.specs.declared.faults.VfFault.TheVariants.{Packet, Unbalanced, Dimension}
 
 -- ---- one command
 
--- from -2^24 to 2^24 - 1
+-- a fix_word from -16 to less than 16
 abbrev pub is_dimension : ℤ → Bool
-is_dimension z = int_le (negsuc 16777215) z && int_lt z (pos 16777216)
+is_dimension z = int_le LEAST_FIX_WORD z && int_lt z (pos FIX_WORDS)
 
 -- the motions and the sides of rules, as fix_words
 abbrev pub dimensions : DviCommand → List ℤ

@@ -1,17 +1,14 @@
-//! Fonts by their files, and what is wrong with changed ones.
-ghost use Rattle.std.specs.Prelude.{◌<◌, ◌≤◌, ◌^◌};
+//! Fonts by their files: widths and glyphs.
+ghost use Rattle.std.specs.Prelude.{◌<◌, ◌≤◌};
 ghost use Rattle.outside.specs.FontKeys.{IsFontKey};
+ghost use Rattle.outside.specs.Limits.{SIZES};
 
 use super::{UNITS, key};
-use crate::{Decoded, FileKind, Files, Font, FontFault, decode, laws};
+use crate::{Decoded, Files, Font, FontFault, decode, laws};
 use outside::FontKey;
-use pk_packets::PkFault;
 use pk_runs::Glyph;
 use std::alloc::Global;
-use std::process::Abort;
 use std::test::Fail;
-use tfm_reader::TfmFault;
-use vf_reader::VfFault;
 
 // The code 65 alone, 1/16 of the size wide.
 pub const DOT_TFM: [u8; 56] = [
@@ -24,11 +21,6 @@ pub const DOT_PK: [u8; 32] = [
     0xf7, 0x59, 0x00, 0x00, 0xa0, 0x00, 0x00, 0x00, 0x00, 0x00, 0x00, 0x00, 0x04, 0x26, 0xae, 0x00,
     0x04, 0x26, 0xae, 0xe0, 0x09, 0x41, 0x01, 0x00, 0x00, 0x04, 0x02, 0x02, 0x00, 0x01, 0xf0, 0xf5,
 ];
-
-// The most bytes of a file, and one more.
-const LONGEST: usize = 8_388_608;
-
-const TOO_LONG: usize = 8_388_609;
 
 // A file of these bytes, or none where there are none.
 fn file(alloc: Global, bytes: &[u8]) -> Result<Option<Vec<u8>>, Fail> {
@@ -72,35 +64,14 @@ pub fn fault(
     }
 }
 
-// What is wrong with these files first is this.
-fn assert_fault(
-    rt: &impl Abort,
-    alloc: Global,
-    key: &FontKey,
-    files: [&[u8]; 3],
-    expected: Option<FontFault>,
-) -> Result<(), Fail>
-    requires { IsFontKey key.now }
-{
-    let [tfm, vf, pk] = files;
-    let found = fault(alloc, key, tfm, vf, pk)?;
-    assert_eq!(rt; found, expected);
-    Ok(())
-}
-
 // The width of a character by a TFM file, at a size in DVI units.
 fn width(alloc: Global, size: u32, tfm: &[u8], code: i32) -> Result<Option<i64>, Fail>
-    requires { (1 ≤ size) × (size < 2 ^ 27) }
+    requires { (1 ≤ size) × (size < SIZES) }
 {
     match decoded(alloc, &key(alloc, b"dot", size)?, tfm, b"", &DOT_PK)? {
         Decoded::Font(font) => Ok(font.width(code)),
         Decoded::Fault(_) => Err("a fault")?,
     }
-}
-
-// A file of n bytes, each of them 0.
-fn zeros(alloc: Global, length: usize) -> Result<Vec<u8>, Fail> {
-    Ok(vec![in alloc; 0u8; length]?)
 }
 
 // How many pixels of a glyph are black, and its sides.
@@ -166,184 +137,5 @@ fn widths_at_a_size(rt: HostRuntime) -> Result<(), Fail> {
     tfm[41] = 255;
     tfm[42] = 160;
     assert_eq!(rt; width(rt.alloc(), 100, &tfm, 65)?, Some(-3));
-    Ok(())
-}
-
-#[test]
-fn names_and_missing_files(rt: HostRuntime) -> Result<(), Fail> {
-    let dot = key(rt.alloc(), b"dot", 128)?;
-    assert_fault(&rt, rt.alloc(), &dot, [&DOT_TFM, b"", &DOT_PK], None)?;
-    assert_fault(
-        &rt,
-        rt.alloc(),
-        &key(rt.alloc(), b"d/t", 128)?,
-        [&DOT_TFM, b"", &DOT_PK],
-        Some(FontFault::Name),
-    )?;
-    assert_fault(
-        &rt,
-        rt.alloc(),
-        &dot,
-        [b"", b"", &DOT_PK],
-        Some(FontFault::Missing(FileKind::Tfm)),
-    )?;
-    assert_fault(
-        &rt,
-        rt.alloc(),
-        &dot,
-        [&DOT_TFM, b"", b""],
-        Some(FontFault::Missing(FileKind::Pk)),
-    )?;
-    assert_fault(
-        &rt,
-        rt.alloc(),
-        &dot,
-        [&DOT_TFM, b"?", b""],
-        Some(FontFault::Vf(VfFault::Preamble)),
-    )?;
-    Ok(())
-}
-
-#[test]
-fn faults_of_a_tfm_file(rt: HostRuntime) -> Result<(), Fail> {
-    let dot = key(rt.alloc(), b"dot", 128)?;
-    assert_fault(
-        &rt,
-        rt.alloc(),
-        &dot,
-        [&DOT_TFM[..55], b"", &DOT_PK],
-        Some(FontFault::Tfm(TfmFault::Short)),
-    )?;
-    let mut tfm = DOT_TFM;
-    tfm[32] = 2;
-    assert_fault(
-        &rt,
-        rt.alloc(),
-        &dot,
-        [&tfm, b"", &DOT_PK],
-        Some(FontFault::Tfm(TfmFault::WidthIndex(65))),
-    )?;
-    Ok(())
-}
-
-#[test]
-fn faults_of_a_pk_file(rt: HostRuntime) -> Result<(), Fail> {
-    let dot = key(rt.alloc(), b"dot", 128)?;
-    assert_fault(
-        &rt,
-        rt.alloc(),
-        &dot,
-        [&DOT_TFM, b"", &DOT_PK[..31]],
-        Some(FontFault::Pk(PkFault::Short)),
-    )?;
-    let mut pk = DOT_PK;
-    pk[31] = 0xf7;
-    assert_fault(
-        &rt,
-        rt.alloc(),
-        &dot,
-        [&DOT_TFM, b"", &pk],
-        Some(FontFault::Pk(PkFault::Undefined(0xf7))),
-    )?;
-    Ok(())
-}
-
-// 1,171,875 dots to the inch, less than a half, and a half.
-#[test]
-fn sizes_without_a_resolution(rt: HostRuntime) -> Result<(), Fail> {
-    let huge = key(rt.alloc(), b"dot", 500_000)?;
-    assert_fault(
-        &rt,
-        rt.alloc(),
-        &huge,
-        [&DOT_TFM, b"", &DOT_PK],
-        Some(FontFault::Size),
-    )?;
-    let mut small = key(rt.alloc(), b"dot", 1)?;
-    small.design = 601;
-    assert_fault(
-        &rt,
-        rt.alloc(),
-        &small,
-        [&DOT_TFM, b"", &DOT_PK],
-        Some(FontFault::Size),
-    )?;
-    small.design = 600;
-    assert_fault(&rt, rt.alloc(), &small, [&DOT_TFM, b"", &DOT_PK], None)?;
-    Ok(())
-}
-
-// A file as long as may be is refused for what it holds.
-#[test]
-fn files_as_long_as_may_be(rt: HostRuntime) -> Result<(), Fail> {
-    let dot = key(rt.alloc(), b"dot", 128)?;
-    let longest = zeros(rt.alloc(), LONGEST)?;
-    let found = fault(rt.alloc(), &dot, &longest, b"", &DOT_PK)?;
-    assert_eq!(rt; found, Some(FontFault::Tfm(TfmFault::Counts)));
-    let found = fault(rt.alloc(), &dot, &DOT_TFM, b"", &longest)?;
-    assert_eq!(rt; found, Some(FontFault::Pk(PkFault::Preamble)));
-    let found = fault(rt.alloc(), &dot, &DOT_TFM, &longest, b"")?;
-    assert_eq!(rt; found, Some(FontFault::Vf(VfFault::Preamble)));
-    Ok(())
-}
-
-#[test]
-fn files_that_are_too_long(rt: HostRuntime) -> Result<(), Fail> {
-    let dot = key(rt.alloc(), b"dot", 128)?;
-    let too_long = zeros(rt.alloc(), TOO_LONG)?;
-    let found = fault(rt.alloc(), &dot, &too_long, b"", &DOT_PK)?;
-    assert_eq!(rt; found, Some(FontFault::TooLong(FileKind::Tfm)));
-    let found = fault(rt.alloc(), &dot, &DOT_TFM, &too_long, b"")?;
-    assert_eq!(rt; found, Some(FontFault::TooLong(FileKind::Vf)));
-    let found = fault(rt.alloc(), &dot, &DOT_TFM, b"", &too_long)?;
-    assert_eq!(rt; found, Some(FontFault::TooLong(FileKind::Pk)));
-    Ok(())
-}
-
-#[test]
-fn the_first_of_several_faults(rt: HostRuntime) -> Result<(), Fail> {
-    assert_fault(
-        &rt,
-        rt.alloc(),
-        &key(rt.alloc(), b".dot", 128)?,
-        [b"", b"?", b"?"],
-        Some(FontFault::Name),
-    )?;
-    let huge = key(rt.alloc(), b"dot", 500_000)?;
-    assert_fault(
-        &rt,
-        rt.alloc(),
-        &huge,
-        [b"", b"?", b"?"],
-        Some(FontFault::Missing(FileKind::Tfm)),
-    )?;
-    assert_fault(
-        &rt,
-        rt.alloc(),
-        &huge,
-        [b"?", b"?", b"?"],
-        Some(FontFault::Tfm(TfmFault::Short)),
-    )?;
-    assert_fault(
-        &rt,
-        rt.alloc(),
-        &huge,
-        [&DOT_TFM, b"?", b"?"],
-        Some(FontFault::Vf(VfFault::Preamble)),
-    )?;
-    assert_fault(
-        &rt,
-        rt.alloc(),
-        &huge,
-        [&DOT_TFM, b"", b""],
-        Some(FontFault::Size),
-    )?;
-    assert_fault(
-        &rt,
-        rt.alloc(),
-        &huge,
-        [&DOT_TFM, b"", b"?"],
-        Some(FontFault::Size),
-    )?;
     Ok(())
 }

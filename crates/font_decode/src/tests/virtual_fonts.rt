@@ -1,6 +1,7 @@
 //! Virtual fonts by their files, and what is wrong with changed ones.
 ghost use Rattle.std.specs.Prelude.{◌<◌, ◌≤◌, ◌^◌};
 ghost use Rattle.outside.specs.FontKeys.{IsFontKey};
+ghost use Rattle.outside.specs.Limits.{SIZES};
 
 use super::decodings::{DOT_PK, DOT_TFM, fault, font};
 use super::key;
@@ -28,7 +29,7 @@ const BOX_VF: [u8; 32] = [
 
 // The font `duo` at a size in DVI units.
 fn duo(alloc: Global, size: u32) -> Result<Font, Fail>
-    requires { (1 ≤ size) × (size < 2 ^ 27) }
+    requires { (1 ≤ size) × (size < SIZES) }
 {
     font(alloc, &key(alloc, b"duo", size)?, &DUO_VF, &DOT_PK)
 }
@@ -47,7 +48,7 @@ fn fields(key: Option<&Arc<FontKey>>) -> Option<(&[u8], u8, u32, u32)> {
 // What is wrong with `duo` at a size where `dot` has this factor and this design size in points,
 // both fix_words.
 fn resized(alloc: Global, size: u32, factor: u32, points: u32) -> Result<Option<FontFault>, Fail>
-    requires { (1 ≤ size) × (size < 2 ^ 27) }
+    requires { (1 ≤ size) × (size < SIZES) }
 {
     let mut vf = DUO_VF;
     vf[17..21].copy_from_slice(&factor.to_be_bytes());

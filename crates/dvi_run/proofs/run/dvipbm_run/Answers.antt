@@ -1,7 +1,7 @@
 use Rattle.std.proofs.Common.{None, Err, inl, inr, ◌≡◌, [], refl, sym, ap, rules, ◌≤◌, ◌∙◌, length, arith}
 use Rattle.cache_core.specs.Views.{calls_of}
 use Rattle.dvi_run.specs.Endings.{Memory, Usage}
-use Rattle.dvi_run.specs.Sampled.{document_to, given_to}
+use Rattle.dvi_run.specs.Sampled.{document_to, setup_to}
 use Rattle.dvi_run.proofs.Promised.{idle_caused, idle_cut_short, idle_wrote, not_usage}
 use Rattle.dvi_run.proofs.Together.{idle_done, idle_drew}
 use Rattle.dvi_run.proofs.Spelled.{not_both, same_settings}
@@ -121,7 +121,7 @@ returns-in-Err-NoMemory-clause-ended g c =
         noted = record { placed = tt; told = c.tell-in-Err-NoMemory.ensures.told.tells };
         counted = tt;
         failed = λ page is. absurd cc;
-        drew = idle_drew (given_to g.told s) s.summary (g.O.Output.written c.args.out.now) (g.O.Output.written c.args.out.now) s.cache s.workers _ Memory (calls_of c.args.history.now.items) c.args.workers.now (document_to s (g.I.Input.left c.args.input.now)) tt none;
+        drew = idle_drew (setup_to g.told s) s.summary (g.O.Output.written c.args.out.now) (g.O.Output.written c.args.out.now) s.cache s.workers _ Memory (calls_of c.args.history.now.items) c.args.workers.now (document_to s (g.I.Input.left c.args.input.now)) tt none;
       }),
     )
 

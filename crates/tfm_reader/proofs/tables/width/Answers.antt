@@ -1,5 +1,5 @@
 use Rattle.std.proofs.Common.{◌≡◌, ◌≤◌, ◌<◌, ◌+◌, ◌*◌, ◌-◌, ℕ, arith, sym, subst, to_z-of_z, w32, rules}
-use Rattle.tfm_reader.specs.Fits.{IsFixWord}
+use Rattle.fix_word.specs.FixWords.{IsFixWord}
 use Rattle.tfm_reader.specs.Tfm.{codes_of, lh, nw, width_at}
 use Rattle.tfm_reader.proofs.Rows.{byte_right, index_right}
 use Rattle.tfm_reader.proofs.Words.{right_word}

@@ -1,6 +1,6 @@
 use Rattle.std.proofs.Common.{◌≡◌, ◌∙◌, ◌+◌, ◌≤◌, None, [], ◌∷◌, pos, length-append, ap, arith, subst}
 use Rattle.std.specs.Prelude.{IfSome}
-use Rattle.tfm_reader.specs.Fits.{IsFixWord}
+use Rattle.fix_word.specs.FixWords.{IsFixWord}
 use Rattle.tfm_reader.specs.Tfm.{bc, codes_of, tfm_width}
 use Rattle.tfm_reader.proofs.Table.{pushed, pushed_all, whole_table}
 use Rattle.tfm_reader.proofs.tfm.table.Goals as goal
