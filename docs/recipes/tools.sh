@@ -14,7 +14,7 @@ need() {
   }
 }
 
-# usage TEXT: ends the recipe where it was given other words.
+# usage TEXT: ends the recipe where it was given other arguments.
 usage() {
   echo "usage: docs/recipes/$(basename "$0") $1" >&2
   exit 64

@@ -20,7 +20,7 @@ def page(body, back=-1):
 
 
 def document(body=b'', fonts=b'', num=25400000, den=473628672, mag=1000, pages=None, filler=None):
-    """A document of the given pages' bodies; fonts are defined in front of them and behind the postamble."""
+    """A document of the given pages' bodies; fonts are defined before them and after the postamble."""
     units = number(num, 4) + number(den, 4) + number(mag, 4)
     text, last = bytes([247, 2]) + units + bytes([0]) + fonts, -1
     bodies = [body] if isinstance(body, bytes) else body
