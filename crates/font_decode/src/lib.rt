@@ -27,6 +27,3 @@ pub use files::Files;
 pub use fonts::Font;
 pub use loading::fetch;
 pub use names::{dpi, file_name, is_valid_name};
-
-#[cfg(test)]
-mod tests;

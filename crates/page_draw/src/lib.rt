@@ -12,8 +12,6 @@ mod plain_desk;
 mod sheet;
 mod solo_desk;
 mod stop;
-#[cfg(test)]
-mod tests;
 
 pub use drawing::{draw, draw_on};
 pub use plain_desk::PlainDesk;

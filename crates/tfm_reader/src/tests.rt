@@ -1,5 +1,6 @@
-//! A small file, read, and what is wrong with changed ones.
+//! Small files, read, and what is wrong with changed ones.
 use crate::{Tfm, TfmFault, TfmStop};
+use std::alloc::{AllocError as NoMemory, Global};
 use std::test::Fail;
 
 // The code 65 alone, 1/16 of the size wide.
@@ -7,53 +8,6 @@ const DOT: [u8; 56] = [
     0, 14, 0, 2, 0, 65, 0, 65, 0, 2, 0, 1, 0, 1, 0, 1, 0, 0, 0, 0, 0, 0, 0, 0, 0, 0, 0, 0, 0, 160,
     0, 0, 1, 0, 0, 0, 0, 0, 0, 0, 0, 1, 0, 0, 0, 0, 0, 0, 0, 0, 0, 0, 0, 0, 0, 0,
 ];
-
-#[test]
-fn widths_of_a_small_file(rt: HostRuntime) -> Result<(), Fail> {
-    let tfm = Tfm::read(rt.alloc(), &DOT)?;
-    assert_eq!(rt; tfm.width(65), Some(65536));
-    assert_eq!(rt; tfm.width(66), None);
-    assert_eq!(rt; tfm.width(-1), None);
-    assert_eq!(rt; tfm.width(70000), None);
-    Ok(())
-}
-
-#[test]
-fn faults_of_changed_files(rt: HostRuntime) {
-    for (at, byte, fault) in [
-        (32, 2, TfmFault::WidthIndex(65)),
-        (39, 1, TfmFault::WidthZero),
-        (40, 1, TfmFault::WidthByte(1)),
-        (1, 15, TfmFault::Counts),
-    ] {
-        let mut bytes = DOT;
-        bytes[at] = byte;
-        assert!(rt; is_fault(Tfm::read(rt.alloc(), &bytes), fault), "at {at}");
-    }
-    assert!(rt; is_fault(Tfm::read(rt.alloc(), &DOT[..55]), TfmFault::Short));
-}
-
-// Two faults at once, next to each other in their order: the first one is told.
-#[test]
-fn first_faults_of_files_with_two(rt: HostRuntime) {
-    for (len, changes, fault) in [
-        (23, [(1, 15), (1, 15)], TfmFault::Short),
-        (55, [(1, 15), (1, 15)], TfmFault::Counts),
-        (55, [(32, 2), (32, 2)], TfmFault::Short),
-        (56, [(32, 2), (36, 1)], TfmFault::WidthIndex(65)),
-        (56, [(36, 1), (39, 1)], TfmFault::WidthByte(0)),
-        (56, [(39, 1), (40, 1)], TfmFault::WidthZero),
-    ] {
-        let mut bytes = DOT;
-        for (at, byte) in changes {
-            bytes[at] = byte;
-        }
-        assert!(rt;
-            is_fault(Tfm::read(rt.alloc(), &bytes[..len]), fault),
-            "{fault}"
-        );
-    }
-}
 
 // Codes 3 to 6, of which 4 has no character, with widths of a half and -1/16, and what no reader
 // looks at after them.
@@ -66,28 +20,81 @@ const GAPS: [u8; 79] = [
     170, 170, 170, 170, 170, 170, 170,
 ];
 
-#[test]
-fn widths_with_gaps(rt: HostRuntime) -> Result<(), Fail> {
-    let tfm = Tfm::read(rt.alloc(), &GAPS)?;
-    for (code, width) in [
-        (2, None),
-        (3, Some(524288)),
-        (4, None),
-        (5, Some(-65536)),
-        (6, Some(524288)),
-        (7, None),
-    ] {
-        assert_eq!(rt; tfm.width(code), width, "of {code}");
+// The width of a code in the first `len` bytes of a file of which two are changed, or their fault.
+fn width_in(
+    alloc: Global,
+    file: &[u8],
+    len: usize,
+    changes: &[(usize, u8); 2],
+    code: i32,
+) -> Result<Result<Option<i32>, TfmFault>, NoMemory> {
+    let mut bytes = Vec::from_slice(alloc, file)?;
+    for (at, byte) in changes {
+        if *at < bytes.len() {
+            bytes[*at] = *byte;
+        }
     }
-    let mut bytes = GAPS;
-    bytes[48] = 1;
-    assert!(rt; is_fault(Tfm::read(rt.alloc(), &bytes), TfmFault::WidthByte(0)));
-    Ok(())
+    bytes.truncate(len);
+    match Tfm::read(alloc, &bytes) {
+        Ok(tfm) => Ok(Ok(tfm.width(code))),
+        Err(TfmStop::Fault(fault)) => Ok(Err(fault)),
+        Err(TfmStop::NoMemory) => Err(NoMemory),
+    }
 }
 
-fn is_fault(read: Result<Tfm, TfmStop>, fault: TfmFault) -> bool {
-    match read {
-        Ok(_) => false,
-        Err(stop) => stop == TfmStop::Fault(fault),
+// The first byte of both files is 0, so that `SAME` changes nothing.
+const SAME: (usize, u8) = (0, 0);
+
+static ROWS: [(
+    &'static [u8],
+    usize,
+    [(usize, u8); 2],
+    i32,
+    Result<Option<i32>, TfmFault>,
+); 22] = [
+    (&DOT, 56, [SAME, SAME], 65, Ok(Some(65536))),
+    (&DOT, 56, [SAME, SAME], 66, Ok(None)),
+    (&DOT, 56, [SAME, SAME], -1, Ok(None)),
+    (&DOT, 56, [SAME, SAME], 70000, Ok(None)),
+    (&GAPS, 79, [SAME, SAME], 2, Ok(None)),
+    (&GAPS, 79, [SAME, SAME], 3, Ok(Some(524288))),
+    (&GAPS, 79, [SAME, SAME], 4, Ok(None)),
+    (&GAPS, 79, [SAME, SAME], 5, Ok(Some(-65536))),
+    (&GAPS, 79, [SAME, SAME], 6, Ok(Some(524288))),
+    (&GAPS, 79, [SAME, SAME], 7, Ok(None)),
+    // One fault.
+    (&DOT, 56, [(32, 2), SAME], 65, Err(TfmFault::WidthIndex(65))),
+    (&DOT, 56, [(39, 1), SAME], 65, Err(TfmFault::WidthZero)),
+    (&DOT, 56, [(40, 1), SAME], 65, Err(TfmFault::WidthByte(1))),
+    (&DOT, 56, [(1, 15), SAME], 65, Err(TfmFault::Counts)),
+    (&DOT, 55, [SAME, SAME], 65, Err(TfmFault::Short)),
+    (&GAPS, 79, [(48, 1), SAME], 3, Err(TfmFault::WidthByte(0))),
+    // Two at once, next to each other in their order: the first one is told.
+    (&DOT, 23, [(1, 15), SAME], 65, Err(TfmFault::Short)),
+    (&DOT, 55, [(1, 15), SAME], 65, Err(TfmFault::Counts)),
+    (&DOT, 55, [(32, 2), SAME], 65, Err(TfmFault::Short)),
+    (
+        &DOT,
+        56,
+        [(32, 2), (36, 1)],
+        65,
+        Err(TfmFault::WidthIndex(65)),
+    ),
+    (
+        &DOT,
+        56,
+        [(36, 1), (39, 1)],
+        65,
+        Err(TfmFault::WidthByte(0)),
+    ),
+    (&DOT, 56, [(39, 1), (40, 1)], 65, Err(TfmFault::WidthZero)),
+];
+
+#[test]
+fn widths_and_first_faults(rt: HostRuntime) -> Result<(), Fail> {
+    for (row, (file, len, changes, code, told)) in ROWS.iter().enumerate() {
+        let found = width_in(rt.alloc(), file, *len, changes, *code)?;
+        assert!(rt; found == *told, "row {row}");
     }
+    Ok(())
 }

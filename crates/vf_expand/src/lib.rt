@@ -20,6 +20,3 @@ mod step;
 pub use expander::Expander;
 pub use faults::PageFault;
 pub use step::{PlainStep, Step};
-
-#[cfg(test)]
-mod tests;

@@ -1,5 +1,0 @@
-use Rattle.std.proofs.Common.{None}
-use Rattle.page_workers.proofs.tests.one_round.Given as goal
-
-abbrev pub ghost-open_cache : goal.ghost-open_cache
-ghost-open_cache g a = record { capacity = a.capacity; units = a._units.now; library = None }

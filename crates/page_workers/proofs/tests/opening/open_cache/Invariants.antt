@@ -1,4 +1,0 @@
-use Rattle.page_workers.proofs.tests.opening.open_cache.Given as goal
-
-abbrev pub ghost-make : goal.ghost-make
-ghost-make g a = g.part

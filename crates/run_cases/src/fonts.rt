@@ -1,0 +1,50 @@
+//! The font files of a case.
+ghost use Rattle.std.specs.Prelude.{◌<◌, ◌^◌};
+
+use outside::{FileName, FontSource, Library, LoadStop};
+
+/// A library of which the numbered loads fail, and those of files whose names begin so.
+#[derive(Drop)]
+pub struct Fonts<'a> {
+    pub library: &'a Library,
+    pub fails: &'a [u64],
+    pub front: &'a [u8],
+    pub loads: u64,
+    pub faults: u64,
+    ghost loads_fit: { loads < 2 ^ 64 },
+}
+
+impl<'a> Fonts<'a> {
+    /// No load yet.
+    pub fn new(library: &'a Library, fails: &'a [u64], front: &'a [u8]) -> Fonts<'a> {
+        Fonts {
+            library,
+            fails,
+            front,
+            loads: 0,
+            faults: 0,
+        }
+    }
+
+    // Whether the next load fails.
+    fn is_failing(&self, name: &[u8]) -> bool {
+        self.fails.contains(&self.loads) || (!self.front.is_empty() && name.starts_with(self.front))
+    }
+}
+
+impl<'a> FontSource for Fonts<'a> {
+    ghost faults = { λ s. s.faults };
+
+    ghost loads = { λ s. s.loads };
+
+    ghost loads_fit = { λ s. s.loads_fit };
+
+    fn load(&mut self, name: &FileName) -> Result<Option<Vec<u8>>, LoadStop> {
+        self.loads = self.loads.saturating_add(1);
+        if self.is_failing(name.bytes()) {
+            self.faults = self.faults.saturating_add(1);
+            return Err(LoadStop::Failed);
+        }
+        Ok(self.library.copy_of(name)?)
+    }
+}
