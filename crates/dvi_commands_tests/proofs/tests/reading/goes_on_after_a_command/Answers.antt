@@ -1,7 +1,7 @@
 -- Two commands: a motion by -1, and a motion by w.
 use Rattle.std.proofs.Common.{◌*◌, ◌^◌, ◌<◌, negsuc, [], ◌∷◌, refl, arith}
 use Rattle.dvi_commands.specs.Spelling.{Right, W0}
-use Rattle.dvi_commands.proofs.reader.tests.goes_on_after_a_command.Goals as goal
+use Rattle.dvi_commands_tests.proofs.tests.reading.goes_on_after_a_command.Goals as goal
 
 pub command_at-place-requires-clause-readable : goal.command_at-place-requires-clause-readable
 command_at-place-requires-clause-readable g c =
