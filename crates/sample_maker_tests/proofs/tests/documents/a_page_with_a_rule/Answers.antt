@@ -2,7 +2,7 @@ use Rattle.std.proofs.Common.{ℕ, List, pos, [], ◌∷◌, length, ap, refl, s
 use Rattle.dvi_commands.specs.Spelling.{PutRule}
 use Rattle.sample_maker.specs.DviFile.{IsPageText}
 use Rattle.sample_maker.proofs.DviSize.{document_size}
-use Rattle.sample_maker.proofs.tests.documents.a_page_with_a_rule.Goals as goal
+use Rattle.sample_maker_tests.proofs.tests.documents.a_page_with_a_rule.Goals as goal
 
 abbrev rule : List ℕ
 rule = 0x89 ∷ 0 ∷ 0 ∷ 0 ∷ 4 ∷ 0 ∷ 0 ∷ 0 ∷ 6 ∷ []

@@ -1,8 +1,16 @@
 //! Virtual fonts.
-use crate::vf_bytes;
 use outside::FontName;
+use sample_maker::vf_bytes;
 use std::test::Fail;
 use vf_reader::{LocalDef, VfFont};
+
+static TWO_FONTS: [u8; 60] = [
+    0xf7, 0xca, 0, 0, 0, 0, 0, 0, 0xa0, 0, 0, // the preamble
+    0xf3, 0, 0, 0, 0, 0, 0, 0x10, 0, 0, 0, 0xf6, 0xae, 0x7d, 0, 3, 0x64, 0x6f, 0x74, // dot
+    0xf3, 1, 0, 0, 0, 0, 0, 0x10, 0, 0, 0, 0xf6, 0xae, 0x7d, 0, 3, 0x62, 0x61, 0x72, // bar
+    3, 0x41, 2, 0x80, 0, 0x41, 0xac, 0x41, // the packet
+    0xf8, 0xf8, 0xf8,
+];
 
 // Two local fonts at their own size, and a character that sets one of each.
 #[test]
@@ -24,16 +32,20 @@ fn a_character_of_two_fonts(rt: HostRuntime) -> Result<(), Fail> {
     };
     let commands = Vec::from_slice(alloc, &[0x41, 0xac, 0x41])?;
     let bytes = vf_bytes(alloc, &[dot, bar], &[(65, 0x2_8000, commands)])?;
-    assert_eq!(rt; bytes.as_slice(), [
-        0xf7, 0xca, 0, 0, 0, 0, 0, 0, 0xa0, 0, 0, // the preamble
-        0xf3, 0, 0, 0, 0, 0, 0, 0x10, 0, 0, 0, 0xf6, 0xae, 0x7d, 0, 3, 0x64, 0x6f, 0x74, // dot
-        0xf3, 1, 0, 0, 0, 0, 0, 0x10, 0, 0, 0, 0xf6, 0xae, 0x7d, 0, 3, 0x62, 0x61, 0x72, // bar
-        3, 0x41, 2, 0x80, 0, 0x41, 0xac, 0x41, // the packet
-        0xf8, 0xf8, 0xf8,
-    ].as_slice());
     let font = VfFont::read(alloc, &bytes)?;
-    assert_eq!(rt; font.first_local(), Some(0));
-    assert_eq!(rt; font.packet(65), Some([0x41, 0xac, 0x41].as_slice()));
-    assert_eq!(rt; font.packet(66), None);
+    assert_eq!(rt;
+        (
+            bytes.as_slice(),
+            font.first_local(),
+            font.packet(65),
+            font.packet(66),
+        ),
+        (
+            TWO_FONTS.as_slice(),
+            Some(0),
+            Some([0x41, 0xac, 0x41].as_slice()),
+            None,
+        )
+    );
     Ok(())
 }
