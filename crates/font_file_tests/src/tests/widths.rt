@@ -1,7 +1,7 @@
-//! Small files, read, and what is wrong with changed ones.
-use crate::{Tfm, TfmFault, TfmStop};
+//! TFM files, read, and what is wrong with changed ones.
 use std::alloc::{AllocError as NoMemory, Global};
 use std::test::Fail;
+use tfm_reader::{Tfm, TfmFault, TfmStop};
 
 // The code 65 alone, 1/16 of the size wide.
 const DOT: [u8; 56] = [
@@ -94,7 +94,7 @@ static ROWS: [(
 fn widths_and_first_faults(rt: HostRuntime) -> Result<(), Fail> {
     for (row, (file, len, changes, code, told)) in ROWS.iter().enumerate() {
         let found = width_in(rt.alloc(), file, *len, changes, *code)?;
-        assert!(rt; found == *told, "row {row}");
+        assert_eq!(rt; found, *told, "row {row}");
     }
     Ok(())
 }
