@@ -1,4 +1,5 @@
 use Rattle.std.proofs.Common.{refl}
+use Rattle.std.specs.Fmt.{digits}
 use Rattle.dvi_run.proofs.laws.worked_lines.Goals as goal
 
 pub returns-clause-none : goal.returns-clause-none
@@ -8,7 +9,9 @@ pub returns-clause-short : goal.returns-clause-short
 returns-clause-short c = (refl, refl, refl)
 
 pub returns-clause-pages : goal.returns-clause-pages
+unfolding digits
 returns-clause-pages c = (refl, refl, refl, refl)
 
 pub returns-clause-documents : goal.returns-clause-documents
+unfolding digits
 returns-clause-documents c = (refl, refl, refl, refl, refl)
