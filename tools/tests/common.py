@@ -1,9 +1,10 @@
 """What the tests of scripts and of the program share: where things are, and small documents."""
-import os, subprocess, unittest
+import os, shutil, subprocess, unittest
 
 TOP = os.path.dirname(os.path.dirname(os.path.dirname(os.path.abspath(__file__))))
 PROGRAM = os.environ.get('DVIPBM', f'{TOP}/crates/dvipbm/out/dvipbm')
 SAMPLE = f'{TOP}/docs/sample'
+RECIPES = f'{TOP}/docs/recipes'
 needs_program = unittest.skipUnless(os.path.exists(PROGRAM), f'there is no {PROGRAM}: run make first')
 
 
@@ -33,8 +34,21 @@ def document(body=b'', fonts=b'', num=25400000, den=473628672, mag=1000, pages=N
     return text + (b'\xdf' * (4 + -len(text) % 4) if filler is None else filler)
 
 
-def run(data, fonts=SAMPLE, **how):
+def needs(*tools):
+    lacking = [tool for tool in tools if not shutil.which(tool)]
+    return unittest.skipIf(lacking, f'not installed: {", ".join(lacking)}')
+
+
+def environment_of(room, **more):
+    """An environment in which nothing that was made or set before counts: TeX's folders and the cache of fonts lie in the room."""
+    own = {'XDG_CACHE_HOME': 'cache', 'TEXMFVAR': 'texmf-var', 'TEXMFCONFIG': 'texmf-config', 'TEXMFHOME': 'texmf', 'VARTEXFONTS': 'texfonts',
+           'HOME': 'home'}
+    kept = {name: value for name, value in os.environ.items() if name not in ('DVIPBM_FONTS', 'MFMODE', 'PARALLEL', 'PARALLEL_SSH', 'TEXINPUTS')}
+    return {**kept, **{name: os.path.join(room, folder) for name, folder in own.items()}, **more}
+
+
+def run(data, fonts=SAMPLE, options=(), **how):
     """Runs the program on a document, and gives its status, output and notes."""
     environment = {**os.environ, 'DVIPBM_FONTS': fonts}
-    ran = subprocess.run([PROGRAM], input=data, capture_output=True, env=environment, timeout=60, **how)
+    ran = subprocess.run([PROGRAM, *options], input=data, capture_output=True, env=environment, timeout=60, **how)
     return ran.returncode, ran.stdout, ran.stderr.decode('ascii', 'replace')

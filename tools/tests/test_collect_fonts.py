@@ -1,7 +1,7 @@
 """The reading of documents and virtual fonts by tools/collect-fonts, and what it puts into a folder."""
-import importlib.machinery, importlib.util, os, shutil, stat, subprocess, tempfile, unittest
+import importlib.machinery, importlib.util, os, re, resource, shutil, stat, subprocess, sys, tempfile, unittest
 
-from common import PROGRAM, SAMPLE, TOP, definition, document, needs_program, number, run
+from common import SAMPLE, TOP, definition, document, environment_of, needs, needs_program, number, run
 
 SCRIPT = f'{TOP}/tools/collect-fonts'
 
@@ -14,6 +14,7 @@ def loaded():
 
 
 collect = loaded()
+collect_pk = sys.modules['pk_files']
 UNITS = number(25400000, 4) + number(473628672, 4) + number(1000, 4)
 
 
@@ -185,11 +186,23 @@ class Folders(unittest.TestCase):
             return file.read()
 
     def collect(self, path=None):
-        environment = dict(os.environ, TREE=self.tree, PATH=path or f'{self.tools}:{os.environ["PATH"]}')
-        environment.pop('MFMODE', None)
-        python = shutil.which('python3')
-        ran = subprocess.run([python, SCRIPT, self.document, '300', self.folder], capture_output=True, text=True, env=environment)
-        return ran.returncode, ran.stdout
+        return self.call(self.document, '300', self.folder, PATH=path or f'{self.tools}:{os.environ["PATH"]}')[:2]
+
+    def call(self, *words, limit=None, **more):
+        """The script's status and what it says on both streams; limit is the size in bytes that its files may have."""
+        environment = environment_of(self.room, **{'TREE': self.tree, 'PATH': f'{self.tools}:{os.environ["PATH"]}', **more})
+        environment = {name: value for name, value in environment.items() if value is not None}
+        bound = limit and (lambda: resource.setrlimit(resource.RLIMIT_FSIZE, (limit, limit)))
+        ran = subprocess.run([sys.executable, SCRIPT, *words], capture_output=True, text=True, stdin=subprocess.DEVNULL, cwd=self.room,
+                             env=environment, timeout=600, preexec_fn=bound)
+        return ran.returncode, ran.stdout, ran.stderr
+
+    def asked(self):
+        """The calls of mktexpk, without the folders."""
+        if not os.path.exists(f'{self.tree}/asked'):
+            return []
+        with open(f'{self.tree}/asked') as file:
+            return [re.sub(r' --destdir \S+', '', line) for line in file.read().splitlines()]
 
     def supply(self):
         shutil.copy(f'{SAMPLE}/drawn12.tfm', self.tree)
@@ -263,15 +276,186 @@ class Folders(unittest.TestCase):
     def pk_of_my_own(self):
         return bytes([247, 89, 0]) + bytes(16) + b'\xf6\xf5'
 
+    def test_modes_for_every_resolution(self):
+        """By a mode of that very resolution where METAFONT has one, else by one that is scaled, which is said."""
+        self.supply()
+        self.write(self.document, document(b'', definition(0, size=943718)))
+        cases = {96: '--mfmode atarins --bdpi 96 --mag 1+19/96 --dpi 115', 1000: '--mfmode lmaster --bdpi 1000 --mag 1+200/1000 --dpi 1200',
+                 600: '--bdpi 600 --mag 1+120/600 --dpi 720', 203: '--mfmode ljfour --bdpi 600 --mag 0+244/600 --dpi 244',
+                 317: '--mfmode ljfour --bdpi 600 --mag 0+380/600 --dpi 380', 4800: '--mfmode ljfour --bdpi 600 --mag 9+360/600 --dpi 5760'}
+        for resolution, wanted in cases.items():
+            status, out, said = self.call(self.document, str(resolution), f'{self.folder}{resolution}')
+            scaled = f'METAFONT has no mode for {resolution} dots to the inch: fonts are made by ljfour, scaled from 600\n'
+            self.assertEqual((status, self.asked()[-1:], scaled in said), (0, [f'{wanted} drawn12'], 'ljfour' in wanted), resolution)
+        status, out, said = self.call(self.document, '203', f'{self.folder}mine', MFMODE='mine')
+        self.assertEqual((status, self.asked()[-1]), (0, '--mfmode mine --bdpi 203 --mag 1+41/203 --dpi 244 drawn12'))
+
+    @needs('kpsewhich')
+    def test_modes_are_those_of_modes_mf(self):
+        path = subprocess.run(['kpsewhich', 'modes.mf'], capture_output=True, text=True, stdin=subprocess.DEVNULL).stdout.strip()
+        if not path:
+            self.skipTest('not installed: modes.mf')
+        with open(path, encoding='latin-1') as file:
+            text = re.sub('%.*', '', file.read())
+        modes = {name: body for name, body in re.findall(r'mode_def\s+(\w+)\s*=(.*?)enddef', text, re.S)}
+        square = {name: found[1] for name, body in modes.items() if 'aspect_ratio' not in body
+                  and (found := re.search(r'pixels_per_inch\s*,\s*([^)]+?)\s*\)', body))}
+        known = sys.modules['font_files']
+        named = {**known.GUESSED, **known.MODES, known.BASE: known.SCALED}
+        self.assertEqual({name: square[name] for name in named.values()}, {name: str(resolution) for resolution, name in named.items()})
+        lacking = {int(dots) for dots in square.values() if dots.isdigit() and int(dots) <= 4800} - set(named)
+        self.assertEqual(lacking, {101}, 'resolutions that have a mode, other than that of no device')
+
+    def test_few_dots_to_the_inch(self):
+        """Fonts that METAFONT can't draw so coarsely are made of ones in more dots, by a whole factor."""
+        self.supply()
+        os.remove(f'{self.tree}/drawn12.300pk')
+        self.write(self.document, document(b'', definition(0)))
+        for resolution, wanted in ((7, '--mag 0+203/600 --dpi 203'), (1, '--mag 0+200/600 --dpi 200')):
+            self.assertEqual(self.call(self.document, str(resolution), self.folder)[0], 0)
+            self.assertEqual(self.asked()[-1], f'--mfmode ljfour --bdpi 600 {wanted} drawn12')
+            data = self.read(f'drawn12.{resolution}pk')
+            self.assertGreater(len(list(collect_pk.packets(data))), 10)
+
+    def test_a_raster_in_fewer_dots(self):
+        """A glyph of three by five dots, of which a third of each cell of two by two stays, and its reference dot's place."""
+        rows = [0b110, 0b100, 0b000, 0b001, 0b001]
+        raster = int(''.join(f'{row:03b}' for row in rows).ljust(16, '0'), 2).to_bytes(2, 'big')
+        packet = b'\0\1\0' + bytes([4, 3, 5, 1, 4]) + raster
+        data = bytes([247, 89, 0]) + number(10 << 20, 4) + b'sums' + number(1000, 4) * 2 + bytes([14 << 4, len(packet), 65]) + packet + b'\xf5'
+        made = collect_pk.reduced(data, 2)
+        collect_pk.judge_pk(made)
+        [(flag, code, found)] = collect_pk.packets(made)
+        width, across, column, line, wide, lines = collect_pk.glyph(flag, found)
+        # Columns -1 to 1 and rows 4 to 0 of the grid become columns -1 and 0, rows 2 to 0. Black: (-1, 4) (0, 4) (-1, 3) (1, 1) (1, 0).
+        self.assertEqual((code, width, across, column, line, wide, lines), (65, b'\0\1\0', 2, 0, 0, 1, [1]))
+        self.assertEqual((collect_pk.checksum(made), made[11:15]), (b'sums', number(500, 4)))
+
+    def test_packed_rasters_are_read(self):
+        """Runs with a row that comes twice more, and in the longer forms of a count."""
+        # dyn_f 4, black first: 2, then white 1 with repeat count 2, then black 3 ..; a row of three dots.
+        runs = [2, 14, 2, 1, 3, 3]
+        packed = bytes(runs[at] << 4 | runs[at + 1] for at in range(0, len(runs), 2))
+        self.assertEqual(collect_pk.rows_of(4 << 4 | 8, 3, 5, packed), [0b110] * 3 + [0b111, 0b000])
+        # dyn_f 1: a count of 20 is (20 - 1 - 1) in two halves, 3 and 2; of 300, above (13 - 1) * 16 + 1, two zeros stand before 07b.
+        self.assertEqual(collect_pk.rows_of(1 << 4 | 8, 20, 2, bytes([0x32, 0x32])), [(1 << 20) - 1, 0])
+        self.assertEqual(collect_pk.rows_of(1 << 4 | 8, 300, 1, bytes([0x07, 0xA0])), [(1 << 300) - 1])
+
+    def test_what_was_made_is_kept_for_the_next_folder(self):
+        self.supply()
+        self.assertEqual(self.call(self.document, '300', self.folder)[:2], (0, f'{self.folder}: 3 files new, 0 there before, 0 missing\n'))
+        self.assertEqual(self.call(self.document, '300', f'{self.folder}2')[:2], (0, f'{self.folder}2: 3 files new, 0 there before, 0 missing\n'))
+        self.assertEqual(len(self.asked()), 1)
+        with open(f'{self.room}/cache/dvipbm/pk/cx/drawn12.360pk', 'rb') as one, open(f'{self.folder}2/drawn12.360pk', 'rb') as other:
+            self.assertEqual(one.read(), other.read())
+        self.call(self.document, '300', f'{self.folder}3', XDG_CACHE_HOME='', HOME=f'{self.room}/house')
+        self.assertTrue(os.path.exists(f'{self.room}/house/.cache/dvipbm/pk/cx/drawn12.360pk'))
+        self.assertEqual(len(self.asked()), 2)
+
+    def test_a_cache_that_is_bad_or_other_or_none(self):
+        self.supply()
+        kept = f'{self.room}/cache/dvipbm/pk/cx/drawn12.360pk'
+        os.makedirs(os.path.dirname(kept))
+        with open(f'{SAMPLE}/drawn12.432pk', 'rb') as file:
+            made = file.read()
+        self.write(f'{self.tree}/made.pk', made[:7] + bytes(4) + made[11:])
+        for bad in (b'', made[:-9], made[:7] + b'\1\2\3\4' + made[11:]):
+            self.write(kept, bad)
+            with open(f'{SAMPLE}/drawn12.tfm', 'rb') as file:
+                metric = file.read()
+            self.write(f'{self.tree}/drawn12.tfm', metric[:24 + 0] + b'\5\6\7\x08' + metric[28:])
+            count = len(self.asked())
+            shutil.rmtree(self.folder, ignore_errors=True)
+            self.assertEqual(self.call(self.document, '300', self.folder)[0], 0, bad[:9])
+            self.assertEqual(len(self.asked()), count + 1, bad[:12])
+        self.write(f'{self.room}/file', b'')
+        for cache in (f'{self.room}/file', '/proc', 'relative', ''):
+            shutil.rmtree(self.folder)
+            status, _, said = self.call(self.document, '300', self.folder, XDG_CACHE_HOME=cache, HOME=None)
+            self.assertEqual((status, 'Traceback' in said), (0, False), f'{cache}: {said}')
+
+    def test_several_are_made_at_once_and_each_is_shown(self):
+        if len(os.sched_getaffinity(0)) < 2:
+            self.skipTest('one core')
+        self.supply()
+        self.write(self.document, document(b'', definition(0, size=943718) + definition(1, size=1132462)))
+        shutil.move(f'{self.tools}/mktexpk', f'{self.tools}/made')
+        # Each waits until the other is at work too.
+        self.tool('mktexpk', 'touch "$TREE/at.$$"; n=0; while [ "$(ls "$TREE" | grep -c "^at\\.")" -lt 2 ]; do n=$((n + 1)); '
+                  '[ $n -lt 600 ] || exit 1; sleep 0.1; done; exec made "$@"')
+        status, _, said = self.call(self.document, '300', self.folder)
+        self.assertEqual((status, sorted(said.split('\n'))[1:2]), (0, ['1 of 2: ' + said.split('1 of 2: ')[1].split('\n')[0]]), said)
+        self.assertEqual(sorted(line.split(': ')[-1] for line in said.split('\n') if ' of 2: ' in line), ['drawn12.360pk', 'drawn12.432pk'])
+        self.assertIn('making 2 fonts, 2 at a time\n', said)
+
+    def test_many_documents_in_one_call(self):
+        self.supply()
+        other = os.path.join(self.room, 'b.dvi')
+        self.write(other, document(b'', definition(5, size=1132462)))
+        bad, absent = os.path.join(self.room, 'bad.dvi'), os.path.join(self.room, 'absent.dvi')
+        self.write(bad, b'%PDF-1.5')
+        shutil.move(f'{self.tools}/kpsewhich', f'{self.tools}/finds')
+        self.tool('kpsewhich', 'echo call >>"$TREE/looked"; exec finds "$@"')
+        status, out, said = self.call(self.document, other, '300', self.folder)
+        self.assertEqual((status, out), (0, f'{self.folder}: 4 files new, 0 there before, 0 missing\n'))
+        with open(f'{self.tree}/looked') as file:
+            self.assertLessEqual(len(file.readlines()), 2)
+        status, out, said = self.call(bad, self.document, absent, other, '300', self.folder)
+        self.assertEqual((status, out), (1, f'{self.folder}: 0 files new, 4 there before, 0 missing\n'))
+        self.assertEqual(said, f'{bad}: a PDF file, not a DVI file; run tex or latex first, not pdftex or pdflatex\n'
+                               f'{absent}: No such file or directory\n')
+
+    def test_every_fault_has_one_line(self):
+        self.supply()
+        files = {'text': (b'\\documentclass{article}\n', 2, 'not a DVI file; run tex or latex first'), 'none': (b'', 2, 'the file is empty; run tex or latex first'),
+                 'pdf': (b'%PDF-1.5', 2, 'a PDF file, not a DVI file; run tex or latex first, not pdftex or pdflatex'),
+                 'ps': (b'%!PS', 2, 'a PostScript file, not a DVI file; run tex or latex first'), 'cut': (document(b'')[:30], 2, 'truncated at 30')}
+        for name, (data, status, line) in files.items():
+            path = os.path.join(self.room, name)
+            self.write(path, data)
+            self.assertEqual(self.call(path, '300', self.folder), (status, '', f'{path}: {line}\n'))
+        absent = os.path.join(self.room, 'absent')
+        self.assertEqual(self.call(absent, '300', self.folder), (66, '', f'{absent}: No such file or directory\n'))
+        self.assertFalse(os.path.exists(self.folder))
+        for asked in ('0', '4801', '-3', '300.5', 'fine', '', '03', '99999'):
+            self.assertEqual(self.call(self.document, asked, self.folder),
+                             (64, '', f'collect-fonts: {asked} is no resolution: dvipbm takes 1 to 4800 dots to the inch\n'))
+        self.assertEqual(self.call(self.document, '300')[:2], (64, ''))
+        for folder in (f'{self.document}/fonts', '/proc/fonts'):
+            status, _, said = self.call(self.document, '300', folder)
+            self.assertEqual((status, said.count('\n'), said.startswith(f'collect-fonts: {folder}: ')), (73, 1, True), said)
+
+    def test_a_full_disk_has_one_line(self):
+        self.supply()
+        status, out, said = self.call(self.document, '300', self.folder, limit=400)
+        self.assertEqual((status, said.count('\n'), said.startswith('collect-fonts: ')), (73, 1, True), said)
+        self.assertEqual(os.listdir(self.folder), [])
+
 
 @needs_program
 @unittest.skipUnless(shutil.which('tex') and shutil.which('mktexpk') and shutil.which('mf'), 'tex, mktexpk or mf is not installed')
 class WithTeX(unittest.TestCase):
+    def test_every_resolution(self):
+        """One font, from the least resolution to the greatest, drawn by the program on a small sheet: some dots are black."""
+        with tempfile.TemporaryDirectory() as room:
+            subprocess.run(['tex', '-interaction=batchmode', '-jobname=a', r'\nopagenumbers\noindent W\bye'], cwd=room, check=True,
+                           capture_output=True, env=environment_of(room))
+            with open(f'{room}/a.dvi', 'rb') as file:
+                data = file.read()
+            for resolution in (1, 7, 30, 72, 96, 203, 317, 4800):
+                ran = subprocess.run([SCRIPT, 'a.dvi', str(resolution), f'fonts{resolution}'], cwd=room, capture_output=True, text=True,
+                                     env=environment_of(room), timeout=600)
+                self.assertEqual(ran.returncode, 0, f'{resolution}: {ran.stdout}{ran.stderr}')
+                side = str(2 + resolution // 2)
+                status, pages, notes = run(data, f'{room}/fonts{resolution}', options=['--res', str(resolution), '--width', side, '--height', side, '--left=1', '--top=1'])
+                self.assertEqual((status, notes, any(pages.split(b'\n', 2)[2])), (0, '', True), resolution)
+
     def test_a_document_of_tex_is_drawn_with_what_was_collected(self):
         with tempfile.TemporaryDirectory() as room:
             text = r'\font\big=cmbx10 scaled\magstep2 \big A title \rm and $\sum_{n=1}^\infty x_n^2$, {\it slanted} text.\bye'
-            subprocess.run(['tex', '-interaction=batchmode', '-jobname=a', text], cwd=room, check=True, capture_output=True)
-            subprocess.run([SCRIPT, 'a.dvi', '300', 'fonts'], cwd=room, check=True, capture_output=True)
+            environment = environment_of(room)
+            subprocess.run(['tex', '-interaction=batchmode', '-jobname=a', text], cwd=room, check=True, capture_output=True, env=environment)
+            subprocess.run([SCRIPT, 'a.dvi', '300', 'fonts'], cwd=room, check=True, capture_output=True, env=environment)
             with open(f'{room}/a.dvi', 'rb') as file:
                 status, pages, notes = run(file.read(), f'{room}/fonts')
             self.assertEqual((status, pages.count(b'P4\n2550 3300\n'), notes), (0, 1, ''))

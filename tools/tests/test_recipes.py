@@ -1,16 +1,10 @@
 """The recipes of docs/USING.md, each where its tools are installed: what they make has the dots of the pages that the program drew."""
 import os, shutil, struct, subprocess, tempfile, unittest
 
-from common import PROGRAM, TOP, needs_program
+from common import PROGRAM, RECIPES, TOP, environment_of, needs, needs_program
 
-RECIPES = f'{TOP}/docs/recipes'
 WIDE, HIGH, ROW = 2550, 3300, 319
 HEAD = b'P4\n2550 3300\n'
-
-
-def needs(*tools):
-    lacking = [tool for tool in tools if not shutil.which(tool)]
-    return unittest.skipIf(lacking, f'not installed: {", ".join(lacking)}')
 
 
 def bitmaps(data):
@@ -49,8 +43,8 @@ class Recipes(unittest.TestCase):
 
     @classmethod
     def recipe(cls, name, *words, status=0, **more):
-        ran = subprocess.run([f'{RECIPES}/{name}', *words], cwd=cls.room, env={**os.environ, 'DVIPBM': PROGRAM, **more},
-                             stdin=subprocess.DEVNULL, capture_output=True, text=True, timeout=300)
+        ran = subprocess.run([f'{RECIPES}/{name}', *words], cwd=cls.room, env=environment_of(cls.room, **{'DVIPBM': PROGRAM, **more}),
+                             stdin=subprocess.DEVNULL, capture_output=True, text=True, timeout=600)
         if ran.returncode != status:
             raise AssertionError(f'{name} ended with {ran.returncode} and not {status}:\n{ran.stdout}{ran.stderr}')
         return ran.stderr
