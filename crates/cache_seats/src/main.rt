@@ -7,6 +7,7 @@
 #![tactic(auto)]
 
 mod font;
+mod looking;
 mod mutex;
 mod pace;
 mod seats;
@@ -14,7 +15,9 @@ mod seats;
 ghost use Rattle.std.specs.Prelude.{◌<◌, ◌≤◌};
 
 use font::dot_key;
-use pace::{Grouped, Pace, steps_a_microsecond};
+use mutex::rate_by_mutex;
+use pace::steps_a_microsecond;
+use seats::rate_by_turns;
 use std::alloc::Global;
 use std::env;
 use std::io::{self, ErrorKind};
@@ -38,13 +41,28 @@ fn rates<R: Threads + Wait + Sync + Clock>(
     steps: u64,
     time: Duration,
 ) -> Option<(u64, u64)>
-    requires some { 0 < all }
-    requires few { all ≤ 1000 }
+    requires { all ≤ 1000 }
 {
     let key = dot_key(alloc).ok()?;
-    let by_turns = seats::rate(rt, alloc, &key, all, Pace::new(all, steps), time)?;
-    let by_mutex = mutex::rate(rt, alloc, &key, all, Pace::new(all, steps), time)?;
+    let by_turns = rate_by_turns(rt, alloc, &key, all, steps, time)?;
+    let by_mutex = rate_by_mutex(rt, alloc, &key, all, steps, time)?;
     Some((by_turns, by_mutex))
+}
+
+// A line for each number of seats.
+fn measure_at<R: Threads + Wait + Sync + Clock + Print>(
+    rt: &R,
+    alloc: Global,
+    steps: u64,
+    time: Duration,
+) -> io::Result<()> {
+    for all in SEATS {
+        let Some((turns, mutex)) = rates(rt, alloc, all, steps, time) else {
+            return Err(io::Error::from(ErrorKind::OutOfMemory));
+        };
+        println!(rt; "{all} seats: {turns} look-ups a second; {mutex} under a Mutex")?;
+    }
+    Ok(())
 }
 
 fn measure<R: Threads + Wait + Sync + Clock + Print>(
@@ -56,13 +74,7 @@ fn measure<R: Threads + Wait + Sync + Clock + Print>(
     for work in WORK {
         let (whole, part) = (work / 100, work % 100);
         println!(rt; "{whole}.{part:02} microseconds of work between two look-ups")?;
-        for all in SEATS {
-            let Some((turns, mutex)) = rates(rt, alloc, all, steps * work / 100, time) else {
-                return Err(io::Error::from(ErrorKind::OutOfMemory));
-            };
-            let (turns, mutex) = (Grouped(turns), Grouped(mutex));
-            println!(rt; "{all} seats: {turns} look-ups a second; {mutex} under a Mutex")?;
-        }
+        measure_at(rt, alloc, steps * work / 100, time)?;
     }
     Ok(())
 }

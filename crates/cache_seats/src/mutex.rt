@@ -1,13 +1,13 @@
 //! Threads that look in one cache under std's `Mutex`, whose order is any.
-ghost use Rattle.std.specs.Prelude.{◌≡◌, ◌<◌, ◌≤◌, [], ◌^◌};
+ghost use Rattle.std.specs.Prelude.{◌≡◌, ◌<◌, ◌≤◌, [], ◌^◌, IsTrue};
 
 use crate::font::Blank;
-use crate::pace::{MOST_TURNS, Pace};
+use crate::looking::{Looker, rate};
+use crate::pace::MOST_TURNS;
 use cache_core::{CacheState, Look};
 use outside::FontKey;
 use std::alloc::Global;
 use std::sync::{Arc, Mutex, Wait};
-use std::thread;
 use std::thread::Threads;
 use std::time::{Clock, Duration};
 
@@ -36,82 +36,66 @@ fn is_hit(state: &mut CacheState<Blank>, key: &Arc<FontKey>) -> bool
     }
 }
 
-impl Guarded {
-    // A cache that has the one font.
-    fn new(alloc: Global, key: &Arc<FontKey>) -> Option<Guarded> {
-        let font = Arc::new(alloc, Blank {}).ok()?;
-        let mut state = CacheState::new(alloc, 2).ok()?;
-        let Ok(Look::Claimed) = state.look(1, key) else {
-            return None;
-        };
-        state.fill(1, key, font).ok()?;
-        Some(Guarded { state })
-    }
-
-    fn look(&mut self, key: &Arc<FontKey>) -> bool {
-        is_hit(&mut self.state, key)
-    }
-}
-
-// Looks until the time is up, or a look is no hit.
-fn look_ups<R: Wait>(rt: &R, cache: &Mutex<Guarded>, key: &Arc<FontKey>, pace: &Pace) {
-    let mut looks = 0u64;
-    let mut x = 1;
-    pace.meet();
-    for _i in 0..MOST_TURNS {
-        if pace.is_over() {
-            break;
-        }
-        if !cache.lock(rt).look(key) {
-            return;
-        }
-        looks = looks.wrapping_add(1);
-        x = pace.work(x);
-    }
-    pace.note(looks, x);
-}
-
-fn all_look_ups<R: Threads + Wait + Sync>(
-    rt: &R,
-    cache: &Mutex<Guarded>,
-    hands: Vec<()>,
-    key: &Arc<FontKey>,
-    pace: &Pace,
-    all: u32,
-)
-    requires some { 0 < all }
+// Looks the font up in an empty cache, and fills the claim. Says whether it did.
+fn fill_first(alloc: Global, state: &mut CacheState<Blank>, key: &Arc<FontKey>) -> bool
+    requires turns { state.old.turns ≡ 0 }
+    requires free { state.old.claims ≡ [] }
+    ensures free { IsTrue result → state.new.claims ≡ [] }
 {
-    let mut hands = hands;
-    thread::for_each_mut(
-        rt,
-        &mut hands,
-        all as usize,
-        &|_, _: &mut ()| look_ups(rt, cache, key, pace),
-    );
+    let Ok(font) = Arc::new(alloc, Blank {}) else {
+        return false;
+    };
+    match state.look(1, key) {
+        Ok(Look::Claimed) => state.fill(1, key, font).is_ok(),
+        _ => false,
+    }
+}
+
+// A cache that has the one font.
+fn filled(alloc: Global, key: &Arc<FontKey>) -> Option<Guarded> {
+    let mut state = CacheState::new(alloc, 2).ok()?;
+    if fill_first(alloc, &mut state, key) {
+        Some(Guarded { state })
+    } else {
+        None
+    }
+}
+
+// Who looks under the mutex.
+#[derive(Drop)]
+struct Locker<'c> {
+    cache: &'c Mutex<Guarded>,
+}
+
+impl Looker for Locker<'_> {
+    ghost ready = { λ l. Unit {0} };
+
+    ghost room = { λ l. 2 ^ 48 };
+
+    fn look<R: Wait>(&mut self, rt: &R, key: &Arc<FontKey>) -> bool {
+        is_hit(&mut self.cache.lock(rt).state, key)
+    }
+}
+
+// So many of them.
+fn lockers<'c>(alloc: Global, cache: &'c Mutex<Guarded>, all: u32) -> Option<Vec<Locker<'c>>> {
+    let mut lockers = Vec::new(alloc);
+    for _i in 0..all {
+        lockers.push(Locker { cache }).ok()?;
+    }
+    Some(lockers)
 }
 
 /// How many look-ups a second n threads make together.
-pub(crate) fn rate<R: Threads + Wait + Sync + Clock>(
+pub(crate) fn rate_by_mutex<R: Threads + Wait + Sync + Clock>(
     rt: &R,
     alloc: Global,
     key: &Arc<FontKey>,
     all: u32,
-    pace: Pace,
+    steps: u64,
     time: Duration,
-) -> Option<u64>
-    requires some { 0 < all }
-{
-    let cache = Mutex::new(Guarded::new(alloc, key)?);
-    let hands = vec![in alloc; (); all as usize].ok()?;
-    let (by, cache) = (&pace, &cache);
-    let (nanos, ()) = thread::join(
-        rt,
-        || by.end_after(rt, time),
-        move ||
-            requires { 0 < all }
-        {
-            all_look_ups(rt, cache, hands, key, by, all);
-        },
-    );
-    pace.rate(nanos.ok()?)
+) -> Option<u64> {
+    let cache = Mutex::new(filled(alloc, key)?);
+    let mut lockers = lockers(alloc, &cache, all)?;
+    rate(rt, &mut lockers, key, steps, time)
 }

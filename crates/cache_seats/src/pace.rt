@@ -1,8 +1,7 @@
 //! When a run begins and ends, the work between two look-ups, and what is counted.
 ghost use Rattle.std.specs.Prelude.{◌≤◌, IfOk};
 
-use std::fmt::{self, Display, Formatter, Write};
-use std::sync::atomic::{AtomicU32, AtomicU64, Ordering};
+use std::sync::atomic::{AtomicU32, AtomicU64, AtomicUsize, Ordering};
 use std::time::{Clock, Duration, Instant};
 use std::{io, thread};
 
@@ -13,8 +12,8 @@ pub(crate) const MOST_TURNS: u64 = 1 << 40;
 #[derive(Drop)]
 pub(crate) struct Pace {
     // How many threads the run has, the timer included.
-    all: u32,
-    came: AtomicU32,
+    all: usize,
+    came: AtomicUsize,
     over: AtomicU32,
     looks: AtomicU64,
     // What the work came to, so that it is done.
@@ -52,10 +51,10 @@ pub(crate) fn steps_a_microsecond<C: Clock>(clock: &C) -> io::Result<u64>
 
 impl Pace {
     /// A run of n seats, with n steps of work between two look-ups.
-    pub(crate) fn new(seats: u32, steps: u64) -> Pace {
+    pub(crate) fn new(seats: usize, steps: u64) -> Pace {
         Pace {
             all: seats.saturating_add(1),
-            came: AtomicU32::new(0),
+            came: AtomicUsize::new(0),
             over: AtomicU32::new(0),
             looks: AtomicU64::new(0),
             sum: AtomicU64::new(0),
@@ -104,22 +103,5 @@ impl Pace {
         let looks = u128::from(self.looks.load(Ordering::SeqCst));
         let rate = (looks * 1_000_000_000).checked_div(nanos)?;
         u64::try_from(rate).ok()
-    }
-}
-
-/// A number with a comma after each three digits from its end.
-#[derive(Clone, Copy)]
-pub(crate) struct Grouped(pub(crate) u64);
-
-impl Display for Grouped {
-    fn fmt<W: Write>(&self, f: &mut Formatter<W>) -> fmt::Result {
-        let (millions, thousands, ones) = (self.0 / 1_000_000, self.0 / 1000 % 1000, self.0 % 1000);
-        if millions > 0 {
-            write!(f, "{millions},{thousands:03},{ones:03}")
-        } else if thousands > 0 {
-            write!(f, "{thousands},{ones:03}")
-        } else {
-            write!(f, "{ones}")
-        }
     }
 }

@@ -1,125 +1,99 @@
-//! Seats of one font cache, each in a thread of its own.
-ghost use Rattle.std.specs.Prelude.{◌≡◌, ◌+◌, ◌<◌, ◌≤◌, All, IfSome, None};
+//! Seats of one font cache.
+ghost use Rattle.std.specs.Prelude.{◌≡◌, ◌+◌, ◌-◌, ◌^◌, ◌<◌, ◌≤◌, All, IfSome, None};
 ghost use Rattle.cache_core.specs.Histories.{own, open_claim};
 ghost use Rattle.turn_lock.specs.declared.view.Stage.TheVariants.{Idle};
+ghost use Rattle.turn_lock.specs.Views.{opening_view};
 
 use crate::font::Blank;
-use crate::pace::{MOST_TURNS, Pace};
+use crate::looking::{Looker, rate};
 use cache_core::Look;
 use font_cache::{CacheSeat, FontCache};
 use outside::FontKey;
 use std::alloc::Global;
 use std::sync::{Arc, Wait};
-use std::thread;
 use std::thread::Threads;
 use std::time::{Clock, Duration};
 
-// Looks until the time is up, or a look is no hit.
-fn look_ups<R: Wait>(
-    rt: &R,
-    cache: &FontCache<Blank>,
-    seat: &mut CacheSeat<Blank>,
-    key: &Arc<FontKey>,
-    pace: &Pace,
-)
-    requires lock { seat.old.lock ≡ cache.now }
-    requires idle { seat.old.view.stage ≡ Idle }
-    requires room { seat.old.view.drawn ≡ 0 }
-    requires free { open_claim (own seat.old.view.number seat.old.view.seen) ≡ None }
-{
-    let mut looks = 0u64;
-    let mut x = 1;
-    pace.meet();
-    for _i in 0..MOST_TURNS {
-        if pace.is_over() {
-            break;
-        }
-        let Ok(Look::Hit(_)) = cache.look(rt, seat, key) else {
-            return;
-        };
-        looks = looks.wrapping_add(1);
-        x = pace.work(x);
+// A seat at a cache.
+#[derive(Drop)]
+struct Seated<'c> {
+    cache: &'c FontCache<Blank>,
+    seat: CacheSeat<Blank>,
+}
+
+impl Looker for Seated<'_> {
+    ghost use Rattle.cache_core.specs.Histories.{own, open_claim};
+    ghost use Rattle.turn_lock.specs.declared.view.Stage.TheVariants.{Idle};
+
+    ghost ready = { λ s. (s.seat.lock ≡ s.cache.now) × (s.seat.view.stage ≡ Idle)
+        × (open_claim (own s.seat.view.number s.seat.view.seen) ≡ None) };
+
+    ghost room = { λ s. 2 ^ 48 - s.seat.view.drawn };
+
+    fn look<R: Wait>(&mut self, rt: &R, key: &Arc<FontKey>) -> bool {
+        matches!(self.cache.look(rt, &mut self.seat, key), Ok(Look::Hit(_)))
     }
-    pace.note(looks, x);
 }
 
-fn all_look_ups<R: Threads + Wait + Sync>(
+// Looks the font up at a new cache, and fills the claim. Says whether it did.
+fn fill_first<R: Wait>(
     rt: &R,
-    cache: &FontCache<Blank>,
-    seats: Vec<CacheSeat<Blank>>,
-    key: &Arc<FontKey>,
-    pace: &Pace,
-    all: u32,
-)
-    requires seats { All (λ s. (s.lock ≡ cache.now) × (s.view.stage ≡ Idle) × (s.view.drawn ≡ 0) ×
-        (open_claim (own s.view.number s.view.seen) ≡ None)) seats.items }
-    requires some { 0 < all }
-{
-    let mut seats = seats;
-    thread::for_each_mut(
-        rt,
-        &mut seats,
-        all as usize,
-        &|_, seat: &mut CacheSeat<Blank>|
-            requires { (seat.old.lock ≡ cache.now) × (seat.old.view.stage ≡ Idle)
-                × (seat.old.view.drawn ≡ 0)
-                × (open_claim (own seat.old.view.number seat.old.view.seen) ≡ None) }
-        {
-            look_ups(rt, cache, seat, key, pace);
-        },
-    );
-}
-
-fn split_off(
     alloc: Global,
     cache: &FontCache<Blank>,
     first: &mut CacheSeat<Blank>,
-    all: u32,
-) -> Option<Vec<CacheSeat<Blank>>>
+    key: &Arc<FontKey>,
+) -> bool
     requires lock { first.old.lock ≡ cache.now }
-    requires first { (first.old.view.number ≡ 0) × (first.old.view.made ≡ 1) }
+    requires view { first.old.view ≡ opening_view first.old.view.part }
+    ensures lock { first.new.lock ≡ cache.now }
+    ensures view { (first.new.view.number ≡ 0) × (first.new.view.made ≡ 1) }
+{
+    let Ok(font) = Arc::new(alloc, Blank {}) else {
+        return false;
+    };
+    match cache.look(rt, first, key) {
+        Ok(Look::Claimed) => cache.fill(rt, first, key, font).is_ok(),
+        _ => false,
+    }
+}
+
+// So many seats of a cache that have made no call.
+fn split_off<'c>(
+    alloc: Global,
+    cache: &'c FontCache<Blank>,
+    first: &mut CacheSeat<Blank>,
+    all: u32,
+) -> Option<Vec<Seated<'c>>>
+    requires lock { first.old.lock ≡ cache.now }
+    requires view { (first.old.view.number ≡ 0) × (first.old.view.made ≡ 1) }
     requires few { all ≤ 1000 }
-    ensures seats { IfSome result
-        (λ seats. All (λ s. (s.lock ≡ cache.now) × (s.view.stage ≡ Idle) × (s.view.drawn ≡ 0) ×
-        (open_claim (own s.view.number s.view.seen) ≡ None)) seats.items) }
+    ensures { IfSome result (λ seats. All
+        (λ s. (s.seat.lock ≡ s.cache.now) × (s.seat.view.stage ≡ Idle) × (s.seat.view.drawn ≡ 0)
+        × (open_claim (own s.seat.view.number s.seat.view.seen) ≡ None)) seats.items) }
 {
     let mut seats = Vec::new(alloc);
     for _i in 0..all {
         let seat = cache.split(first);
-        seats.push(seat).ok()?;
+        seats.push(Seated { cache, seat }).ok()?;
     }
     Some(seats)
 }
 
 /// How many look-ups a second n seats of one cache make together.
-pub(crate) fn rate<R: Threads + Wait + Sync + Clock>(
+pub(crate) fn rate_by_turns<R: Threads + Wait + Sync + Clock>(
     rt: &R,
     alloc: Global,
     key: &Arc<FontKey>,
     all: u32,
-    pace: Pace,
+    steps: u64,
     time: Duration,
 ) -> Option<u64>
-    requires some { 0 < all }
-    requires few { all ≤ 1000 }
+    requires { all ≤ 1000 }
 {
-    let font = Arc::new(alloc, Blank {}).ok()?;
     let (cache, mut first) = FontCache::make(alloc, 2).ok()?;
-    let Ok(Look::Claimed) = cache.look(rt, &mut first, key) else {
+    if !fill_first(rt, alloc, &cache, &mut first, key) {
         return None;
-    };
-    cache.fill(rt, &mut first, key, font).ok()?;
-    let seats = split_off(alloc, &cache, &mut first, all)?;
-    let (by, cache) = (&pace, &cache);
-    let (nanos, ()) = thread::join(
-        rt,
-        || by.end_after(rt, time),
-        move ||
-            requires { All (λ s. (s.lock ≡ cache.now) × (s.view.stage ≡ Idle) × (s.view.drawn ≡ 0) ×
-                (open_claim (own s.view.number s.view.seen) ≡ None)) seats.items × (0 < all) }
-        {
-            all_look_ups(rt, cache, seats, key, by, all);
-        },
-    );
-    pace.rate(nanos.ok()?)
+    }
+    let mut seats = split_off(alloc, &cache, &mut first, all)?;
+    rate(rt, &mut seats, key, steps, time)
 }

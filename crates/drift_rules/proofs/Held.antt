@@ -1,13 +1,11 @@
 -- The registers that a pen may have, and how the code's numbers are read.
-use Rattle.std.proofs.Common.{◌≡◌, ℕ, ◌+◌, ◌*◌, ◌^◌, ◌<◌, ◌≤◌, ℤ, ◌+ℤ◌, ◌-ℤ◌, Bool, true, false, cond, List, [], ◌∷◌, Result, Ok, Err, IfOk, IfErr, IsTrue, w64, to_z, of_z, arith, refl}
+use Rattle.std.proofs.Common.{◌≡◌, ℕ, ◌+◌, ◌*◌, ◌^◌, ◌<◌, ◌≤◌, ℤ, ◌+ℤ◌, ◌-ℤ◌, Bool, true, false, cond, List, [], ◌∷◌, Ok, IsTrue, w64, to_z, of_z, arith, refl}
 use Rattle.std.specs.Prelude.{unsigned_abs}
 use Rattle.std.specs.List.{AllByRecursion}
 use Rattle.std.proofs.lemmas.Int.{ints, to_z-of_z, fits_signed_from_abs}
 use Rattle.pixel_round.specs.Pixels.{Fraction, round}
 use Rattle.packed_rows.specs.declared.offset.TheConstants.{MAX_COORDINATE}
 use Rattle.drift_rules.specs.declared.flat.Registers.{Registers}
-use Rattle.drift_rules.specs.declared.faults.PenFault.{PenFault}
-use Rattle.drift_rules.specs.declared.faults.PenFault.TheVariants.{Overflow}
 use Rattle.drift_rules.specs.Position.{State, AreNear, KeepsNear, after_drift, at_h, at_v, on_entry, is_held, moved_over, over, zeros}
 use Rattle.drift_rules.specs.Bounds.{AreHeld, IsHeldState}
 use Rattle.drift_rules.proofs.Near.{near_drifted, zeros_are_near}
@@ -161,16 +159,6 @@ at_v_kept c r v row dots vv held small near value bounded drift =
     (rw drifted' (registers_kept c (at_v c r v row) after), after)
 
 -- ---- what the code answers, as the state after
-
-pub ok_after : (b : Bool) (to : Registers) (result : Result Registers PenFault) → IfOk result (λ r. IsTrue b × (r ≡ to))
-    → IfOk result (λ r. (saved : List Registers) → cond {A = Result State PenFault} b (Ok (record { now = to; saved = saved })) (Err Overflow) ≡ Ok (record { now = r; saved = saved }))
-ok_after b to (Ok r) h = λ saved. rw (h.0, h.1) refl
-ok_after b to (Err e) h = tt
-
-pub err_after : (b : Bool) (to : Registers) (result : Result Registers PenFault) → IfErr result (λ e. (b ≡ false) × (e ≡ Overflow))
-    → IfErr result (λ e. (e ≡ Overflow) × ((saved : List Registers) → cond {A = Result State PenFault} b (Ok (record { now = to; saved = saved })) (Err Overflow) ≡ Err e))
-err_after b to (Ok r) h = tt
-err_after b to (Err e) h = (h.1, λ saved. rw (h.0, h.1) refl)
 
 -- a character that is set moves h and hh alone
 pub set_kept : (c : Fraction) (r m : Registers) (saved : List Registers) (width : ℤ) → IsTrue (is_held (r.h +ℤ width)) × (m ≡ moved_over c r width (round c width)) → AreHeld c m

@@ -5,7 +5,7 @@ use std::sync::Arc;
 /// A command of a page in which every virtual character is expanded. Lengths and motions are in DVI
 /// units; `space` is the size of the font that is current where the command stands, divided by 6
 /// and rounded down, and 0 where none is.
-#[derive(Debug, Drop)]
+#[derive(Drop)]
 pub enum Flat {
     /// Nothing: a command that moves and marks nothing.
     Skip,

@@ -20,7 +20,7 @@ const MAX_DRIFT: i64 = 2;
 
 // The registers after a command that saves and restores none.
 #[inline(always)]
-pub(crate) fn moved(conv: &Conv, now: Registers, flat: &Flat) -> Result<Registers, PenFault>
+pub(crate) fn moved(conv: &Conv, mut now: Registers, flat: &Flat) -> Result<Registers, PenFault>
     requires held { AreHeld conv.now now }
     requires reach { IsInReach (seen_flat flat.now) }
     requires no_push { is_push (seen_flat flat.now) ≡ false }
@@ -49,11 +49,23 @@ pub(crate) fn moved(conv: &Conv, now: Registers, flat: &Flat) -> Result<Register
             ..
         } => over(conv, now, *width, conv.ceil(*width)),
         Flat::Right { by, space } => right(conv, now, *by, *space),
-        Flat::W { by, space } => right(conv, Registers { w: *by, ..now }, *by, *space),
-        Flat::X { by, space } => right(conv, Registers { x: *by, ..now }, *by, *space),
+        Flat::W { by, space } => {
+            now.w = *by;
+            right(conv, now, *by, *space)
+        }
+        Flat::X { by, space } => {
+            now.x = *by;
+            right(conv, now, *by, *space)
+        }
         Flat::Down { by, space } => down(conv, now, *by, *space),
-        Flat::Y { by, space } => down(conv, Registers { y: *by, ..now }, *by, *space),
-        Flat::Z { by, space } => down(conv, Registers { z: *by, ..now }, *by, *space),
+        Flat::Y { by, space } => {
+            now.y = *by;
+            down(conv, now, *by, *space)
+        }
+        Flat::Z { by, space } => {
+            now.z = *by;
+            down(conv, now, *by, *space)
+        }
         Flat::W0 { space } => right(conv, now, now.w, *space),
         Flat::X0 { space } => right(conv, now, now.x, *space),
         Flat::Y0 { space } => down(conv, now, now.y, *space),

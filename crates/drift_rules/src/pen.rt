@@ -230,12 +230,3 @@ impl Pen {
         self.registers
     }
 }
-
-#[cfg(test)]
-mod mark_tests;
-#[cfg(test)]
-mod packet_tests;
-#[cfg(test)]
-mod stack_tests;
-#[cfg(test)]
-mod tests;

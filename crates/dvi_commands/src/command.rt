@@ -4,7 +4,7 @@ use thiserror::Error;
 
 /// The definition of a font. The name begins with the area, of which `area` is the length. The
 /// checksum is that of the font's TFM file; the two sizes are in DVI units.
-#[derive(Clone, Copy, Debug, PartialEq, Eq)]
+#[derive(Clone, Copy)]
 pub struct FontDef<'a> {
     pub number: i32,
     pub check: u32,
@@ -16,7 +16,7 @@ pub struct FontDef<'a> {
 
 /// A command, with its texts where they lie in the bytes. Heights, widths and motions are in DVI
 /// units, down and to the right.
-#[derive(Clone, Copy, Debug, PartialEq, Eq)]
+#[derive(Clone, Copy)]
 pub enum Command<'a> {
     /// Sets the character with the code and moves to the right by its width.
     Set(i32),

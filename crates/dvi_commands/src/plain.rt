@@ -59,6 +59,3 @@ pub fn plain_end(bytes: &[u8], at: usize) -> Option<usize>
     }
     Some(at + length)
 }
-
-#[cfg(test)]
-mod tests;

@@ -156,6 +156,3 @@ pub fn command_at<'a>(bytes: &'a [u8], at: usize, context: Context) -> (Command<
         Err(_) => unreachable!(),
     }
 }
-
-#[cfg(test)]
-mod tests;

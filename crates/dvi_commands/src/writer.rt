@@ -80,6 +80,3 @@ pub fn write_command(_alloc: Global, command: &Command, out: &mut Vec<u8>) -> Re
         Command::PostPost { post, id } => append_post_post(out, post, id),
     }
 }
-
-#[cfg(test)]
-mod tests;

@@ -17,3 +17,4 @@ pub mod Report
 pub mod Sampled
 pub mod Together
 pub mod Promises
+pub mod Examples

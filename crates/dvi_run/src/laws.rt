@@ -1,4 +1,5 @@
 //! Laws over the definitions, each a clause of a function without a body.
+ghost use Rattle.dvi_run.specs.Examples.{DocumentLines, GoodEndsAreSilent, PageLines, ShortLines};
 ghost use Rattle.dvi_run.specs.Laws.{EachDocumentHasOneRun, EachPageHasItsEop, FaultsEndTheRun, GoodRunsWriteAlike, OneReading, OneRun, PagesAreShared, RunsEndAtTheFirstFault, RunsHavePrefixes, RunsHaveNoFault, RunsOfGoodPages, SamplesAreReadWhole, StoppedRunsWriteAlike};
 
 use page_index::laws::documents;
@@ -49,3 +50,11 @@ pub fn samples()
 {
     sample_maker::laws::samples();
 }
+
+/// The line of each ending, written out: pages are counted from 1, and bytes from 0.
+pub fn worked_lines()
+    ensures none { GoodEndsAreSilent }
+    ensures short { ShortLines }
+    ensures pages { PageLines }
+    ensures documents { DocumentLines }
+{}

@@ -21,8 +21,6 @@ mod run;
 mod sampled;
 mod stages;
 mod tally;
-#[cfg(test)]
-mod tests;
 mod texts;
 
 pub use command_line::{LineStop, Settings, default_settings, default_sheet, line};

@@ -26,6 +26,3 @@ pub use names::{FileName, FontName};
 pub use picky_fonts::PickyFonts;
 pub use streams::{Failed, Input, Output, write_all};
 pub use sure::{SureInput, SureOutput};
-
-#[cfg(test)]
-mod tests;

@@ -16,7 +16,7 @@ use Rattle.vf_expand.specs.Faults.{Pen, seen_fault}
 use Rattle.vf_expand.specs.declared.faults.PageFault.{PageFault}
 use Rattle.page_draw.specs.Members.{Finding, looks_of}
 use Rattle.page_draw.specs.Values.{EndsIn, HasValue, PageValue, ended_with, fault_at}
-use Rattle.page_draw.specs.Drawn.{IsBroken, IsDrawn, IsLeft, IsPenStop, IsStop}
+use Rattle.page_draw.specs.Drawn.{IsBroken, IsDrawn, IsFaultOf, IsLeft, IsOwnStop, IsPenStop, IsStop}
 use Rattle.page_draw.specs.declared.stop.PageStop.{PageStop}
 use Rattle.page_draw.specs.declared.stop.PageStop.TheVariants as stop
 use Rattle.page_draw.specs.declared.sheet.Sheet.{Sheet}
@@ -86,29 +86,47 @@ module _ (Finds : Finding) (c : Fraction) (sheet : Sheet) (indexed : Indexed) (i
   pen_stop f g at rest gives stop.SourceFault h = absurd h
   pen_stop f g at rest gives stop.NoMemory h = broken_so_far
 
-  -- the page is at its end
-  pub end_drawn : (at : ℕ) → to ≡ Ends at → (r : Result Bitmap PageStop) → IfOk r (λ done. ended_with s.saved at page ≡ Ok done)
-      → IfOk r (λ done. IsDrawn Finds indexed sheet i (Ok done) old new)
-  end_drawn at ends (Ok done) h = drawn_so_far (Ok done) (subst (λ (x : Course). EndsIn c s page x (Ok done)) (sym ends) (sym h))
-  end_drawn at ends (Err why) h = tt
+  -- the page ends here
+  pub ended_drawn : (r : Result Bitmap PageStop) → IfOk r (λ done. EndsIn c s page to (Ok done)) → IfOk r (λ done. IsDrawn Finds indexed sheet i (Ok done) old new)
+  ended_drawn (Ok done) h = drawn_so_far (Ok done) h
+  ended_drawn (Err why) h = tt
 
-  end_left : (at : ℕ) → to ≡ Ends at → (why : PageStop) → IsLeft why (ended_with s.saved at page) → IsStop Finds indexed sheet i why old new
-  end_left at ends (stop.Fault fault place) h =
+  fault_stop : (why : PageStop) → IsFaultOf why (EndsIn c s page to) → IsStop Finds indexed sheet i why old new
+  fault_stop (stop.Fault fault place) h = drawn_so_far (fault_at (seen_fault fault) place) h
+  fault_stop stop.SourceFault h = absurd h
+  fault_stop stop.NoMemory h = absurd h
+
+  pub ended_stop : (r : Result Bitmap PageStop) → IfErr r (λ why. IsFaultOf why (EndsIn c s page to)) → IfErr r (λ why. IsStop Finds indexed sheet i why old new)
+  ended_stop (Ok done) h = tt
+  ended_stop (Err why) h = fault_stop why h
+
+-- where no fault stops a page it was broken off
+pub broken_stop : (Finds : Finding) (indexed : Indexed) (sheet : Sheet) (i : ℕ) (why : PageStop) (old new : Option (List FontKey)) → (IsOwnStop why → ⊥)
+    → IsBroken Finds indexed i old new → IsStop Finds indexed sheet i why old new
+broken_stop Finds indexed sheet i (stop.Fault fault place) old new stopped h = absurd (stopped tt)
+broken_stop Finds indexed sheet i stop.SourceFault old new stopped h = h
+broken_stop Finds indexed sheet i stop.NoMemory old new stopped h = h
+
+-- ---- the ends of a course
+
+module _ (c : Fraction) (s : State) (page : Bitmap) (to : Course) (at : ℕ) where
+  pub end_whole : to ≡ Ends at → (r : Result Bitmap PageStop) → IfOk r (λ done. ended_with s.saved at page ≡ Ok done) → IfOk r (λ done. EndsIn c s page to (Ok done))
+  end_whole ends (Ok done) h = subst (λ (x : Course). EndsIn c s page x (Ok done)) (sym ends) (sym h)
+  end_whole ends (Err why) h = tt
+
+  left_fault : to ≡ Ends at → (why : PageStop) → IsLeft why (ended_with s.saved at page) → IsFaultOf why (EndsIn c s page to)
+  left_fault ends (stop.Fault fault place) h = subst (λ (x : Course). EndsIn c s page x (fault_at (seen_fault fault) place)) (sym ends) (sym h)
+  left_fault ends stop.SourceFault h = absurd h
+  left_fault ends stop.NoMemory h = absurd h
+
+  pub end_left : to ≡ Ends at → (r : Result Bitmap PageStop) → IfErr r (λ why. IsLeft why (ended_with s.saved at page)) → IfErr r (λ why. IsFaultOf why (EndsIn c s page to))
+  end_left ends (Ok done) h = tt
+  end_left ends (Err why) h = left_fault ends why h
+
+  pub stop_ends : (fault : PageFault) (place : ℕ) → to ≡ Stops (seen_fault fault) at → place ≡ at → EndsIn c s page to (fault_at (seen_fault fault) place)
+  stop_ends fault place stops here =
       let value = fault_at (seen_fault fault) place in
-      drawn_so_far value (subst (λ (x : Course). EndsIn c s page x value) (sym ends) (sym h))
-  end_left at ends stop.SourceFault h = absurd h
-  end_left at ends stop.NoMemory h = absurd h
-
-  pub end_stop : (at : ℕ) → to ≡ Ends at → (r : Result Bitmap PageStop) → IfErr r (λ why. IsLeft why (ended_with s.saved at page))
-      → IfErr r (λ why. IsStop Finds indexed sheet i why old new)
-  end_stop at ends (Ok done) h = tt
-  end_stop at ends (Err why) h = end_left at ends why h
-
-  -- the expander stops
-  pub stop_drawn : (fault : PageFault) (at place : ℕ) → to ≡ Stops (seen_fault fault) at → place ≡ at → IsStop Finds indexed sheet i (stop.Fault fault place) old new
-  stop_drawn fault at place stops here =
-      let value = fault_at (seen_fault fault) place in
-      drawn_so_far value (subst (λ (x : Course). EndsIn c s page x value) (sym stops) (ap (fault_at (seen_fault fault)) here))
+      subst (λ (x : Course). EndsIn c s page x value) (sym stops) (ap (fault_at (seen_fault fault)) here)
 
 -- a page's course leads to itself before anything was done
 pub broken_at_first : (Finds : Finding) (indexed : Indexed) (i : ℕ) (c : Fraction) (old : Option (List FontKey))

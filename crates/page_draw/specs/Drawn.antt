@@ -77,3 +77,9 @@ abbrev pub IsLeft : PageStop → PageValue → Type 0
 IsLeft (stop.Fault fault at) value = value ≡ fault_at (seen_fault fault) at
 IsLeft stop.SourceFault value = ⊥
 IsLeft stop.NoMemory value = ⊥
+
+-- a fault that is such a value of the page
+abbrev pub IsFaultOf : PageStop → (PageValue → Type 0) → Type 0
+IsFaultOf (stop.Fault fault at) P = P (fault_at (seen_fault fault) at)
+IsFaultOf stop.SourceFault P = ⊥
+IsFaultOf stop.NoMemory P = ⊥

@@ -1,15 +1,20 @@
 //! Draws a page.
-ghost use Rattle.std.specs.Prelude.{◌≡◌, ◌<◌, ◌≤◌, ◌+◌, ◌^◌, [], Some, Ok, Err, IfOk, IfErr, IfSome, IsErrOf};
+ghost use Rattle.std.specs.Prelude.{◌≡◌, ◌<◌, ◌≤◌, ◌+◌, ◌^◌, [], ◌∷◌, Some, Ok, Err, IfOk, IfErr, IfSome, IsErrOf, IsOk, OnOk, OnErr};
+ghost use Rattle.std.specs.Arc.{arc_value};
 ghost use Rattle.outside.specs.Counts.{HasCause};
+ghost use Rattle.outside.specs.FontKeys.{IsFontKey};
 ghost use Rattle.page_index.specs.Document.{pages_begun};
 ghost use Rattle.page_index.specs.Pages.{document_units};
 ghost use Rattle.raster_page.specs.Ink.{page_of};
 ghost use Rattle.font_decode.specs.Decoding.{IsFontOf};
-ghost use Rattle.vf_expand.specs.Expansion.{left};
+ghost use Rattle.font_decode.specs.declared.decoded.Decoded.{Decoded};
+ghost use Rattle.vf_expand.specs.Expansion.{IsAtLook, answered, asks_left, left, steps_left};
+ghost use Rattle.vf_expand.specs.Steps.{Steps};
+ghost use Rattle.vf_expand.specs.declared.step.Step.TheVariants.{Ask};
 ghost use Rattle.page_draw.specs.Sheets.{IsDrawable};
-ghost use Rattle.page_draw.specs.Values.{ended_with};
-ghost use Rattle.font_decode.specs.Desks.{TrailGrew};
-ghost use Rattle.page_draw.specs.Drawn.{IsDrawn, IsLeft, IsStop, IsWhole};
+ghost use Rattle.page_draw.specs.Values.{EndsIn, ended_with};
+ghost use Rattle.font_decode.specs.Desks.{GrewBy, GrewByAtMost, TrailGrew};
+ghost use Rattle.page_draw.specs.Drawn.{IsDrawn, IsFaultOf, IsLeft, IsOwnStop, IsStop, IsWhole};
 ghost use Rattle.vf_expand.specs.Course.{MOST_FLAT};
 
 use crate::flats::draw_flats;
@@ -17,10 +22,11 @@ use crate::sheet::Sheet;
 use crate::stop::PageStop;
 use drift_rules::Pen;
 use font_decode::{Desk, DeskStop};
+use outside::FontKey;
 use page_index::Index;
 use raster_page::Page;
 use std::alloc::Global;
-use std::sync::Wait;
+use std::sync::{Arc, Wait};
 use vf_expand::{Expander, PageFault, Step};
 
 // The page at its end, where no registers may be saved.
@@ -34,6 +40,70 @@ fn finished(page: Page, pen: &Pen, at: usize) -> Result<Page, PageStop>
             fault: PageFault::Pen(fault),
             at,
         }),
+    }
+}
+
+// The page where nothing of it is left, or the fault at which its commands stop.
+fn ended(page: Page, pen: &Pen, expander: &Expander, step: Step) -> Result<Page, PageStop>
+    requires next { Steps expander.now step expander.now }
+    requires no_look { (key : _) → step ≡ Ask key → ⊥ }
+    ensures whole { IfOk result (λ done.
+        EndsIn pen.now.conv pen.now.state page (left expander.now) (Ok done)) }
+    ensures stop { IfErr result (λ stop. IsFaultOf stop
+        (EndsIn pen.now.conv pen.now.state page (left expander.now))) }
+{
+    match step {
+        Step::End => finished(page, pen, expander.at()),
+        Step::Stop(fault) => Err(PageStop::Fault {
+            fault,
+            at: expander.at(),
+        }),
+        Step::Flat(_) => unreachable!(),
+        Step::Ask(_) => unreachable!(),
+    }
+}
+
+// Hands in the font of the look-up that stands next, for which the desk is asked.
+fn look_up<R: Wait, D: Desk>(
+    rt: &R,
+    alloc: Global,
+    desk: &mut D,
+    shared: &D::Shared,
+    expander: &mut Expander,
+    key: &Arc<FontKey>,
+) -> Result<(), PageStop>
+    requires fits { D.fits desk.old shared.now }
+    requires room { 1 ≤ D.room desk.old }
+    requires key { IsFontKey (arc_value key.now) }
+    requires look { IsAtLook (left expander.old) }
+    ensures answered { OnOk result ((font : Decoded)
+        × IsFontOf (D.library desk.old) (D.units desk.old) (arc_value key.now) font
+        × (left expander.new ≡ answered (left expander.old) font)) }
+    ensures asks { OnOk result (asks_left expander.new + 1 ≡ asks_left expander.old) }
+    ensures fewer { OnOk result (steps_left expander.new < steps_left expander.old) }
+    ensures broken { IfErr result (λ stop. IsOwnStop stop → ⊥) }
+
+    // What the desk is afterwards.
+    ensures fits { D.fits desk.new shared.now }
+    ensures room { D.room desk.old ≤ D.room desk.new + 1 }
+    ensures library { D.library desk.new ≡ D.library desk.old }
+    ensures units { D.units desk.new ≡ D.units desk.old }
+    ensures cause { HasCause (D.faults desk.old) (D.faults desk.new)
+        (IsErrOf result PageStop.SourceFault) }
+    ensures asked { OnOk result (GrewBy (D.asked desk.old) (D.asked desk.new)
+        (arc_value key.now ∷ [])) }
+    ensures refused { OnErr result (GrewByAtMost (D.asked desk.old) (D.asked desk.new)
+        (arc_value key.now)) }
+    ensures trail { TrailGrew (IsOk result) (D.asked desk.old) (D.asked desk.new)
+        (D.trail desk.old) (D.trail desk.new) }
+{
+    match desk.font(rt, alloc, shared, key) {
+        Ok(font) => {
+            expander.answer(font);
+            Ok(())
+        }
+        Err(DeskStop::SourceFault) => Err(PageStop::SourceFault),
+        Err(DeskStop::NoMemory) => Err(PageStop::NoMemory),
     }
 }
 
@@ -90,19 +160,8 @@ pub fn draw_on<R: Wait, D: Desk>(
     };
     'steps: loop {
         match draw_flats(&mut page, &mut pen, sheet, &mut expander)? {
-            Step::Ask(key) => match desk.font(rt, alloc, shared, &key) {
-                Ok(font) => expander.answer(font),
-                Err(DeskStop::SourceFault) => return Err(PageStop::SourceFault),
-                Err(DeskStop::NoMemory) => return Err(PageStop::NoMemory),
-            },
-            Step::End => return finished(page, &pen, expander.at()),
-            Step::Stop(fault) => {
-                return Err(PageStop::Fault {
-                    fault,
-                    at: expander.at(),
-                });
-            }
-            Step::Flat(_) => unreachable!(),
+            Step::Ask(key) => look_up(rt, alloc, desk, shared, &mut expander, &key)?,
+            step => return ended(page, &pen, &expander, step),
         }
     }
 }

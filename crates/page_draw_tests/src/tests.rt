@@ -1,72 +1,51 @@
-//! Pages worked out by hand, at half a dot for a unit (num 1270, den 3, mag 1000).
+//! Pages worked out by hand, at half a dot for a unit (num 1270, den 3, mag 1000): a table, and one
+//! test that goes over it.
 
 mod desks;
-mod faults;
 mod files;
 
-use cache_core::{Act, Entry};
-use page_draw::PageStop;
-use raster_page::Page;
-use std::alloc::Global;
+use desks::told;
 use std::test::Fail;
-use vf_expand::PageFault;
 
-/// What a page came to: its rows, or why and where it stopped, with the number that the fault
-/// names.
-#[derive(Drop)]
-pub struct Outcome {
-    pub rows: Vec<u8>,
-    pub end: (&'static str, i32, usize),
-}
+/// What a page came to: `drawn`, or why it stopped, with the number that the fault names and its
+/// place; its dots, row after row; how many loads were asked for; a letter for each of the first
+/// five calls of its seat, with the first one of the key's name; and how many calls there were.
+type Told = (&'static str, i32, usize, u64, usize, [u8; 10], usize);
 
-fn end_of(stop: &PageStop) -> (&'static str, i32, usize) {
-    match stop {
-        PageStop::Fault { fault, at } => match fault {
-            PageFault::NoFont(number) => ("no font", *number, *at),
-            PageFault::NoCharacter(_, code) => ("no character", *code, *at),
-            PageFault::NoGlyph(_, code) => ("no glyph", *code, *at),
-            _ => ("another fault", 0, *at),
-        },
-        PageStop::SourceFault => ("source failed", 0, 0),
-        PageStop::NoMemory => ("no memory", 0, 0),
+// The desk without a cache has no calls.
+const NONE: [u8; 10] = [b' '; 10];
+
+// Five characters, each four dots on from the one before, the third and fourth at one place. Font 0
+// is made current twice.
+const FIVE: [u8; 9] = [0xab, 0x41, 0x41, 0xab, 0x85, 0x41, 0x41, 0xac, 0x41];
+
+// The commands of a page, the loads that fail where its desk keeps one font in a cache, `None` for
+// a desk without a cache, and what is told.
+static ROWS: [(&'static [u8], Option<&'static [u64]>, Told); 6] = [
+    // Each change to a font is followed by a look-up, a change to the font that is current too.
+    (&FIVE, None, ("drawn", 0, 0, 0xcccc_cccc, 9, NONE, 0)),
+    (
+        &FIVE,
+        Some(&[]),
+        ("drawn", 0, 0, 0xcccc_cccc, 6, *b"cdfdhdcbgb", 5),
+    ),
+    // A page that breaks off gives its claim up. The fourth load is of bar.tfm.
+    (
+        &FIVE,
+        Some(&[4]),
+        ("source failed", 0, 0, 0, 4, *b"cdfdhdcbrb", 5),
+    ),
+    // A fault has its place: the fonts are `dot`, `gap`, and one that is nowhere defined.
+    (&[0xab, 66], None, ("no character", 66, 118, 0, 3, NONE, 0)),
+    (&[0xad, 65], None, ("no glyph", 65, 118, 0, 3, NONE, 0)),
+    (&[0xb4, 65], None, ("no font", 9, 117, 0, 0, NONE, 0)),
+];
+
+#[test]
+fn pages_over_both_desks(rt: HostRuntime) -> Result<(), Fail> {
+    for (row, (page, cached, expected)) in ROWS.iter().enumerate() {
+        let found = told(&rt, rt.alloc(), page, *cached)?;
+        assert_eq!(rt; found, *expected, "row {row}");
     }
-}
-
-// The bytes of all rows, one after another.
-fn rows_of(alloc: Global, page: &Page) -> Result<Vec<u8>, Fail> {
-    let mut rows = Vec::new(alloc);
-    for y in 0..page.height() {
-        rows.extend_from_slice(page.row(y))?;
-    }
-    Ok(rows)
-}
-
-fn outcome_of(alloc: Global, drawn: Result<Page, PageStop>) -> Result<Outcome, Fail> {
-    match drawn {
-        Ok(page) => Ok(Outcome {
-            rows: rows_of(alloc, &page)?,
-            end: ("drawn", 0, 0),
-        }),
-        Err(stop) => Ok(Outcome {
-            rows: Vec::new(alloc),
-            end: end_of(&stop),
-        }),
-    }
-}
-
-// A letter for each call, with the first one of its key's name.
-fn letters(alloc: Global, calls: &[Entry]) -> Result<Vec<u8>, Fail> {
-    let mut letters = Vec::new(alloc);
-    for call in calls {
-        letters.push(match &call.act {
-            Act::Hit => b'h',
-            Act::Claimed => b'c',
-            Act::Busy => b'b',
-            Act::Filled { gone: None } => b'f',
-            Act::Filled { gone: Some(_) } => b'g',
-            Act::Released => b'r',
-        })?;
-        letters.push(call.key.name.bytes().first().copied().unwrap_or(b'?'))?;
-    }
-    Ok(letters)
+    Ok(())
 }

@@ -17,6 +17,3 @@ mod read;
 
 pub use faults::{PkFault, PkStop};
 pub use font::PkFont;
-
-#[cfg(test)]
-mod tests;

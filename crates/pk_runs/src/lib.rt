@@ -15,8 +15,6 @@ mod painter;
 mod plain;
 mod row_words;
 mod runs;
-#[cfg(test)]
-mod tests;
 
 pub use decode::raster;
 pub use faults::{RunFault, RunStop};

@@ -1,4 +1,4 @@
-//! Bytes as text.
+//! Bytes and numbers as text.
 
 use outside::{FileName, Library};
 use std::alloc::{AllocError as NoMemory, Global};
@@ -15,31 +15,29 @@ pub fn number(text: &str) -> io::Result<u64> {
     Ok(text.parse::<u64>().map_err(|_| ErrorKind::InvalidInput)?)
 }
 
-/// Adds numbers between commas.
-pub fn add_numbers(list: &mut Vec<u64>, text: &str) -> io::Result<()> {
-    for part in text.split(',') {
-        list.push(number(part)?)?;
+// The value of a hex digit.
+fn digit(byte: u8) -> Option<u8> {
+    match byte {
+        b'0'..=b'9' => Some(byte - b'0'),
+        b'a'..=b'f' => Some(byte - b'a' + 10),
+        _ => None,
     }
-    Ok(())
 }
 
-// The value of a hex digit.
-fn digit(byte: u8) -> u8 {
-    match byte {
-        b'0'..=b'9' => byte - b'0',
-        b'a'..=b'f' => byte - b'a' + 10,
-        _ => 0,
+// The byte of two hex digits.
+fn hex_byte(pair: &[u8]) -> Option<u8> {
+    if pair.len() != 2 {
+        return None;
     }
+    let high = digit(pair[0])?;
+    let low = digit(pair[1])?;
+    Some(high.wrapping_mul(16).wrapping_add(low))
 }
 
 // Adds the bytes of hex digits.
-fn add_hex(out: &mut Vec<u8>, digits: &[u8]) -> Result<(), NoMemory> {
+fn add_hex(bytes: &mut Vec<u8>, digits: &[u8]) -> io::Result<()> {
     for pair in digits.chunks(2) {
-        let mut byte = 0u8;
-        for each in pair {
-            byte = byte.wrapping_mul(16).wrapping_add(digit(*each));
-        }
-        out.push(byte)?;
+        bytes.push(hex_byte(pair).ok_or(ErrorKind::InvalidInput)?)?;
     }
     Ok(())
 }
@@ -58,31 +56,34 @@ impl Names {
             .add(FileName::new(alloc, name.as_bytes())?, bytes)
     }
 
-    // Adds what a part without its number is.
-    fn add_once(&self, alloc: Global, out: &mut Vec<u8>, part: &str) -> io::Result<()> {
-        match part.as_bytes().first() {
-            Some(b'\'') => out.extend_from_slice(&part.as_bytes()[1..])?,
-            Some(b'$') => {
-                let name = FileName::new(alloc, &part.as_bytes()[1..])?;
-                let Some(bytes) = self.table.get(&name) else {
-                    return Err(ErrorKind::NotFound.into());
-                };
-                out.extend_from_slice(bytes)?;
-            }
-            _ => add_hex(out, part.as_bytes())?,
-        }
+    // Adds the bytes of this name.
+    fn add_named(&self, alloc: Global, bytes: &mut Vec<u8>, name: &[u8]) -> io::Result<()> {
+        let name = FileName::new(alloc, name)?;
+        let Some(named) = self.table.get(&name) else {
+            return Err(ErrorKind::NotFound.into());
+        };
+        bytes.extend_from_slice(named)?;
         Ok(())
+    }
+
+    // Adds the bytes of a part that stands once.
+    fn add_once(&self, alloc: Global, bytes: &mut Vec<u8>, part: &str) -> io::Result<()> {
+        match part.as_bytes() {
+            [b'$', name @ ..] => self.add_named(alloc, bytes, name),
+            [b'\'', text @ ..] => Ok(bytes.extend_from_slice(text)?),
+            digits => add_hex(bytes, digits),
+        }
     }
 
     /// The bytes that a text tells.
     pub fn bytes(&self, alloc: Global, text: &str) -> io::Result<Vec<u8>> {
-        let mut all = Vec::new(alloc);
+        let mut bytes = Vec::new(alloc);
         for part in text.split('+') {
             let (once, times) = part.split_once('*').unwrap_or((part, "1"));
             for _ in 0..number(times)? {
-                self.add_once(alloc, &mut all, once)?;
+                self.add_once(alloc, &mut bytes, once)?;
             }
         }
-        Ok(all)
+        Ok(bytes)
     }
 }

@@ -1,175 +1,185 @@
-//! One case: a document, the arguments, and what fails when.
+//! One case: what a run is given, and what is told of it.
+ghost use Rattle.std.specs.Prelude.{◌≤◌};
 
-use crate::bytes::{Names, add_numbers, number};
+use crate::bytes::{Names, number};
+use crate::document::Document;
+use outside::{MemInput, MemOutput};
 use std::alloc::{AllocError as NoMemory, Global};
 use std::io::{self, ErrorKind};
+use std::mem;
 
-/// What a run is given.
+/// An input or an output: how many bytes it takes at once, and which of its calls fail.
+#[derive(Drop)]
+pub struct Stream {
+    piece: u64,
+    fails: Vec<u64>,
+}
+
+/// What a run is given, and what is told of it.
 #[derive(Drop)]
 pub struct Case {
-    pub document: Vec<u8>,
+    document: Document,
+    /// The arguments.
     pub words: Vec<String>,
-    /// How many bytes a read gives, a write takes and the notes take, and how many workers there
-    /// are.
-    pub sizes: [u64; 4],
-    /// Which reads, writes, notes and loads fail, and the fewest and the most pages to be drawn.
-    pub lists: [Vec<u64>; 5],
+    input: Stream,
+    output: Stream,
+    notes: Stream,
+    /// How many workers are at hand.
+    pub workers: u64,
+    /// Which loads of each worker's source fail.
+    pub failed_loads: Vec<u64>,
     /// How the names of files begin that can't be loaded.
-    pub front: Vec<u8>,
-    // Where the last page begins, and how many there are.
-    last: u32,
-    count: u16,
+    pub failed_files: Vec<u8>,
+    /// The fewest and the most pages that are to be drawn.
+    pub drawn: Vec<u64>,
+    /// Of each page the first letters of the fonts that it looks up.
+    pub looks: Vec<Vec<u8>>,
+    /// Which counts are told.
+    pub counts: String,
+    /// How many of the first and of the last bytes of the notes are told, where it isn't all.
+    pub note_ends: Vec<u64>,
 }
 
-// The scale of half a dot for a unit.
-static SCALE: [u8; 12] = [0, 0, 4, 0xf6, 0, 0, 0, 3, 0, 0, 3, 0xe8];
+/// The streams of a run.
+#[derive(Drop)]
+pub struct Streams {
+    pub input: MemInput,
+    pub output: MemOutput,
+    pub notes: MemOutput,
+}
 
-// Which of the sizes this is.
-fn size_of(key: &str) -> Option<usize> {
-    match key {
-        "in" => Some(0),
-        "out" => Some(1),
-        "say" => Some(2),
-        "workers" => Some(3),
-        _ => None,
+impl Stream {
+    fn new(alloc: Global) -> Stream {
+        Stream {
+            piece: 64,
+            fails: Vec::new(alloc),
+        }
     }
-}
 
-// Which of the lists this is.
-fn list_of(key: &str) -> Option<usize> {
-    match key {
-        "reads" => Some(0),
-        "writes" => Some(1),
-        "notes" => Some(2),
-        "loads" => Some(3),
-        "drawn" => Some(4),
-        _ => None,
+    // How many bytes at once.
+    fn piece(&self) -> usize
+        ensures { 1 ≤ result }
+    {
+        self.piece.max(1) as usize
+    }
+
+    // Hands the numbers of the failing calls out.
+    fn fails(&mut self, alloc: Global) -> Vec<u64> {
+        mem::replace(&mut self.fails, Vec::new(alloc))
     }
 }
 
 impl Case {
-    /// No document and no arguments; 64 bytes at once, one worker, and nothing fails.
+    /// No bytes and no arguments; 64 bytes at once, one worker, and nothing fails.
     pub fn new(alloc: Global) -> Case {
         Case {
-            document: Vec::new(alloc),
+            document: Document::new(alloc),
             words: Vec::new(alloc),
-            sizes: [64, 64, 64, 1],
-            lists: [
-                Vec::new(alloc),
-                Vec::new(alloc),
-                Vec::new(alloc),
-                Vec::new(alloc),
-                Vec::new(alloc),
-            ],
-            front: Vec::new(alloc),
-            last: u32::MAX,
-            count: 0,
+            input: Stream::new(alloc),
+            output: Stream::new(alloc),
+            notes: Stream::new(alloc),
+            workers: 1,
+            failed_loads: Vec::new(alloc),
+            failed_files: Vec::new(alloc),
+            drawn: Vec::new(alloc),
+            looks: Vec::new(alloc),
+            counts: String::new(alloc),
+            note_ends: Vec::new(alloc),
         }
     }
 
-    // Begins a document with these definitions.
-    fn begin(&mut self, fonts: &[u8]) -> Result<(), NoMemory> {
-        self.document.extend_from_slice(&[0xf7, 2])?;
-        self.document.extend_from_slice(&SCALE)?;
-        self.document.push(0)?;
-        self.document.extend_from_slice(fonts)
+    // Sets a number. Says whether there is one of this name.
+    fn set(&mut self, key: &str, value: u64) -> bool {
+        match key {
+            "read" => self.input.piece = value,
+            "write" => self.output.piece = value,
+            "note" => self.notes.piece = value,
+            "workers" => self.workers = value,
+            _ => return false,
+        }
+        true
     }
 
-    // Adds a page.
-    fn page(&mut self, page: &[u8]) -> Result<(), NoMemory> {
-        let begin = u32::try_from(self.document.len()).unwrap_or(0);
-        self.document.push(0x8b)?;
-        self.document.extend_from_slice(&[0u8; 40])?;
-        self.document.extend_from_slice(&self.last.to_be_bytes())?;
-        self.document.extend_from_slice(page)?;
-        self.document.push(0x8c)?;
-        self.last = begin;
-        self.count = self.count.wrapping_add(1);
+    // Adds to a list of numbers.
+    fn add(&mut self, key: &str, value: u64) -> io::Result<()> {
+        match key {
+            "failed_reads" => self.input.fails.push(value)?,
+            "failed_writes" => self.output.fails.push(value)?,
+            "failed_notes" => self.notes.fails.push(value)?,
+            "failed_loads" => self.failed_loads.push(value)?,
+            "drawn" => self.drawn.push(value)?,
+            "note_ends" => self.note_ends.push(value)?,
+            _ => return Err(ErrorKind::InvalidInput.into()),
+        }
         Ok(())
     }
 
-    // Ends the document, with the same definitions.
-    fn end(&mut self, fonts: &[u8]) -> Result<(), NoMemory> {
-        let post = u32::try_from(self.document.len()).unwrap_or(0);
-        self.document.push(0xf8)?;
-        self.document.extend_from_slice(&self.last.to_be_bytes())?;
-        self.document.extend_from_slice(&SCALE)?;
-        self.document.extend_from_slice(&[0u8; 10])?;
-        self.document.extend_from_slice(&self.count.to_be_bytes())?;
-        self.document.extend_from_slice(fonts)?;
-        self.document.push(0xf9)?;
-        self.document.extend_from_slice(&post.to_be_bytes())?;
-        self.document.extend_from_slice(&[2, 223, 223, 223, 223])
+    // Takes numbers in that stand between commas.
+    fn take_numbers(&mut self, key: &str, text: &str) -> io::Result<()> {
+        for part in text.split(',') {
+            let value = number(part)?;
+            if !self.set(key, value) {
+                self.add(key, value)?;
+            }
+        }
+        Ok(())
     }
 
-    // Adds pages, all of them n times.
-    fn pages(&mut self, alloc: Global, names: &Names, text: &str) -> io::Result<()> {
+    // Takes the looks of pages in, all of them n times.
+    fn take_looks(&mut self, alloc: Global, text: &str) -> io::Result<()> {
         let (times, list) = text.split_once(':').unwrap_or(("1", text));
         for _ in 0..number(times)? {
             for page in list.split(',') {
-                self.page(&names.bytes(alloc, page)?)?;
+                self.looks.push(Vec::from_slice(alloc, page.as_bytes())?)?;
             }
         }
         Ok(())
     }
 
-    // Changes bytes of the document from a place on.
-    fn change(&mut self, alloc: Global, names: &Names, text: &str) -> io::Result<()> {
-        let (at, text) = text.split_once(':').unwrap_or(("0", text));
-        let at = number(at)? as usize;
-        let new = names.bytes(alloc, text)?;
-        for (byte, new) in self.document.iter_mut().skip(at).zip(&new) {
-            *byte = *new;
-        }
+    // Takes an argument in.
+    fn take_word(&mut self, alloc: Global, word: &str) -> Result<(), NoMemory> {
+        self.words.push(String::from_str(alloc, word)?)?;
         Ok(())
     }
 
-    // Takes a part of the document.
-    fn take_part(&mut self, alloc: Global, names: &Names, key: &str, text: &str) -> io::Result<()> {
-        match key {
-            "pages" => self.pages(alloc, names, text),
-            "at" => self.change(alloc, names, text),
-            "cut" => {
-                self.document.truncate(number(text)? as usize);
-                Ok(())
-            }
-            _ => {
-                let bytes = names.bytes(alloc, text)?;
-                match key {
-                    "doc" => self.document.extend_from_slice(&bytes)?,
-                    "pre" => self.begin(&bytes)?,
-                    "post" => self.end(&bytes)?,
-                    "front" => self.front = bytes,
-                    _ => return Err(ErrorKind::InvalidInput.into()),
-                }
-                Ok(())
-            }
-        }
-    }
-
-    /// Takes a field in: an argument, which begins with a hyphen, or `KEY=VALUE`. The document is
-    /// what the fields `doc` (bytes), `pre` (its beginning, with these definitions), `pages`
-    /// (bytes between commas, all `N:` times), `post` (its end), `at` (`N:` and bytes that are
-    /// there from byte N on) and `cut` (its first N bytes) make in turn. `front` is how the names
-    /// of files begin that can't be loaded; the other keys are those of sizes and lists.
+    /// Takes a field in, which is an argument where it begins with a hyphen, and else
+    /// `KEY=VALUE`.
     pub fn take(&mut self, alloc: Global, names: &Names, field: &str) -> io::Result<()> {
         if field.starts_with('-') {
-            self.words.push(String::from_str(alloc, field)?)?;
-            return Ok(());
+            return Ok(self.take_word(alloc, field)?);
         }
         let (key, value) = field.split_once('=').unwrap_or((field, ""));
-        if let Some(k) = size_of(key) {
-            if k < 4 {
-                self.sizes[k] = number(value)?;
+        match key {
+            "word" => Ok(self.take_word(alloc, value)?),
+            "looks" => self.take_looks(alloc, value),
+            "counts" => Ok(self.counts.push_str(value)?),
+            "failed_files" => Ok(self.failed_files.extend_from_slice(value.as_bytes())?),
+            "doc" | "at" | "cut" | "fonts" | "pages" => {
+                self.document.take(alloc, names, key, value)
             }
-            return Ok(());
+            _ => self.take_numbers(key, value),
         }
-        if let Some(k) = list_of(key) {
-            if k < 5 {
-                add_numbers(&mut self.lists[k], value)?;
+    }
+
+    /// The streams, which takes the document and the lists of failing calls out.
+    pub fn streams(&mut self, alloc: Global) -> Result<Streams, NoMemory> {
+        let document = self.document.finish(alloc)?;
+        Ok(Streams {
+            input: MemInput::new(document, self.input.piece(), self.input.fails(alloc)),
+            output: MemOutput::new(alloc, self.output.piece(), self.output.fails(alloc)),
+            notes: MemOutput::new(alloc, self.notes.piece(), self.notes.fails(alloc)),
+        })
+    }
+
+    /// The number that an argument `NAME=N` gives, or else another one.
+    pub fn setting(&self, name: &str, other: u64) -> u64 {
+        for word in &self.words {
+            if let Some((key, value)) = word.split_once('=') {
+                if key == name {
+                    return number(value).unwrap_or(other);
+                }
             }
-            return Ok(());
         }
-        self.take_part(alloc, names, key, value)
+        other
     }
 }

@@ -3,19 +3,20 @@ ghost use Rattle.std.specs.Prelude.{◌<◌, ◌^◌};
 
 use outside::{FileName, FontSource, Library, LoadStop};
 
-/// A library of which the numbered loads fail, and those of files whose names begin so.
+/// Files of which the numbered loads fail, and those of files whose names begin so.
 #[derive(Drop)]
 pub struct Fonts<'a> {
-    pub library: &'a Library,
-    pub fails: &'a [u64],
-    pub front: &'a [u8],
+    library: &'a Library,
+    fails: &'a [u64],
+    front: &'a [u8],
+    /// How many loads were asked for.
     pub loads: u64,
-    pub faults: u64,
+    faults: u64,
     ghost loads_fit: { loads < 2 ^ 64 },
 }
 
 impl<'a> Fonts<'a> {
-    /// No load yet.
+    /// No load yet. With no front no name begins so.
     pub fn new(library: &'a Library, fails: &'a [u64], front: &'a [u8]) -> Fonts<'a> {
         Fonts {
             library,
@@ -26,7 +27,7 @@ impl<'a> Fonts<'a> {
         }
     }
 
-    // Whether the next load fails.
+    // Whether this load, of this file, fails.
     fn is_failing(&self, name: &[u8]) -> bool {
         self.fails.contains(&self.loads) || (!self.front.is_empty() && name.starts_with(self.front))
     }

@@ -14,6 +14,3 @@ mod trace;
 pub use counts::Counts;
 pub use summary::put_summary;
 pub use trace::put_trace;
-
-#[cfg(test)]
-mod tests;

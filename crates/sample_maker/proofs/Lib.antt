@@ -13,7 +13,6 @@ pub mod DviSize
 pub mod VfItems
 pub mod Loops
 pub mod VfRead
-pub mod PkRasters
 pub mod PkForms
 pub mod PkAppended
 pub mod PkRead

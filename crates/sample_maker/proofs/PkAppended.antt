@@ -6,7 +6,8 @@ use Rattle.std.proofs.lemmas.Int.{ints}
 use Rattle.big_endian.specs.Numbers.{IsSigned, number_bytes, weight}
 use Rattle.pk_runs.specs.declared.glyph.Glyph.{Glyph}
 use Rattle.pk_packets.specs.Written.{extended_packet, long_packet, short_packet}
-use Rattle.sample_maker.specs.PkFile.{fields, has_form, packet_item, plain_bytes, sides}
+use Rattle.pk_packer.specs.Choice.{plain_bytes}
+use Rattle.sample_maker.specs.PkFile.{fields, has_form, packet_item, sides}
 
 pub on_ok : {A E : Type 0} (r : Result A E) (a b c : List ℕ) → a ≡ (if is_ok r then b else c) → OnOk r (a ≡ b)
 on_ok (Ok x) a b c e = e

@@ -13,8 +13,9 @@ use Rattle.pk_packets.specs.Packets.{code_of, dyn_f_of, fixed_size, raster_heigh
 use Rattle.pk_packets.specs.Fonts.{HasRaster, IsGlyphOf}
 use Rattle.pk_packets.specs.Written.{Fields, Fit, IsReadAs, extended_packet, flag_with, long_packet, packet_bytes, short_packet}
 use Rattle.pk_packets.proofs.Forms.{extended_packets_are_read_again, long_packets_are_read_again, short_packets_are_read_again}
-use Rattle.sample_maker.specs.PkFile.{IsMeasured, fields, has_form, is_signed, packet_item, plain_bytes, seen_glyph, seen_raster}
-use Rattle.sample_maker.proofs.PkRasters.{length_of_bytes, raster_again}
+use Rattle.pk_packer.specs.Choice.{plain_bytes, raster_by_pixels}
+use Rattle.sample_maker.specs.PkFile.{IsMeasured, fields, has_form, is_signed, packet_item, seen_glyph}
+use Rattle.pk_packer.proofs.PlainBits.{length_of_bytes, raster_again}
 
 -- ---- the numbers that a form holds
 
@@ -91,17 +92,17 @@ pub record IsPacketFor (p : ℕ × Glyph) (bytes : List ℕ) : Type 0 where
   pub long : fixed_size (opcode bytes) ≤ told_size bytes
   pub width : raster_width bytes ≡ p.1.raster.width
   pub height : raster_height bytes ≡ p.1.raster.height
-  pub raster : HasRaster bytes (seen_raster p.1.raster)
+  pub raster : HasRaster bytes (raster_by_pixels p.1.raster)
   pub glyph : IsGlyphOf bytes (seen_glyph p.1)
 
 says : (p : ℕ × Glyph) (e : ℕ) (bytes : List ℕ) → IsReadAs bytes (fields e p) → fixed_size (opcode bytes) ≤ told_size bytes → IsPacketFor p bytes
 says p e bytes is long =
     let r = p.1.raster in
-    let whole : HasRaster bytes (seen_raster r) =
-    subst (λ (b : List ℕ). IsRaster b (dyn_f_of bytes) (is_first_black bytes) (raster_width bytes) (raster_height bytes) (seen_raster r)) (sym is.raster)
-    (subst (λ (d : ℕ). IsRaster (plain_bytes r) d (is_first_black bytes) (raster_width bytes) (raster_height bytes) (seen_raster r)) (sym is.dyn_f)
-    (subst (λ (w : ℕ). IsRaster (plain_bytes r) 14 (is_first_black bytes) w (raster_height bytes) (seen_raster r)) (sym is.width)
-    (subst (λ (h : ℕ). IsRaster (plain_bytes r) 14 (is_first_black bytes) r.width h (seen_raster r)) (sym is.height) (raster_again r (is_first_black bytes))))) in
+    let whole : HasRaster bytes (raster_by_pixels r) =
+    subst (λ (b : List ℕ). IsRaster b (dyn_f_of bytes) (is_first_black bytes) (raster_width bytes) (raster_height bytes) (raster_by_pixels r)) (sym is.raster)
+    (subst (λ (d : ℕ). IsRaster (plain_bytes r) d (is_first_black bytes) (raster_width bytes) (raster_height bytes) (raster_by_pixels r)) (sym is.dyn_f)
+    (subst (λ (w : ℕ). IsRaster (plain_bytes r) 14 (is_first_black bytes) w (raster_height bytes) (raster_by_pixels r)) (sym is.width)
+    (subst (λ (h : ℕ). IsRaster (plain_bytes r) 14 (is_first_black bytes) r.width h (raster_by_pixels r)) (sym is.height) (raster_again r (is_first_black bytes))))) in
     record {
       item = is.item;
       kind = is.kind;

@@ -8,36 +8,11 @@ use Rattle.packed_rows.specs.Bitmap.{Bitmap, from_fn, is_black}
 use Rattle.packed_rows.proofs.Lists.{get_or-from_fn, length-from_fn}
 use Rattle.pk_runs.specs.declared.glyph.Glyph.{Glyph}
 use Rattle.pk_packets.specs.Written.{Fit}
-use Rattle.sample_maker.specs.PkFile.{FilesAreMultiplesOfFour, PacketsHaveTheFirstForm, PlainBitmapsArePacked, ShapedRastersAreSeenWhole, fields, has_form, is_signed, no_ops_after, pk_file, pk_items, plain_bytes, seen_raster}
-use Rattle.sample_maker.proofs.PkRasters.{padded_bytes, pixel_again}
+use Rattle.pk_packer.specs.Choice.{plain_bytes}
+use Rattle.sample_maker.specs.PkFile.{FilesAreMultiplesOfFour, PacketsHaveTheFirstForm, fields, has_form, is_signed, no_ops_after, pk_file, pk_items}
+use Rattle.pk_packer.proofs.PlainBits.{padded_bytes, pixel_again}
 use Rattle.sample_maker.proofs.PkForms.{extended_fits, held, short_fits}
 use Rattle.sample_maker.proofs.PkAppended.{extended_item, long_item, short_item}
-
--- ---- rasters
-
-pub shaped_rasters_are_seen_whole : ShapedRastersAreSeenWhole
-shaped_rasters_are_seen_whole r shaped = ap with_rows (ext_get_or [] (seen_raster r).rows r.rows (tall ∙ sym shaped.rows) row)
-  where
-    with_rows : List (List Bool) → Bitmap
-    with_rows rows = record { width = r.width; height = r.height; rows = rows }
-
-    seen_row : ℕ → List Bool
-    seen_row y = from_fn r.width (λ x. is_black r x y)
-
-    tall : length (seen_raster r).rows ≡ r.height
-    tall = length-from_fn r.height seen_row
-
-    same : (y : ℕ) → y < r.height → seen_row y ≡ get_or r.rows y []
-    same y inside = ext_get_or false (seen_row y) (get_or r.rows y []) (wide ∙ sym (shaped.columns y inside)) (λ x h. get_or-from_fn r.width (λ k. is_black r k y) x false (omega (arith, h, wide)))
-      where
-        wide : length (seen_row y) ≡ r.width
-        wide = length-from_fn r.width (λ x. is_black r x y)
-
-    row : (y : ℕ) → y < length (seen_raster r).rows → get_or (seen_raster r).rows y [] ≡ get_or r.rows y []
-    row y h = let inside : y < r.height = omega (arith, h, tall) in get_or-from_fn r.height seen_row y [] inside ∙ same y inside
-
-pub plain_bitmaps_are_packed : PlainBitmapsArePacked
-plain_bitmaps_are_packed r = (padded_bytes r, λ x y in_row inside. sym (pixel_again r x y in_row inside))
 
 -- ---- the forms
 

@@ -12,7 +12,8 @@ use Rattle.pk_packets.specs.Packets.{raster_height, raster_size, raster_sum, ras
 use Rattle.pk_packets.specs.Fonts.{AreSound, IsAnswer, IsPkFile}
 use Rattle.pk_packets.proofs.Added.{answered, within_limits}
 use Rattle.pk_packets.proofs.OneMeaning.{files_are_read_one_way}
-use Rattle.sample_maker.specs.PkFile.{IsMeasured, glyph_given, have_own_codes, no_ops_after, packet_item, pk_file, pk_items, pk_preamble, seen_glyph, seen_raster, size_sum}
+use Rattle.pk_packer.specs.Choice.{raster_by_pixels}
+use Rattle.sample_maker.specs.PkFile.{IsMeasured, glyph_given, have_own_codes, no_ops_after, packet_item, pk_file, pk_items, pk_preamble, seen_glyph, size_sum}
 use Rattle.sample_maker.proofs.PkForms.{IsPacketFor, packet_says}
 
 -- ---- packets after those before them, the last one first
@@ -54,7 +55,7 @@ sound_after (p ∷ glyphs) before m are sound few =
     let size = size_of p item is in
     let within = within_limits item before is.long narrow low (omega (arith, few, size)) in
     sound_after glyphs (item ∷ before) (λ k q lt. m (suc k) q (omega (arith, lt))) are.1
-    (sound, is.item, λ _. (within, seen_raster p.1.raster, is.raster))
+    (sound, is.item, λ _. (within, raster_by_pixels p.1.raster, is.raster))
     (omega (arith, few, sum_after p item before is))
 
 -- ---- the glyphs

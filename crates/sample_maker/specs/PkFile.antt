@@ -6,6 +6,7 @@ use Rattle.big_endian.specs.Numbers.{IsSigned, number_bytes}
 use Rattle.packed_rows.specs.Bitmap.{Bitmap, IsShaped, from_fn, is_black}
 use Rattle.packed_rows.specs.Packing.{IsPadded, pixel, row_text}
 use Rattle.pk_runs.specs.declared.glyph.Glyph.{Glyph}
+use Rattle.pk_packer.specs.Choice.{plain_bytes, raster_by_pixels}
 use Rattle.pk_packets.specs.Written.{Fields, Fit, extended_packet, long_packet, short_packet}
 use Rattle.pk_runs.specs.Limits.{LONGEST_SIDE}
 
@@ -21,16 +22,9 @@ abbrev pub size_sum : List (ℕ × Glyph) → ℕ
 size_sum [] = 0
 size_sum (p ∷ glyphs) = p.1.raster.height * div_ceil p.1.raster.width 8 + size_sum glyphs
 
--- a raster by its pixels
-abbrev pub seen_raster : Bitmap → Bitmap
-seen_raster r = record {
-  width = r.width;
-  height = r.height;
-  rows = from_fn r.height (λ y. from_fn r.width (λ x. is_black r x y));
-}
-
+-- a glyph, its raster by its pixels
 abbrev pub seen_glyph : Glyph → Glyph
-seen_glyph g = record { raster = seen_raster g.raster; hoff = g.hoff; voff = g.voff }
+seen_glyph g = record { raster = raster_by_pixels g.raster; hoff = g.hoff; voff = g.voff }
 
 -- the glyph of a code, where one is given
 abbrev pub glyph_given : List (ℕ × Glyph) → ℕ → Option Glyph
@@ -47,16 +41,6 @@ pub record IsBounded (g : Glyph) : Type 0 where
 pub record IsMeasured (p : ℕ × Glyph) : Type 0 where
   pub code : p.0 < 256
   pub glyph : IsBounded p.1
-
--- ---- a plain bitmap
-
--- row after row without padding between them
-unfoldable pub plain_pixels : Bitmap → List Bool
-plain_pixels r = from_fn (r.width * r.height) (λ i. is_black r (i % r.width) (i / r.width))
-
--- eight pixels a byte, the first in the high bit, and zero bits after the last one
-unfoldable pub plain_bytes : Bitmap → List ℕ
-plain_bytes r = row_text (plain_pixels r)
 
 -- ---- a packet
 
@@ -120,17 +104,6 @@ pk_file glyphs =
     pk_items glyphs ++ 245 ∷ replicate (no_ops_after (length (pk_items glyphs))) 246
 
 -- ---- laws
-
--- a raster whose rows have its size is what is seen of it
-abbrev pub ShapedRastersAreSeenWhole : Type 0
-ShapedRastersAreSeenWhole = (r : Bitmap) → IsShaped r → seen_raster r ≡ r
-
--- a plain bitmap has as few bytes as its pixels take, and no bit after the last; the pixels of a
--- row stand after those of the rows above it
-abbrev pub PlainBitmapsArePacked : Type 0
-PlainBitmapsArePacked = (r : Bitmap) → IsPadded (r.width * r.height) (plain_bytes r)
-    × ((x y : ℕ) → x < r.width → y < r.height
-    → pixel (plain_bytes r) (y * r.width + x) ≡ is_black r x y)
 
 -- a packet has the short form where that holds its numbers, else the extended form where that does,
 -- else the long one

@@ -1,6 +1,6 @@
 //! What is true of the sample and of made PK files, each law the contract of a function without a
 //! body.
-ghost use Rattle.sample_maker.specs.PkFile.{FilesAreMultiplesOfFour, PacketsHaveTheFirstForm, PlainBitmapsArePacked, ShapedRastersAreSeenWhole};
+ghost use Rattle.sample_maker.specs.PkFile.{FilesAreMultiplesOfFour, PacketsHaveTheFirstForm};
 ghost use Rattle.sample_maker.specs.Sample.{FilesAreTheSix, GlyphsAreRead, MetricsAreRead, SamplesAreDocuments, SamplesFit, SamplesGiveBack, VirtualFontIsRead};
 
 /// Each sample is a document, at any resolution, and not longer than a document may be; its reading
@@ -20,12 +20,8 @@ pub fn font_files()
     ensures glyphs { GlyphsAreRead }
 {}
 
-/// A raster is what is seen of its pixels. A plain bitmap has as few bytes as its pixels take, and
-/// its last bits are zero. A packet has the first form that holds its numbers. A made file has a
-/// multiple of four bytes.
+/// A packet has the first form that holds its numbers. A made file has a multiple of four bytes.
 pub fn pk_files()
-    ensures seen { ShapedRastersAreSeenWhole }
-    ensures packed { PlainBitmapsArePacked }
     ensures forms { PacketsHaveTheFirstForm }
     ensures words { FilesAreMultiplesOfFour }
 {}

@@ -17,6 +17,3 @@ pub use pk::pk_bytes;
 pub use samples::sample;
 pub use tfm::tfm_bytes;
 pub use vf::vf_bytes;
-
-#[cfg(test)]
-mod tests;

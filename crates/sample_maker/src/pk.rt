@@ -2,12 +2,13 @@
 ghost use Rattle.std.specs.Prelude.{◌≡◌, ℕ, ◌*◌, ◌^◌, ◌<◌, ◌≤◌, ◌++◌, ◌∷◌, List, All, IfOk, IsTrue, OnOk, drop, false, length, pos, replicate, slice_index_or};
 ghost use Rattle.std.specs.List.{flat_map};
 ghost use Rattle.big_endian.specs.Numbers.{IsSigned, number_bytes};
-ghost use Rattle.packed_rows.specs.Packing.{bits_value};
+ghost use Rattle.pk_packer.specs.Choice.{plain_bytes};
 ghost use Rattle.pk_packets.specs.Fonts.{IsAnswer, IsPkFile};
 ghost use Rattle.pk_packets.specs.Written.{extended_packet, long_packet, short_packet};
-ghost use Rattle.sample_maker.specs.PkFile.{IsBounded, IsMeasured, fields, glyph_given, has_form, have_own_codes, is_signed, no_ops_after, packet_item, pk_file, plain_bytes, plain_pixels, sides, size_sum};
 ghost use Rattle.pk_runs.specs.Limits.{LONGEST_SIDE};
+ghost use Rattle.sample_maker.specs.PkFile.{IsBounded, IsMeasured, fields, glyph_given, has_form, have_own_codes, is_signed, no_ops_after, packet_item, pk_file, sides, size_sum};
 
+use pk_packer::{append_plain, plain_size};
 use pk_runs::{Glyph, Raster};
 use std::alloc::{AllocError as NoMemory, Global};
 
@@ -16,58 +17,21 @@ const PLAIN: u8 = 14 << 4;
 
 // ---- the bitmap
 
-// How many pixels a raster has.
-fn area(raster: &Raster) -> usize
-    ensures area { result ≡ raster.now.width * raster.now.height }
-    ensures few { result ≤ 2 ^ 28 }
-    ensures narrow { raster.now.width ≤ LONGEST_SIDE }
-    ensures low { raster.now.height ≤ LONGEST_SIDE }
-{
-    raster.width() as usize * raster.height() as usize
-}
-
-// How many bytes its plain bitmap takes.
-#[tactic(auto, using(crate::proofs::PkRasters::length_of_bytes))]
+// How many bytes a raster's plain bitmap takes.
 fn byte_count(raster: &Raster) -> usize
     ensures count { result ≡ length (plain_bytes raster.now) }
     ensures few { result ≤ 2 ^ 25 }
     ensures narrow { raster.now.width ≤ LONGEST_SIDE }
     ensures low { raster.now.height ≤ LONGEST_SIDE }
 {
-    area(raster).div_ceil(8)
-}
-
-// Whether a pixel is black, by its place, counted row after row. White after the last pixel.
-fn is_dark(raster: &Raster, place: usize) -> bool
-    ensures { result ≡ slice_index_or (plain_pixels raster.now) place false }
-{
-    if place >= area(raster) {
-        return false;
-    }
-    let w = raster.width() as usize;
-    raster.black((place % w) as u32, (place / w) as u32)
-}
-
-// The byte of eight pixels from a place on, the first in the high bit.
-fn byte_at(raster: &Raster, start: usize) -> u8
-    requires { start < 2 ^ 32 }
-    ensures { result ≡ bits_value 8 (drop start (plain_pixels raster.now)) }
-{
-    let mut byte = 0;
-    for k in 0..8 {
-        byte = 2 * byte + u8::from(is_dark(raster, start + k));
-    }
-    byte
+    plain_size(raster.bits())
 }
 
 // Appends the plain bitmap.
 fn append_raster(raster: &Raster, out: &mut Vec<u8>) -> Result<(), NoMemory>
     ensures { OnOk result (out.new.items ≡ out.old.items ++ plain_bytes raster.now) }
 {
-    for i in 0..byte_count(raster) {
-        out.push(byte_at(raster, 8 * i))?;
-    }
-    Ok(())
+    append_plain(raster.bits(), out)
 }
 
 // ---- the numbers

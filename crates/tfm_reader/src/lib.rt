@@ -12,6 +12,3 @@ pub mod worked;
 
 pub use faults::{TfmFault, TfmStop};
 pub use tfm::Tfm;
-
-#[cfg(test)]
-mod tests;

@@ -20,6 +20,3 @@ mod read;
 pub use faults::{VfFault, VfStop};
 pub use font::VfFont;
 pub use locals::LocalDef;
-
-#[cfg(test)]
-mod tests;

@@ -1,51 +1,62 @@
 //! The names of a font's files.
 ghost use Rattle.std.specs.Prelude.{◌<◌};
 
-use super::{UNITS, key};
+use super::{Named, UNITS, key};
 use font_decode::{dpi, file_name, is_valid_name, laws};
+use outside::FileName;
 use pixel_round::Units;
 use std::alloc::Global;
-use std::process::Abort;
+use std::str;
 use std::test::Fail;
 
-// This is the name of a file of the font `dot`.
-fn assert_named(rt: &impl Abort, alloc: Global, which: usize, bytes: &[u8]) -> Result<(), Fail>
-    requires { which < 5 }
-{
-    let key = key(alloc, b"dot", 128)?;
-    if !is_valid_name(&key) || !matches!(dpi(&UNITS, &key), 1..=1_000_000) {
-        return Err(Fail::from("no file of the font is looked for"));
+// A magnification, a font, and the resolution of its PK file.
+static RESOLUTIONS: [(u32, Named, u128); 3] = [
+    (1000, (b"dot", 128, 128), 300),
+    (2000, (b"dot", 128, 128), 600),
+    // A half, up.
+    (1000, (b"dot", 1, 600), 1),
+];
+
+// The resolution of a font's PK file at a magnification.
+fn resolution(alloc: Global, mag: u32, font: &Named) -> Result<u128, Fail> {
+    if !matches!(mag, 1..=2000) {
+        return Err(Fail::from("a magnification out of range"));
     }
-    let name = file_name(alloc, &key, &UNITS, which)?;
-    assert_eq!(rt; name.bytes(), bytes);
-    Ok(())
+    let units = Units {
+        num: 1270,
+        den: 3,
+        mag,
+        res: 300,
+    };
+    Ok(dpi(&units, &key(alloc, font)?))
 }
 
 #[test]
 fn resolutions_of_packed_fonts(rt: HostRuntime) -> Result<(), Fail> {
-    let mut dot = key(rt.alloc(), b"dot", 128)?;
-    assert_eq!(rt; dpi(&UNITS, &dot), 300);
-    let twice = Units {
-        num: 1270,
-        den: 3,
-        mag: 2000,
-        res: 300,
-    };
-    assert_eq!(rt; dpi(&twice, &dot), 600);
-    dot.size = 1;
-    dot.design = 600;
-    assert_eq!(rt; dpi(&UNITS, &dot), 1, "a half, up");
     laws::names();
     laws::answers();
+    for (row, (mag, font, want)) in RESOLUTIONS.iter().enumerate() {
+        assert_eq!(rt; resolution(rt.alloc(), *mag, font)?, *want, "row {row}");
+    }
     Ok(())
+}
+
+static NAMES: [&str; 5] = ["dot.tfm", "dot.vf", "dot.300pk", "dot.301pk", "dot.299pk"];
+
+// The name of one of the files of `dot`.
+fn name_of(alloc: Global, which: usize) -> Result<FileName, Fail> {
+    let dot = key(alloc, &(b"dot", 128, 128))?;
+    if which >= 5 || !is_valid_name(&dot) || !matches!(dpi(&UNITS, &dot), 1..=1_000_000) {
+        return Err(Fail::from("no such file of the font is looked for"));
+    }
+    Ok(file_name(alloc, &dot, &UNITS, which)?)
 }
 
 #[test]
 fn names_of_files(rt: HostRuntime) -> Result<(), Fail> {
-    assert_named(&rt, rt.alloc(), 0, b"dot.tfm")?;
-    assert_named(&rt, rt.alloc(), 1, b"dot.vf")?;
-    assert_named(&rt, rt.alloc(), 2, b"dot.300pk")?;
-    assert_named(&rt, rt.alloc(), 3, b"dot.301pk")?;
-    assert_named(&rt, rt.alloc(), 4, b"dot.299pk")?;
+    for (which, want) in NAMES.iter().enumerate() {
+        let name = name_of(rt.alloc(), which)?;
+        assert_eq!(rt; str::from_utf8(name.bytes()).ok(), Some(*want));
+    }
     Ok(())
 }

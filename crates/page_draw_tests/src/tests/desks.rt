@@ -1,102 +1,126 @@
 //! One page over both desks.
 
-use super::files::{begin, finish, fonts};
-use super::{Outcome, letters, outcome_of};
-use dvi_commands::{Command, write_command};
-use page_draw::{PlainDesk, Sheet, SoloDesk, draw};
+use super::Told;
+use super::files::{document, fonts};
+use cache_core::{Act, Entry};
+use outside::MemFonts;
+use page_draw::{PageStop, PlainDesk, Sheet, SoloDesk, draw};
 use page_index::Index;
+use raster_page::Page;
 use std::alloc::Global;
 use std::sync::Wait;
 use std::test::Fail;
+use vf_expand::PageFault;
 
-/// The first page of a document over the desk without a cache, and how often its source was asked.
-pub fn over_plain<R: Wait>(rt: &R, alloc: Global, bytes: &[u8]) -> Result<(Outcome, usize), Fail> {
-    let Ok(index) = Index::read(alloc, bytes, 300) else {
-        return Err(Fail::from("no document"));
-    };
-    if index.pages() == 0 {
-        return Err(Fail::from("no page"));
+static SHEET: Sheet = Sheet {
+    width: 16,
+    height: 2,
+    left: 0,
+    top: 1,
+};
+
+// How a page ended: why and where it stopped, with the number that the fault names.
+fn end_of(drawn: &Result<Page, PageStop>) -> (&'static str, i32, usize) {
+    match drawn {
+        Ok(_) => ("drawn", 0, 0),
+        Err(PageStop::Fault { fault, at }) => match fault {
+            PageFault::NoFont(number) => ("no font", *number, *at),
+            PageFault::NoCharacter(_, code) => ("no character", *code, *at),
+            PageFault::NoGlyph(_, code) => ("no glyph", *code, *at),
+            _ => ("another fault", 0, *at),
+        },
+        Err(PageStop::SourceFault) => ("source failed", 0, 0),
+        Err(PageStop::NoMemory) => ("no memory", 0, 0),
     }
-    let sheet = Sheet {
-        width: 16,
-        height: 2,
-        left: 0,
-        top: 1,
-    };
-    let mut desk = PlainDesk::new(fonts(alloc, &[])?, index.units());
-    let drawn = draw(rt, alloc, &mut desk, &(), &index, 0, &sheet);
-    let source = desk.finish();
-    let loads = match source.asked() {
+}
+
+// The bytes of all rows, one after another, as one number, or 0 where there is no page.
+fn dots_of(drawn: &Result<Page, PageStop>) -> u64 {
+    let mut dots = 0u64;
+    if let Ok(page) = drawn {
+        for y in 0..page.height() {
+            for byte in page.row(y) {
+                dots = dots.wrapping_mul(256) | u64::from(*byte);
+            }
+        }
+    }
+    dots
+}
+
+// A letter for each of the first five calls, with the first one of its key's name.
+fn letters_of(calls: &[Entry]) -> [u8; 10] {
+    let mut letters = [b' '; 10];
+    for (at, call) in calls.iter().enumerate() {
+        if at < 5 {
+            letters[2 * at] = match &call.act {
+                Act::Hit => b'h',
+                Act::Claimed => b'c',
+                Act::Busy => b'b',
+                Act::Filled { gone: None } => b'f',
+                Act::Filled { gone: Some(_) } => b'g',
+                Act::Released => b'r',
+            };
+            letters[2 * at + 1] = call.key.name.bytes().first().copied().unwrap_or(b'?');
+        }
+    }
+    letters
+}
+
+fn loads_of(source: &MemFonts) -> usize {
+    match source.asked() {
         Some(names) => names.len(),
         None => 0,
-    };
-    Ok((outcome_of(alloc, drawn)?, loads))
+    }
 }
 
-// The first page of a document over the desk with a cache of one font, and the calls of its seat,
-// where these loads fail.
-fn over_solo<R: Wait>(
-    rt: &R,
-    alloc: Global,
-    bytes: &[u8],
-    fails: &[u64],
-) -> Result<(Outcome, Vec<u8>), Fail> {
-    let Ok(index) = Index::read(alloc, bytes, 300) else {
-        return Err(Fail::from("no document"));
-    };
+fn told_of(drawn: &Result<Page, PageStop>, source: &MemFonts, calls: &[Entry]) -> Told {
+    let (end, number, at) = end_of(drawn);
+    (
+        end,
+        number,
+        at,
+        dots_of(drawn),
+        loads_of(source),
+        letters_of(calls),
+        calls.len(),
+    )
+}
+
+// What the first page comes to over the desk without a cache.
+fn over_plain<R: Wait>(rt: &R, alloc: Global, index: &Index) -> Result<Told, Fail> {
     if index.pages() == 0 {
         return Err(Fail::from("no page"));
     }
-    let sheet = Sheet {
-        width: 16,
-        height: 2,
-        left: 0,
-        top: 1,
-    };
+    let mut desk = PlainDesk::new(fonts(alloc, &[])?, index.units());
+    let drawn = draw(rt, alloc, &mut desk, &(), index, 0, &SHEET);
+    Ok(told_of(&drawn, &desk.finish(), &[]))
+}
+
+// What it comes to over the desk with a cache of one font, where these loads fail.
+fn over_solo<R: Wait>(rt: &R, alloc: Global, index: &Index, fails: &[u64]) -> Result<Told, Fail> {
+    if index.pages() == 0 {
+        return Err(Fail::from("no page"));
+    }
     let mut desk = SoloDesk::new(alloc, fonts(alloc, fails)?, index.units(), 1)?;
-    let drawn = draw(rt, alloc, &mut desk, &(), &index, 0, &sheet);
-    let (_, calls) = desk.finish();
-    Ok((outcome_of(alloc, drawn)?, letters(alloc, &calls)?))
+    let drawn = draw(rt, alloc, &mut desk, &(), index, 0, &SHEET);
+    let (source, calls) = desk.finish();
+    Ok(told_of(&drawn, &source, &calls))
 }
 
-// Five characters, each four dots on from the one before, the third and fourth at one place. Font 0
-// is made current twice.
-fn five(alloc: Global) -> Result<Vec<u8>, Fail> {
-    let mut bytes = Vec::new(alloc);
-    begin(alloc, &mut bytes)?;
-    write_command(alloc, &Command::Font(0), &mut bytes)?;
-    write_command(alloc, &Command::Set(65), &mut bytes)?;
-    write_command(alloc, &Command::Set(65), &mut bytes)?;
-    write_command(alloc, &Command::Font(0), &mut bytes)?;
-    write_command(alloc, &Command::Put(65), &mut bytes)?;
-    write_command(alloc, &Command::Set(65), &mut bytes)?;
-    write_command(alloc, &Command::Font(1), &mut bytes)?;
-    write_command(alloc, &Command::Set(65), &mut bytes)?;
-    finish(alloc, &mut bytes)?;
-    Ok(bytes)
-}
-
-// Each change to a font is followed by a look-up, a change to the font that is current too.
-#[test]
-fn both_desks_draw_one_page(rt: HostRuntime) -> Result<(), Fail> {
-    let bytes = five(rt.alloc())?;
-    let (plain, loads) = over_plain(&rt, rt.alloc(), &bytes)?;
-    assert_eq!(rt; plain.end, ("drawn", 0, 0));
-    assert_eq!(rt; plain.rows.as_slice(), [0xcc, 0xcc, 0xcc, 0xcc].as_slice());
-    assert_eq!(rt; loads, 9);
-    let (solo, calls) = over_solo(&rt, rt.alloc(), &bytes, &[])?;
-    assert_eq!(rt; solo.end, ("drawn", 0, 0));
-    assert_eq!(rt; solo.rows.as_slice(), [0xcc, 0xcc, 0xcc, 0xcc].as_slice());
-    assert_eq!(rt; calls.as_slice(), b"cdfdhdcbgb".as_slice());
-    Ok(())
-}
-
-// The fourth load is of bar.tfm.
-#[test]
-fn a_page_that_breaks_off_gives_its_claim_up(rt: HostRuntime) -> Result<(), Fail> {
-    let bytes = five(rt.alloc())?;
-    let (solo, calls) = over_solo(&rt, rt.alloc(), &bytes, &[4])?;
-    assert_eq!(rt; solo.end, ("source failed", 0, 0));
-    assert_eq!(rt; calls.as_slice(), b"cdfdhdcbrb".as_slice());
-    Ok(())
+/// What a page with these commands comes to, over the desk without a cache, or over the one with a
+/// cache of one font where these loads fail.
+pub fn told<R: Wait>(
+    rt: &R,
+    alloc: Global,
+    page: &[u8],
+    cached: Option<&[u64]>,
+) -> Result<Told, Fail> {
+    let bytes = document(alloc, page)?;
+    let Ok(index) = Index::read(alloc, &bytes, 300) else {
+        return Err(Fail::from("no document"));
+    };
+    match cached {
+        None => over_plain(rt, alloc, &index),
+        Some(fails) => over_solo(rt, alloc, &index, fails),
+    }
 }

@@ -8,5 +8,5 @@ invariant-loop-i l = record {
   lock : l.first.lock ≡ l.cache;
   number : l.first.view.number ≡ 0;
   made : l.first.view.made ≡ l._i + 1;
-  seats : All (λ s. (s.lock ≡ l.cache) × (s.view.stage ≡ Idle) × (s.view.drawn ≡ 0) × (open_claim (own s.view.number s.view.seen) ≡ None)) l.seats.items;
+  seats : All (λ s. (s.seat.lock ≡ s.cache.now) × (s.seat.view.stage ≡ Idle) × (s.seat.view.drawn ≡ 0) × (open_claim (own s.seat.view.number s.seat.view.seen) ≡ None)) l.seats.items;
 }

@@ -1,5 +1,0 @@
-use Rattle.std.proofs.Common.{None}
-use Rattle.cache_seats.proofs.seats.rate.Given as goal
-
-abbrev pub ghost-make : goal.ghost-make
-ghost-make g a = record { capacity = 2; units = record { num = 1; den = 1; mag = 1; res = 1 }; library = None }

@@ -1,0 +1,5 @@
+//! Pages over the desks of `page_draw`, from the outside.
+#![tactic(auto)]
+
+#[cfg(test)]
+mod tests;

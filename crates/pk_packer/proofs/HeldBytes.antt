@@ -1,0 +1,85 @@
+-- Nybbles, joined into bytes.
+use Rattle.std.proofs.Common.{◌≡◌, ◌∙◌, ℕ, zero, suc, ◌+◌, ◌*◌, ◌/◌, ◌%◌, ◌<◌, ◌≤◌, Bool, true, false, cond, List, [], ◌∷◌, ◌++◌, length, replicate, refl, sym, ap, arith, append-nil, append_assoc, length-append}
+use Rattle.std.specs.Int.{div_ceil}
+use Rattle.std.proofs.lemmas.List.{length-replicate, replicate_more}
+use Rattle.pk_runs.specs.Numbers.{nybbles_of}
+use Rattle.pk_runs.proofs.Hex.{length-nybbles_of}
+use Rattle.pk_packer.specs.Spelling.{HoldNybbles, items_text, number_text}
+use Rattle.pk_packer.specs.Written.{with_count}
+
+nybbles_push : (bytes : List ℕ) (b : ℕ) → nybbles_of (bytes ++ b ∷ []) ≡ nybbles_of bytes ++ (b / 16) ∷ (b % 16) ∷ []
+nybbles_push [] b = refl
+nybbles_push (c ∷ bytes) b = ap (λ l. (c / 16) ∷ (c % 16) ∷ l) (nybbles_push bytes b)
+
+-- the nybbles of whole bytes and of a half
+abbrev pub nybbles_with : List ℕ → Bool → ℕ → List ℕ
+nybbles_with bytes half high = nybbles_of bytes ++ cond half (high ∷ []) []
+
+pub second_half : (bytes all : List ℕ) (high n : ℕ) (half : Bool) → half ≡ true → high < 16 → n < 16 → all ≡ bytes ++ (16 * high + n) ∷ [] → nybbles_with all false high ≡ nybbles_with bytes half high ++ n ∷ []
+second_half bytes all high n half e small fits pushed =
+    append-nil (nybbles_of all) ∙ ap nybbles_of pushed ∙ nybbles_push bytes (16 * high + n)
+    ∙ ap (λ k. nybbles_of bytes ++ k ∷ ((16 * high + n) % 16) ∷ []) upper
+    ∙ ap (λ k. nybbles_of bytes ++ high ∷ k ∷ []) lower
+    ∙ sym (append_assoc (nybbles_of bytes) (high ∷ []) (n ∷ []))
+    ∙ ap (λ b. (nybbles_of bytes ++ cond b (high ∷ []) []) ++ n ∷ []) (sym e)
+  where
+    upper : (16 * high + n) / 16 ≡ high
+    upper = omega (arith, fits)
+
+    lower : (16 * high + n) % 16 ≡ n
+    lower = omega (arith, fits)
+
+-- ---- the bytes
+
+pub half_left_over : (bytes all : List ℕ) (high : ℕ) (half : Bool) → half ≡ true → high < 16 → all ≡ bytes ++ (16 * high) ∷ [] → HoldNybbles all (nybbles_with bytes half high)
+half_left_over bytes all high half e small pushed =
+    ap nybbles_of pushed ∙ nybbles_push bytes (16 * high)
+    ∙ ap (λ k. nybbles_of bytes ++ k ∷ (16 * high % 16) ∷ []) upper
+    ∙ ap (λ k. nybbles_of bytes ++ high ∷ k ∷ []) lower
+    ∙ sym (append_assoc (nybbles_of bytes) (high ∷ []) (0 ∷ []))
+    ∙ ap (λ k. (nybbles_of bytes ++ high ∷ []) ++ replicate k 0) (sym odd)
+    ∙ ap (λ b. nybbles_with bytes b high ++ replicate (length (nybbles_with bytes b high) % 2) 0) (sym e)
+  where
+    upper : 16 * high / 16 ≡ high
+    upper = omega arith
+
+    lower : 16 * high % 16 ≡ 0
+    lower = omega arith
+
+    odd : length (nybbles_of bytes ++ high ∷ []) % 2 ≡ 1
+    odd = omega (arith, length-append (nybbles_of bytes) (high ∷ []), length-nybbles_of bytes)
+
+pub whole_bytes : (bytes : List ℕ) (high : ℕ) (half : Bool) → half ≡ false → HoldNybbles bytes (nybbles_with bytes half high)
+whole_bytes bytes high half e =
+    sym (append-nil (nybbles_of bytes)) ∙ sym (append-nil (nybbles_of bytes ++ []))
+    ∙ ap (λ k. (nybbles_of bytes ++ []) ++ replicate k 0) (sym even)
+    ∙ ap (λ b. nybbles_with bytes b high ++ replicate (length (nybbles_with bytes b high) % 2) 0) (sym e)
+  where
+    even : length (nybbles_of bytes ++ []) % 2 ≡ 0
+    even = omega (arith, ap (λ (l : List ℕ). length l) (append-nil (nybbles_of bytes)), length-nybbles_of bytes)
+
+abbrev zeros : ℕ → List ℕ
+zeros n = replicate n 0
+
+zeros_long : (n : ℕ) → length (zeros n) ≡ n
+zeros_long n = length-replicate n 0
+
+pub bytes_long : (bytes nybbles : List ℕ) → HoldNybbles bytes nybbles → length bytes ≡ div_ceil (length nybbles) 2
+bytes_long bytes nybbles hold =
+    omega (arith, length-nybbles_of bytes, ap length hold, length-append nybbles (zeros (length nybbles % 2)), zeros_long (length nybbles % 2))
+
+-- ---- what is written, one after another
+
+pub two_written : (a b c : List ℕ) (x y : ℕ) → b ≡ a ++ x ∷ [] → c ≡ b ++ y ∷ [] → c ≡ a ++ x ∷ y ∷ []
+two_written a b c x y e f = f ∙ ap (λ l. l ++ y ∷ []) e ∙ append_assoc a (x ∷ []) (y ∷ [])
+
+pub both_written : (a b c l m : List ℕ) → b ≡ a ++ l → c ≡ b ++ m → c ≡ a ++ (l ++ m)
+both_written a b c l m e f = f ∙ ap (λ k. k ++ m) e ∙ append_assoc a l m
+
+pub zero_written : (a b c : List ℕ) (n : ℕ) → b ≡ a ++ replicate n 0 → c ≡ b ++ 0 ∷ [] → c ≡ a ++ replicate (n + 1) 0
+zero_written a b c n e f = both_written a b c (replicate n 0) (0 ∷ []) e f ∙ ap (λ l. a ++ l) (replicate_more n 0)
+
+pub count_text : (f n : ℕ) → 2 ≤ n → items_text f (with_count n []) ≡ 14 ∷ number_text f n
+count_text f zero many = absurd (omega (arith, many))
+count_text f (suc zero) many = absurd (omega (arith, many))
+count_text f (suc (suc n)) many = refl

@@ -1,0 +1,15 @@
+pub mod HexDigits
+pub mod Spelled
+pub mod Groups
+pub mod Expanded
+pub mod Added
+pub mod ReadAgain
+pub mod PlainBits
+pub mod PlainLaws
+pub mod Pixels
+pub mod Placed
+pub mod HeldBytes
+pub mod Lengthened
+pub mod Begun
+pub mod Chosen
+pub mod OneSpelling

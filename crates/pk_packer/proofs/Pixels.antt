@@ -1,0 +1,97 @@
+-- The pixels of a byte that has one colour, and of the rows of a raster.
+use Rattle.std.proofs.Common.{◌≡◌, ◌∙◌, ◌⊎◌, inl, inr, ℕ, zero, suc, ◌+◌, ◌-◌, ◌/◌, ◌%◌, ◌<◌, ◌≤◌, Bool, true, false, not, cond, eqb, List, [], ◌∷◌, length, get_or, refl, sym, ap, arith}
+use Rattle.std.specs.Int.{bit_at}
+use Rattle.std.specs.List.{list_any}
+use Rattle.std.proofs.lemmas.Bool.{agree_below_at, and_from, cases_lt, and_left, and_right, eqb-true, or_from, or_left, or_right}
+use Rattle.std.proofs.lemmas.Nat.Bits.{bit_at-zero}
+use Rattle.packed_rows.specs.Bitmap.{Bitmap, from_fn, is_black}
+use Rattle.packed_rows.specs.Packing.{pixel, pixels_of, row_text}
+use Rattle.packed_rows.proofs.Lists.{from_fn_same, get_or-from_fn, length-from_fn}
+use Rattle.pk_packer.specs.Written.{has_both_colours, pixel_rows}
+
+bit_of_black : (j : ℕ) → j < 8 → eqb (bit_at 255 j) 1 ≡ true
+bit_of_black j h = agree_below_at (λ k. eqb (bit_at 255 k) 1) (λ k. true) 8 j refl h
+
+same_byte : (x k : ℕ) → x % 8 ≡ 0 → x ≤ k → k < x + 8 → k / 8 ≡ x / 8
+same_byte x k e low high = omega (arith, e, low, high)
+
+pub whole_byte : (row : List ℕ) (x b : ℕ) (black : Bool) → x % 8 ≡ 0 → b ≡ get_or row (x / 8) 0 → cond black (eqb b 255) (eqb b 0) ≡ true → (k : ℕ) → x ≤ k → k < x + 8 → pixel row k ≡ black
+whole_byte row x b true e is whole k low high =
+    ap (λ i. eqb (bit_at (get_or row i 0) (7 - k % 8)) 1) (same_byte x k e low high)
+    ∙ ap (λ v. eqb (bit_at v (7 - k % 8)) 1) (sym is ∙ eqb-true b 255 whole)
+    ∙ bit_of_black (7 - k % 8) (omega arith)
+whole_byte row x b false e is whole k low high =
+    ap (λ i. eqb (bit_at (get_or row i 0) (7 - k % 8)) 1) (same_byte x k e low high)
+    ∙ ap (λ v. eqb (bit_at v (7 - k % 8)) 1) (sym is ∙ eqb-true b 0 whole)
+    ∙ ap (λ v. eqb v 1) (bit_at-zero (7 - k % 8))
+
+-- ---- a row as it is seen
+
+pub row_seen : (r : Bitmap) (y : ℕ) (bytes : List ℕ) → y < r.height → pixels_of r.width bytes ≡ get_or r.rows y [] → get_or (pixel_rows r) y [] ≡ pixels_of r.width bytes
+unfolding pixel_rows
+row_seen r y bytes inside e =
+    get_or-from_fn r.height (λ v. from_fn r.width (λ x. is_black r x v)) y [] inside
+    ∙ from_fn_same r.width _ _ (λ x in_row. ap (λ row. get_or row x false) (sym e) ∙ get_or-from_fn r.width (pixel bytes) x false in_row)
+
+pub pixel_seen : (r : Bitmap) (y x : ℕ) (bytes : List ℕ) → y < r.height → x < r.width → pixels_of r.width bytes ≡ get_or r.rows y [] → get_or (get_or (pixel_rows r) y []) x false ≡ pixel bytes x
+pixel_seen r y x bytes inside in_row e =
+    ap (λ row. get_or row x false) (row_seen r y bytes inside e) ∙ get_or-from_fn r.width (pixel bytes) x false in_row
+
+pub row_long : (r : Bitmap) (y : ℕ) → y < r.height → length (get_or (pixel_rows r) y []) ≡ r.width
+unfolding pixel_rows
+row_long r y inside = ap length (get_or-from_fn r.height (λ v. from_fn r.width (λ x. is_black r x v)) y [] inside) ∙ length-from_fn r.width (λ x. is_black r x y)
+
+pub rows_high : (r : Bitmap) → length (pixel_rows r) ≡ r.height
+unfolding pixel_rows
+rows_high r = length-from_fn r.height (λ v. from_fn r.width (λ x. is_black r x v))
+
+-- the bytes of two rows are equal where their pixels are
+pub rows_same : (r : Bitmap) (y z : ℕ) (a b : List ℕ) → y < r.height → z < r.height → pixels_of r.width a ≡ get_or r.rows y [] → pixels_of r.width b ≡ get_or r.rows z [] → a ≡ b
+    → get_or (pixel_rows r) y [] ≡ get_or (pixel_rows r) z []
+rows_same r y z a b upper lower e f same = row_seen r y a upper e ∙ ap (pixels_of r.width) same ∙ sym (row_seen r z b lower f)
+
+pub bytes_same : (r : Bitmap) (y z : ℕ) (a b : List ℕ) → y < r.height → z < r.height → pixels_of r.width a ≡ get_or r.rows y [] → pixels_of r.width b ≡ get_or r.rows z []
+    → a ≡ row_text (get_or r.rows y []) → b ≡ row_text (get_or r.rows z []) → get_or (pixel_rows r) y [] ≡ get_or (pixel_rows r) z [] → a ≡ b
+bytes_same r y z a b upper lower e f g h same =
+    g ∙ ap row_text (sym e ∙ sym (row_seen r y a upper e) ∙ same ∙ row_seen r z b lower f ∙ f) ∙ sym h
+
+-- ---- a row of both colours
+
+any_at : (test : Bool → Bool) (row : List Bool) (k : ℕ) → k < length row → test (get_or row k false) ≡ true → list_any test row ≡ true
+any_at test [] k inside is = absurd (omega (arith, inside))
+any_at test (p ∷ row) zero inside is = or_left (test p) (list_any test row) is
+any_at test (p ∷ row) (suc k) inside is = or_right (test p) (list_any test row) (any_at test row k (omega (arith, inside)) is)
+
+none_at : (test : Bool → Bool) (row : List Bool) → ((k : ℕ) → k < length row → test (get_or row k false) ≡ false) → list_any test row ≡ false
+none_at test [] never = refl
+none_at test (p ∷ row) never = or_from (test p) (list_any test row) (never 0 (omega arith)) (none_at test row (λ k below. never (suc k) (omega (arith, below))))
+
+pub two_colours : (row : List Bool) (first : Bool) (w end : ℕ) → length row ≡ w → end < w → get_or row 0 false ≡ first → get_or row end false ≡ not first → has_both_colours row ≡ true
+two_colours row true w end long within e f =
+    and_from (list_any (λ p. p) row) (list_any not row) (any_at (λ p. p) row 0 (omega (arith, long, within)) e) (any_at not row end (omega (arith, long, within)) (ap not f))
+two_colours row false w end long within e f =
+    and_from (list_any (λ p. p) row) (list_any not row) (any_at (λ p. p) row end (omega (arith, long, within)) f) (any_at not row 0 (omega (arith, long, within)) (ap not e))
+
+pub one_colour : (row : List Bool) (first : Bool) → ((k : ℕ) → k < length row → get_or row k false ≡ first) → has_both_colours row ≡ false
+one_colour row true same = and_right (list_any (λ p. p) row) (list_any not row) (none_at not row (λ k below. ap not (same k below)))
+one_colour row false same = and_left (list_any (λ p. p) row) (list_any not row) (none_at (λ p. p) row same)
+
+pub dot_seen : (r : Bitmap) (y x : ℕ) → y < r.height → x < r.width → get_or (get_or (pixel_rows r) y []) x false ≡ is_black r x y
+unfolding pixel_rows
+dot_seen r y x inside in_row =
+    ap (λ row. get_or row x false) (get_or-from_fn r.height (λ v. from_fn r.width (λ u. is_black r u v)) y [] inside) ∙ get_or-from_fn r.width (λ u. is_black r u y) x false in_row
+
+not_itself : (b : Bool) → b ≡ not b → ⊥
+not_itself true e = cc
+not_itself false e = cc
+
+-- a run has a pixel
+pub some_passed : (r : Bitmap) (y x end len : ℕ) (bytes : List ℕ) (black : Bool) → y < r.height → x < r.width → x ≤ end → pixels_of r.width bytes ≡ get_or r.rows y []
+    → (len ≡ 0 → get_or (get_or (pixel_rows r) y []) x false ≡ black) → (end < r.width → pixel bytes end ≡ not black) → 1 ≤ len + (end - x)
+some_passed r y x end len bytes black inside in_row ordered dots begun other = by (cases_lt 0 (len + (end - x)))
+  where
+    by : (0 < len + (end - x)) ⊎ (len + (end - x) ≤ 0) → 1 ≤ len + (end - x)
+    by (inl some) = some
+    by (inr none) =
+        let at : end ≡ x = omega (arith, none, ordered) in
+        absurd (not_itself black (sym (begun (omega (arith, none))) ∙ pixel_seen r y x bytes inside in_row dots ∙ ap (pixel bytes) (sym at) ∙ other (omega (arith, at, in_row))))

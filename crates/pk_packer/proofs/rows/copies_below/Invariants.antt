@@ -1,0 +1,13 @@
+use Rattle.std.proofs.Common.{◌≡◌, ℕ, ◌+◌, ◌-◌, ◌<◌, ◌≤◌}
+use Rattle.pk_packer.specs.Places.{row_of}
+use Rattle.pk_packer.specs.Written.{pixel_rows}
+use Rattle.pk_packer.proofs.rows.copies_below.Given as goal
+
+abbrev pub invariant-loop-n : goal.invariant-loop-n
+invariant-loop-n l = record {
+  fit : l.y + 1 + l.n ≤ l.bits.height;
+  same : (k : ℕ) → k < l.n → row_of (pixel_rows l.bits) (l.y + 1 + k) ≡ row_of (pixel_rows l.bits) l.y;
+}
+
+abbrev pub decreases-loop-n : goal.decreases-loop-n
+decreases-loop-n l = l.bits.height - l.n

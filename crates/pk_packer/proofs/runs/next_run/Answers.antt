@@ -1,0 +1,93 @@
+use Rattle.std.proofs.Common.{◌≡◌, ◌∙◌, inl, inr, ◌+◌, ◌-◌, ◌<◌, ◌≤◌, not, ◌∷◌, sym, ap, arith}
+use Rattle.std.proofs.lemmas.Bool.{cases_lt}
+use Rattle.packed_rows.specs.Bitmap.{Bitmap}
+use Rattle.pk_runs.specs.Numbers.{Run}
+use Rattle.pk_runs.specs.Raster.{colour_after}
+use Rattle.pk_packer.specs.Written.{first_colour, pixel_rows, with_count}
+use Rattle.pk_packer.proofs.Pixels.{dot_seen, pixel_seen, row_long, rows_high, some_passed}
+use Rattle.pk_packer.proofs.Placed.{colour_counted, end_from, passed_row, row_passed, run_lengthened, run_opened}
+use Rattle.pk_packer.proofs.runs.next_run.Goals as goal
+
+pub returns-then-place-height-clause-step : goal.returns-then-place-height-clause-step
+returns-then-place-height-clause-step c = λ items reached.
+    let p = c.args.place in
+    sym (end_from (pixel_rows c.args.bits.now) p.row p.column p.copies p.due items (omega (arith, rows_high c.args.bits.now, c.if-place-height.true, c.height.ensures.value))) ∙ reached.more
+
+pub loop-after-init : goal.loop-after-init
+loop-after-init c =
+    let r : Bitmap = c.args.bits.now in
+    let p = c.args.place in
+    let low : p.row < r.height = omega (arith, c.requires.place.low, c.if-place-height.false, c.height.ensures.value) in
+    let in_row : p.column < r.width = c.requires.place.inside low in
+    record {
+      place = record { low = c.requires.place.low; inside = c.requires.place.inside; fit = c.requires.place.fit; small = omega arith };
+      passed = omega arith;
+      more = λ items reached. run_opened (pixel_rows r) p.row p.column p.copies p.due items (omega (arith, row_long r p.row low, in_row)) (reached.begins low) ∙ reached.more;
+      begun = λ e. (low, dot_seen r p.row p.column low in_row ∙ sym c.is_black-black.ensures);
+    }
+
+pub returns-then-end-width-clause-some : goal.returns-then-end-width-clause-some
+returns-then-end-width-clause-some c =
+    let r : Bitmap = c.args.bits.now in
+    let p = c.loop-after.after in
+    let low : p.row < r.height = omega (arith, c.loop-after-test.true, c.height-in-loop-after.ensures.value) in
+    some_passed r p.row p.column c.run_end-end.result c.loop-after.len c.row.result.now c.is_black-black.result low (c.loop-after.invariant.place.inside low) c.run_end-end.ensures.least c.row.ensures.dots
+    (λ e. (c.loop-after.invariant.begun e).1) (λ within. c.run_end-end.ensures.other (omega (arith, within, c.width-width.ensures.value)))
+
+pub returns-then-end-width-clause-step : goal.returns-then-end-width-clause-step
+returns-then-end-width-clause-step c = λ items reached.
+    let r : Bitmap = c.args.bits.now in
+    let q = c.args.place in
+    let p = c.loop-after.after in
+    let top : q.row < r.height = omega (arith, c.requires.place.low, c.if-place-height.false, c.height.ensures.value) in
+    let low : p.row < r.height = omega (arith, c.loop-after-test.true, c.height-in-loop-after.ensures.value) in
+    let within : c.run_end-end.result < r.width = omega (arith, c.if-end-width.true, c.width.ensures.value) in
+    let colour : colour_after (first_colour (pixel_rows r)) (with_count q.due items) ≡ c.is_black-black.result =
+    colour_counted (first_colour (pixel_rows r)) q.due items ∙ sym (reached.begins top) ∙ dot_seen r q.row q.column top (c.requires.place.inside top) ∙ sym c.is_black-black.ensures in
+    record {
+      more =
+          sym (run_lengthened (pixel_rows r) p.row p.column c.run_end-end.result p.copies p.due c.loop-after.len c.is_black-black.result (with_count q.due items) c.run_end-end.ensures.least
+          (omega (arith, within, row_long r p.row low))
+          (λ k from below. pixel_seen r p.row k c.row.result.now low (omega (arith, below, within)) c.row.ensures.dots ∙ c.run_end-end.ensures.same k from below) colour)
+          ∙ c.loop-after.invariant.more items reached;
+      begins = λ _.
+          pixel_seen r p.row c.run_end-end.result c.row.result.now low within c.row.ensures.dots
+          ∙ c.run_end-end.ensures.other (omega (arith, within, c.width-width.ensures.value))
+          ∙ ap not (sym colour);
+    }
+
+pub loop-after-preserved : goal.loop-after-preserved
+loop-after-preserved c =
+    let r : Bitmap = c.args.bits.now in
+    let q = c.args.place in
+    let p = c.loop-after.after in
+    let end = c.run_end-end.result in
+    let len = c.loop-after.len + (c.run_end-end.result - c.loop-after.after.column) in
+    let top : q.row < r.height = omega (arith, c.requires.place.low, c.if-place-height.false, c.height.ensures.value) in
+    let low : p.row < r.height = omega (arith, c.loop-after-test.true, c.height-in-loop-after.ensures.value) in
+    let in_row : p.column < r.width = c.loop-after.invariant.place.inside low in
+    let all : end ≡ r.width = omega (arith, c.if-end-width.false, c.width.ensures.value, c.run_end-end.ensures.most, c.width-width.ensures.value) in
+    let some : 1 ≤ len =
+    some_passed r p.row p.column c.run_end-end.result c.loop-after.len c.row.result.now c.is_black-black.result low in_row c.run_end-end.ensures.least c.row.ensures.dots
+    (λ e. (c.loop-after.invariant.begun e).1) (λ within. c.run_end-end.ensures.other (omega (arith, within, c.width-width.ensures.value))) in
+    record {
+      place = c.row_begin-after.ensures.place;
+      passed = passed_row (r.height - p.row) (r.height - c.row_begin-after.result.row) r.width p.column end c.row_begin-after.result.column c.loop-after.len _
+          (omega (arith, low, c.row_begin-after.ensures.row, c.loop-after.invariant.place.fit low)) (omega (arith, in_row)) all c.row_begin-after.ensures.column c.loop-after.invariant.passed;
+      more = λ items reached.
+          let colour : colour_after (first_colour (pixel_rows r)) (with_count q.due items) ≡ c.is_black-black.result =
+          colour_counted (first_colour (pixel_rows r)) q.due items ∙ sym (reached.begins top) ∙ dot_seen r q.row q.column top (c.requires.place.inside top) ∙ sym c.is_black-black.ensures in
+          c.row_begin-after.ensures.more (Run len ∷ with_count q.due items)
+          ∙ sym (row_passed (pixel_rows r) p.row end p.copies p.due (Run len ∷ with_count q.due items) (omega (arith, all, row_long r p.row low)))
+          ∙ sym (run_lengthened (pixel_rows r) p.row p.column end p.copies p.due c.loop-after.len c.is_black-black.result (with_count q.due items) c.run_end-end.ensures.least
+          (omega (arith, all, row_long r p.row low))
+          (λ k from below. pixel_seen r p.row k c.row.result.now low (omega (arith, below, all)) c.row.ensures.dots ∙ c.run_end-end.ensures.same k from below) colour)
+          ∙ c.loop-after.invariant.more items reached;
+      begun = λ e. absurd (omega (arith, e, some));
+    }
+
+pub returns-clause-some : goal.returns-clause-some
+returns-clause-some c = elim (cases_lt 0 c.loop-after.len) [
+  | inl some ↦ omega (arith, some)
+  | inr none ↦ absurd (omega (arith, c.loop-after-test.false, c.height-in-loop-after.ensures.value, (c.loop-after.invariant.begun (omega (arith, none))).0))
+]

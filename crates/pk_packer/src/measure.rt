@@ -1,0 +1,58 @@
+//! The runs of a raster, measured and written.
+
+ghost use Rattle.std.specs.Prelude.{◌≡◌, ◌<◌, ◌≤◌, ℕ, IfOk, slice_index};
+ghost use Rattle.pk_runs.specs.Limits.{LONGEST_SIDE};
+ghost use Rattle.pk_packer.specs.Choice.{length_of};
+ghost use Rattle.pk_packer.specs.Spelling.{HoldNybbles, items_text};
+ghost use Rattle.pk_packer.specs.Written.{pixel_rows, written_runs};
+
+use crate::lengths::Lengths;
+use crate::nybbles::Nybbles;
+use crate::places::row_begin;
+use crate::runs::next_run;
+use crate::writer::write_run;
+use packed_rows::PackedBitmap;
+use std::alloc::{AllocError as NoMemory, Global};
+
+/// The length of the runs by each `dyn_f`.
+pub fn lengths_of(bits: &PackedBitmap) -> Lengths
+    requires narrow { bits.now.width ≤ LONGEST_SIDE }
+    requires short { bits.now.height ≤ LONGEST_SIDE }
+    ensures { (f : ℕ) → f < 14 → slice_index result f ≡ length_of bits.now f }
+{
+    let mut lengths = Lengths::none();
+    if bits.width() == 0 {
+        return lengths;
+    }
+    let mut place = row_begin(bits, 0);
+    while let Some(step) = next_run(bits, place) {
+        lengths.add(step.count, step.len);
+        place = step.after;
+    }
+    lengths
+}
+
+/// The runs in nybbles, joined into bytes; `size` is how many bytes to make room for.
+pub fn runs_in_bytes(
+    alloc: Global,
+    bits: &PackedBitmap,
+    dyn_f: u8,
+    size: usize,
+) -> Result<Vec<u8>, NoMemory>
+    requires form { dyn_f ≤ 13 }
+    requires narrow { bits.now.width ≤ LONGEST_SIDE }
+    requires short { bits.now.height ≤ LONGEST_SIDE }
+    ensures { IfOk result (λ bytes. HoldNybbles bytes.items
+        (items_text dyn_f (written_runs (pixel_rows bits.now)))) }
+{
+    let mut out = Nybbles::new(alloc, size)?;
+    if bits.width() == 0 {
+        return out.finish();
+    }
+    let mut place = row_begin(bits, 0);
+    while let Some(step) = next_run(bits, place) {
+        write_run(&mut out, dyn_f, step.count, step.len)?;
+        place = step.after;
+    }
+    out.finish()
+}

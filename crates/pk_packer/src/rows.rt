@@ -1,0 +1,46 @@
+//! Groups of neighbouring equal rows.
+
+ghost use Rattle.std.specs.Prelude.{◌≡◌, ◌+◌, ◌<◌, ◌≤◌, ◌↔◌, IsTrue};
+ghost use Rattle.pk_packer.specs.Places.{AreCopies, row_of};
+ghost use Rattle.pk_packer.specs.Written.{has_both_colours, pixel_rows};
+
+use crate::row::run_end;
+use packed_rows::{PackedBitmap, is_black};
+
+/// How many copies of a row stand below it that are not written: none where it has one colour.
+pub fn copies_below(bits: &PackedBitmap, y: u32) -> u32
+    requires some { 1 ≤ bits.now.width }
+    requires inside { y < bits.now.height }
+    ensures fit { y + 1 + result ≤ bits.now.height }
+    ensures copies { AreCopies (pixel_rows bits.now) y result }
+{
+    if !has_both_colours(bits, y) {
+        return 0;
+    }
+    let height = bits.height();
+    let mut n = 0;
+    while y + 1 + n < height && are_equal(bits, y, y + 1 + n) {
+        n += 1;
+    }
+    n
+}
+
+// Whether two rows have the same pixels.
+fn are_equal(bits: &PackedBitmap, y: u32, z: u32) -> bool
+    requires upper { y < bits.now.height }
+    requires lower { z < bits.now.height }
+    ensures { IsTrue result ↔ (row_of (pixel_rows bits.now) y ≡ row_of (pixel_rows bits.now) z) }
+{
+    bits.row(y) == bits.row(z)
+}
+
+// Whether a row has black and white pixels.
+fn has_both_colours(bits: &PackedBitmap, y: u32) -> bool
+    requires some { 1 ≤ bits.now.width }
+    requires inside { y < bits.now.height }
+    ensures { result ≡ has_both_colours (row_of (pixel_rows bits.now) y) }
+{
+    let row = bits.row(y);
+    let width = bits.width() as usize;
+    run_end(row, 0, width, is_black(row, 0)) < width
+}

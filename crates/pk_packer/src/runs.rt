@@ -1,0 +1,63 @@
+//! The written runs, one after another.
+
+ghost use Rattle.std.specs.Prelude.{◌≡◌, ◌+◌, ◌^◌, ◌<◌, ◌≤◌, ◌∷◌, List, [], MatchOption};
+ghost use Rattle.pk_runs.specs.Numbers.{Item, Run};
+ghost use Rattle.pk_runs.specs.Limits.{LONGEST_SIDE};
+ghost use Rattle.pk_packer.specs.Written.{pixel_rows, with_count, written_runs};
+ghost use Rattle.pk_packer.specs.Places.{IsPlace, IsReached, pixels_after};
+
+use crate::places::{Place, row_begin};
+use crate::row::run_end;
+use packed_rows::PackedBitmap;
+
+/// A run, the repeat count before it, or 0, and the place behind it.
+#[derive(Clone, Copy)]
+pub struct Step {
+    pub count: u32,
+    pub len: u32,
+    pub after: Place,
+}
+
+/// The run that begins at a place, if one does.
+pub fn next_run(bits: &PackedBitmap, place: Place) -> Option<Step>
+    requires some { 1 ≤ bits.now.width }
+    requires narrow { bits.now.width ≤ LONGEST_SIDE }
+    requires short { bits.now.height ≤ LONGEST_SIDE }
+    requires place { IsPlace bits.now place }
+    ensures step { (items : List Item) → IsReached bits.now place items →
+        MatchOption result (items ≡ written_runs (pixel_rows bits.now))
+        (λ s. IsReached bits.now s.after (Run s.len ∷ with_count s.count items)) }
+    ensures place { MatchOption result (Unit {0}) (λ s. IsPlace bits.now s.after) }
+    ensures some { MatchOption result (Unit {0}) (λ s. 1 ≤ s.len) }
+    ensures count { MatchOption result (Unit {0}) (λ s. s.count ≤ bits.now.height) }
+    ensures passed { MatchOption result (Unit {0}) (λ s.
+        pixels_after bits.now s.after + s.len ≤ pixels_after bits.now place) }
+{
+    if place.row == bits.height() {
+        return None;
+    }
+    let black = bits.is_black(place.column, place.row);
+    let width = bits.width() as usize;
+    let mut len = 0;
+    let mut after = Place { due: 0, ..place };
+    while after.row < bits.height() {
+        let end = run_end(bits.row(after.row), after.column as usize, width, black) as u32;
+        len += end - after.column;
+        if end < bits.width() {
+            return Some(Step {
+                count: place.due,
+                len,
+                after: Place {
+                    column: end,
+                    ..after
+                },
+            });
+        }
+        after = row_begin(bits, after.row + 1 + after.copies);
+    }
+    Some(Step {
+        count: place.due,
+        len,
+        after,
+    })
+}

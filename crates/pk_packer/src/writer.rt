@@ -1,0 +1,90 @@
+//! Run lengths and repeat counts, written in nybbles.
+
+ghost use Rattle.std.specs.Prelude.{◌≡◌, ◌<◌, ◌≤◌, ◌++◌, ◌∷◌, ◌^◌, [], OnOk};
+ghost use Rattle.std.specs.Int.Digits.{digits_of};
+ghost use Rattle.pk_runs.specs.Numbers.{Run};
+ghost use Rattle.pk_packer.specs.Held.{nybbles_written};
+ghost use Rattle.pk_packer.specs.Spelling.{items_text, long_text, number_text};
+ghost use Rattle.pk_packer.specs.Written.{with_count};
+
+use crate::digits::digit_count;
+use crate::numbers::{greatest_short, long_value};
+use crate::nybbles::Nybbles;
+use std::alloc::AllocError as NoMemory;
+
+// Writes the digits of a number, and nothing for 0.
+fn write_digits(out: &mut Nybbles, value: u32) -> Result<(), NoMemory>
+    requires high { out.old.high < 16 }
+    ensures written { OnOk result (nybbles_written out.new ≡ nybbles_written out.old ++ digits_of 16 value) }
+    ensures high { out.new.high < 16 }
+{
+    if value == 0 {
+        return Ok(());
+    }
+    write_digits(out, value / 16)?;
+    out.push((value % 16) as u8)
+}
+
+// Writes a number of more than two nybbles.
+fn write_long(out: &mut Nybbles, value: u32) -> Result<(), NoMemory>
+    requires some { 1 ≤ value }
+    requires high { out.old.high < 16 }
+    ensures written { OnOk result (nybbles_written out.new ≡ nybbles_written out.old ++ long_text value) }
+    ensures high { out.new.high < 16 }
+{
+    let zeros = digit_count(value) - 1;
+    for _ in 0..zeros {
+        out.push(0)?;
+    }
+    write_digits(out, value)
+}
+
+// Writes a number.
+fn write_number(out: &mut Nybbles, dyn_f: u8, n: u32) -> Result<(), NoMemory>
+    requires form { dyn_f ≤ 13 }
+    requires small { n < 2 ^ 30 }
+    requires high { out.old.high < 16 }
+    ensures written { OnOk result (nybbles_written out.new ≡ nybbles_written out.old ++ number_text dyn_f n) }
+    ensures high { out.new.high < 16 }
+{
+    if n <= u32::from(dyn_f) {
+        out.push(n as u8)
+    } else if n <= greatest_short(dyn_f) {
+        let more = n - u32::from(dyn_f) - 1;
+        out.push((more / 16) as u8 + dyn_f + 1)?;
+        out.push((more % 16) as u8)
+    } else {
+        write_long(out, long_value(dyn_f, n))
+    }
+}
+
+// Writes a repeat count, and nothing for 0.
+fn write_count(out: &mut Nybbles, dyn_f: u8, n: u32) -> Result<(), NoMemory>
+    requires form { dyn_f ≤ 13 }
+    requires small { n < 2 ^ 30 }
+    requires high { out.old.high < 16 }
+    ensures written { OnOk result (nybbles_written out.new ≡ nybbles_written out.old ++ items_text dyn_f (with_count n [])) }
+    ensures high { out.new.high < 16 }
+{
+    match n {
+        0 => Ok(()),
+        1 => out.push(15),
+        _ => {
+            out.push(14)?;
+            write_number(out, dyn_f, n)
+        }
+    }
+}
+
+/// Writes a run, after the repeat count before it, or 0.
+pub fn write_run(out: &mut Nybbles, dyn_f: u8, count: u32, len: u32) -> Result<(), NoMemory>
+    requires form { dyn_f ≤ 13 }
+    requires count { count < 2 ^ 30 }
+    requires len { len < 2 ^ 30 }
+    requires high { out.old.high < 16 }
+    ensures written { OnOk result (nybbles_written out.new ≡ nybbles_written out.old ++ items_text dyn_f (Run len ∷ with_count count [])) }
+    ensures high { out.new.high < 16 }
+{
+    write_count(out, dyn_f, count)?;
+    write_number(out, dyn_f, len)
+}

@@ -1,0 +1,44 @@
+use denote.Param.Send.{sendable}
+use Rattle.run_cases.proofs.fonts.Fonts.TheSendSync.{the_send}
+use Rattle.std.proofs.Common.{◌≡◌, ◌<◌, ◌≤◌, length, get_or, ap, sym, subst, arith, rules}
+use Rattle.page_workers.specs.Seating.{IsUnused}
+use Rattle.dvi_run.proofs.Together.{ready_untold}
+use Rattle.run_cases.proofs.outcome.run.Goals as goal
+
+pub dvipbm_run-status-requires : goal.dvipbm_run-status-requires
+dvipbm_run-status-requires g c κs within =
+    let made = c.in_ok-workers.ensures in
+    let ws = c.deref_mut.result.now in
+    let same : ws ≡ c.in_ok-workers.workers.items = c.deref_mut.ensures.value in
+    let long : length ws ≡ length c.in_ok-workers.workers.items = ap length same in (
+      search rules fits 100000 depth 60,
+      (
+        search rules fits 100000 depth 60,
+        (
+          search rules fits 100000 depth 60,
+          (
+            search rules fits 100000 depth 60,
+            (
+              search rules fits 100000 depth 60,
+              (
+                search (sendable, rules, the_send) fits 100000 depth 60,
+                (
+                  search rules fits 100000 depth 60,
+                  (
+                    omega (arith, long, made.count),
+                    (
+                      omega (arith, long, made.count),
+                      (
+                        λ k d lt.
+                            ready_untold _ (get_or ws k d) (subst (λ xs. IsUnused (get_or xs k d)) (sym same) (made.unused k d (omega (arith, lt, long, made.count)))),
+                        search rules,
+                      ),
+                    ),
+                  ),
+                ),
+              ),
+            ),
+          ),
+        ),
+      ),
+    )

@@ -1,8 +1,0 @@
-use Rattle.std.proofs.Common.{◌≡◌, ◌*◌, ◌++◌, drop}
-use Rattle.packed_rows.specs.Bitmap.{from_fn}
-use Rattle.packed_rows.specs.Packing.{bits_value}
-use Rattle.sample_maker.specs.PkFile.{plain_pixels}
-use Rattle.sample_maker.proofs.pk.append_raster.Given as goal
-
-abbrev pub invariant-loop-i : goal.invariant-loop-i
-invariant-loop-i l = l.out.items ≡ l.fn.out.items ++ from_fn l.i (λ i. bits_value 8 (drop (8 * i) (plain_pixels l.raster)))
