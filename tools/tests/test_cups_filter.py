@@ -117,8 +117,8 @@ class Filter(Rooms):
         status, pdf, said = self.filtered('media=letter', input=data, DVIPBM=PROGRAM, DVIPBM_FONTS=SAMPLE)
         self.assertEqual((status, said), (0, ''))
         self.assertTrue(self.shown(pdf, 300) == run(data)[1])
-        self.assertEqual(self.filtered('', input=data[:-1], DVIPBM=PROGRAM, DVIPBM_FONTS=SAMPLE)[1:],
-                         (b'', f"ERROR: dvipbm's filter: {run(data[:-1])[2].rstrip()} (status 2)\n"))
+        self.assertEqual(self.filtered('', input=data[:99], DVIPBM=PROGRAM, DVIPBM_FONTS=SAMPLE)[1:],
+                         (b'', f"ERROR: dvipbm's filter: {run(data[:99])[2].rstrip()} (status 2)\n"))
 
 
 if __name__ == '__main__':

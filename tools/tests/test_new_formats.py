@@ -234,11 +234,11 @@ class Manifest(Rooms):
     def test_with_the_program_itself(self):
         shutil.copy(f'{SAMPLE}/sample.dvi', self.path('sample.dvi'))
         data = self.read('sample.dvi')
-        self.write('bad.dvi', data[:-1])
+        self.write('bad.dvi', data[:99])
         status, page, _ = run(data)
         self.assertEqual(self.called('manifest', 'list', SAMPLE, 'sample.dvi', 'bad.dvi', DVIPBM=PROGRAM)[0], 1)
         self.assertEqual(self.read('list').decode(), f'{self.HEAD}#options\n'
-                         f'2\t0\t{sum_of(data[:-1])}\t{sum_of(b"")}\tnone\tbad.dvi\t{run(data[:-1])[2]}'
+                         f'2\t0\t{sum_of(data[:99])}\t{sum_of(b"")}\tnone\tbad.dvi\t{run(data[:99])[2]}'
                          f'{status}\t1\t{sum_of(data)}\t{sum_of(page)}\tnone\tsample.dvi\t-\n')
 
 
