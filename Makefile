@@ -1,7 +1,7 @@
 # make            proves every crate and builds the program, with one line a crate (JOBS=N: N at a time)
 # make sample     draws the sample's page and says where it lies
 # make check      the gate: rt ci
-# make install    installs the program and its man page below PREFIX (with DESTDIR in front)
+# make install    installs the program, its scripts and their manual pages below PREFIX (with DESTDIR in front)
 # make uninstall  removes what install put there
 # make clean      removes what building left
 PREFIX = /usr/local
@@ -9,6 +9,8 @@ DESTDIR =
 JOBS =
 BIN = $(DESTDIR)$(PREFIX)/bin
 MAN = $(DESTDIR)$(PREFIX)/share/man/man1
+# The scripts lie there as they lie here, so each finds the others; what users call is a line in BIN that calls one of them.
+SHARE = $(DESTDIR)$(PREFIX)/share/dvipbm
 
 PROGRAM = crates/dvipbm/out/dvipbm
 SOURCES = crates.txt $(shell find crates -name out -prune -o \( -name '*.rt' -o -name '*.antt' \) -print)
@@ -29,12 +31,31 @@ check:
 
 install:
 	@test -x $(PROGRAM) || { echo "install: there is no $(PROGRAM): run make first" >&2; exit 1; }
-	mkdir -p $(BIN) $(MAN)
-	install -m 755 $(PROGRAM) $(BIN)/dvipbm
-	install -m 644 docs/man/dvipbm.1 $(MAN)/dvipbm.1
+	mkdir -p "$(BIN)" "$(MAN)" "$(SHARE)/tools" "$(SHARE)/docs/recipes"
+	install -m 755 $(PROGRAM) "$(BIN)/dvipbm"
+	install -m 644 docs/man/*.1 "$(MAN)"
+	install -m 644 VERSION "$(SHARE)"
+	for file in tools/collect-fonts tools/*.py docs/recipes/*; do \
+	  if [ -x "$$file" ]; then mode=755; elif [ -f "$$file" ]; then mode=644; else continue; fi; \
+	  install -m $$mode "$$file" "$(SHARE)/$${file%/*}" || exit 1; \
+	done
+	sed 's|usage: docs/recipes/|usage: dvipbm-|' docs/recipes/tools.sh > "$(SHARE)/docs/recipes/tools.sh"
+	case "$(PREFIX)" in /*) place="$(PREFIX)" ;; *) place="$$PWD/$(PREFIX)" ;; esac; \
+	for file in tools/collect-fonts docs/recipes/*; do \
+	  name=dvipbm-$${file##*/}; \
+	  if [ -x "$$file" ] && [ "$$name" != dvipbm-cups-filter ]; then \
+	    printf '#!/bin/sh\n# %s: see dvipbm-recipes(1).\nDVIPBM=$${DVIPBM:-"%s/bin/dvipbm"}\nexport DVIPBM\nexec "%s/share/dvipbm/%s" "$$@"\n' \
+	      "$$name" "$$place" "$$place" "$$file" > "$(BIN)/$$name" && chmod 755 "$(BIN)/$$name" && \
+	    echo '.so man1/dvipbm-recipes.1' > "$(MAN)/$$name.1" && chmod 644 "$(MAN)/$$name.1" || exit 1; \
+	  fi; \
+	done
 
 uninstall:
-	rm -f $(BIN)/dvipbm $(MAN)/dvipbm.1
+	for file in "$(SHARE)"/tools/* "$(SHARE)"/docs/recipes/*; do \
+	  rm -f "$(BIN)/dvipbm-$${file##*/}" "$(MAN)/dvipbm-$${file##*/}.1" || exit 1; \
+	done
+	rm -f "$(BIN)/dvipbm" "$(MAN)/dvipbm.1" "$(MAN)/dvipbm-recipes.1"
+	rm -rf "$(SHARE)"
 
 clean:
 	rm -rf out crates/*/out

@@ -26,9 +26,9 @@ class Build(unittest.TestCase):
     def setUp(self):
         self.top = tempfile.mkdtemp()
         self.addCleanup(shutil.rmtree, self.top)
-        for folder in ('tools', 'docs/sample', 'docs/man', 'bin', 'crates/dvipbm', 'crates/low', 'crates/high'):
+        for folder in ('tools', 'docs/sample', 'docs/man', 'docs/recipes', 'bin', 'crates/dvipbm', 'crates/low', 'crates/high'):
             os.makedirs(f'{self.top}/{folder}')
-        for file in ('tools/build', 'Makefile', 'docs/man/dvipbm.1', 'docs/sample/sample.dvi'):
+        for file in ('tools/build', 'tools/collect-fonts', 'Makefile', 'VERSION', 'docs/man/dvipbm.1', 'docs/sample/sample.dvi', 'docs/recipes/tools.sh'):
             shutil.copy(f'{TOP}/{file}', f'{self.top}/{file}')
         self.write('crates.txt', '# what stands on what\nlow:\nhigh may_wait=3: low\ndvipbm: high\n')
         self.write('bin/rt', RT)

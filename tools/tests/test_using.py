@@ -24,7 +24,7 @@ def blocks():
 
 @needs_program
 class Using(unittest.TestCase):
-    @needs('latex', 'mktexpk', 'mf', 'pamsplit', 'pnmtopng', 'pnmtops', 'gs', 'parallel', 'rsync')
+    @needs('latex', 'mktexpk', 'mf', 'pamsplit', 'pnmtopng', 'pnmtops', 'gs', 'parallel', 'rsync', 'pamtotiff', 'timeout')
     def test_the_commands_in_their_order(self):
         room = tempfile.mkdtemp()
         self.addCleanup(shutil.rmtree, room)
@@ -69,6 +69,9 @@ class Using(unittest.TestCase):
             'Fonts': {'fonts/cmr10.tfm': b'', 'story.pbm': b'P4\n2550 3300\n'},
             'Long documents': {'story.pbm': b'P4\n2550 3300\n'},
             'A thousand documents': {'thousand/story.pbm': b'P4\n1240 1754\n', 'thousand/lost.pbm': b'P4\n1240 1754\n'},
+            'An archive': {'story.tiff': b'', 'pages.list': b'#status'},
+            'A queue of CUPS': {'queue.pdf': b'%PDF'},
+            'Documents of nobody knows whom': {'story.pbm': b'P4\n2550 3300\n', 'pages.list': b'#status'},
             'Several machines': {'story.pbm': b'P4\n2550 3300\n', 'lost.pbm': b'P4\n2550 3300\n'},
         }
         for name, head in wanted.get(section, {}).items():
