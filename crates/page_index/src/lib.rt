@@ -12,8 +12,6 @@ mod limits;
 mod preamble;
 mod progress;
 mod read;
-#[cfg(test)]
-mod tests;
 mod trailer;
 mod walk;
 

@@ -1,21 +1,19 @@
 //! A document of one page, and the files of its fonts.
 
 use outside::{FileName, Library};
-use std::alloc::Global;
+use std::alloc::{AllocError as NoMemory, Global};
 use std::sync::Arc;
 use std::test::Fail;
 
-// The preamble with an empty text: num 1270, den 3 and mag 1000, half a dot for a unit.
-static PRE: [u8; 15] = [0xf7, 2, 0, 0, 4, 0xf6, 0, 0, 0, 3, 0, 0, 3, 0xe8, 0];
-
-// A TFM file whose only character is 65, with its width in the four bytes from 40 on.
-static TFM: [u8; 56] = [
+// A TFM file whose only character is 65, up to the character's width, and what comes after that.
+const TFM: [u8; 40] = [
     0, 14, 0, 2, 0, 65, 0, 65, 0, 2, 0, 1, 0, 1, 0, 1, 0, 0, 0, 0, 0, 0, 0, 0, // counts
     0, 0, 0, 0, 0, 0xa0, 0, 0, // header
     1, 0, 0, 0, // character 65
-    0, 0, 0, 0, 0, 1, 0, 0, // widths
-    0, 0, 0, 0, 0, 0, 0, 0, 0, 0, 0, 0,
+    0, 0, 0, 0, // the width 0
 ];
+
+const TFM_END: [u8; 12] = [0; 12];
 
 // A TFM file with the characters 65 and 66, both 1/16 of the size wide.
 const TFM_OF_TWO: [u8; 64] = [
@@ -26,11 +24,9 @@ const TFM_OF_TWO: [u8; 64] = [
     0, 0, 0, 0, 0, 0, 0, 0, 0, 0, 0, 0,
 ];
 
-const PK_BEGIN: [u8; 19] = [
+const PK: [u8; 19] = [
     0xf7, 0x59, 0, 0, 0xa0, 0, 0, 0, 0, 0, 0, 0, 4, 0x26, 0xae, 0, 4, 0x26, 0xae,
 ];
-
-const VF_BEGIN: [u8; 11] = [0xf7, 0xca, 0, 0, 0, 0, 0, 0, 0xa0, 0, 0];
 
 // Character 65, 2 by 2 black dots.
 const DOT: [u8; 13] = [0xe0, 9, 65, 1, 0, 0, 4, 2, 2, 0, 1, 0xf0, 0xf5];
@@ -42,6 +38,14 @@ const BAR: [u8; 16] = [
 
 // Character 65, one black dot.
 const THIN: [u8; 13] = [0xe0, 9, 65, 0, 0x60, 0, 2, 1, 1, 0, 0, 0x80, 0xf5];
+
+const VF: [u8; 11] = [0xf7, 0xca, 0, 0, 0, 0, 0, 0, 0xa0, 0, 0];
+
+// A VF file with one local font at the font's own size, up to the length of that font's name.
+const OVER: [u8; 26] = [
+    0xf7, 0xca, 0, 0, 0, 0, 0, 0, 0xa0, 0, 0, //
+    0xf3, 0, 0, 0, 0, 0, 0, 16, 0, 0, 0, 0xf6, 0xae, 0x7d, 0,
+];
 
 // Local fonts `dot` and `bar`; 65 is 65 of both.
 const DUO: [u8; 49] = [
@@ -79,148 +83,154 @@ const NEST: [u8; 104] = [
     0xf8,
 ];
 
-// Files whose font has the character 65 alone: their names, and the widths at a size of 1.
-static WIDTHS: [(&str, u32); 13] = [
-    ("dot.tfm", 0x1_0000),
-    ("bar.tfm", 0x1_8000),
-    ("thin.tfm", 0x6000),
-    ("gap.tfm", 0x1_0000),
-    ("duo.tfm", 0x2_8000),
-    ("twin.tfm", 0xc000),
-    ("over.tfm", 0x5_0000),
-    ("loop.tfm", 0x1_0000),
-    ("bare.tfm", 0x1_0000),
-    ("nest.tfm", 0x1_0000),
-    ("far.tfm", 0x1_0000),
-    ("miss.tfm", 0x1_0000),
-    ("lost.tfm", 0x1_0000),
+// Nothing.
+const NO: [u8; 0] = [];
+
+// A width of 1/16 of the size.
+const WIDE: [u8; 4] = [0, 1, 0, 0];
+
+// The packet of 65, 1/16 of the size wide, which sets 65, and the end of the file.
+const SET: [u8; 7] = [1, 65, 1, 0, 0, 65, 0xf8];
+
+// The files of all fonts, in three parts.
+static FILES: [(&str, [&'static [u8]; 3]); 51] = [
+    ("dot.tfm", [&TFM, &WIDE, &TFM_END]),
+    ("bar.tfm", [&TFM, &[0, 1, 0x80, 0], &TFM_END]),
+    ("thin.tfm", [&TFM, &[0, 0, 0x60, 0], &TFM_END]),
+    ("gap.tfm", [&TFM, &WIDE, &TFM_END]),
+    ("duo.tfm", [&TFM, &[0, 2, 0x80, 0], &TFM_END]),
+    ("twin.tfm", [&TFM, &[0, 0, 0xc0, 0], &TFM_END]),
+    ("over.tfm", [&TFM, &[0, 5, 0, 0], &TFM_END]),
+    ("loop.tfm", [&TFM, &WIDE, &TFM_END]),
+    ("bare.tfm", [&TFM, &WIDE, &TFM_END]),
+    ("nest.tfm", [&TFM, &WIDE, &TFM_END]),
+    ("far.tfm", [&TFM, &WIDE, &TFM_END]),
+    ("miss.tfm", [&TFM, &WIDE, &TFM_END]),
+    ("lost.tfm", [&TFM, &WIDE, &TFM_END]),
+    ("box.tfm", [&TFM_OF_TWO, &NO, &NO]),
+    ("dot.300pk", [&PK, &DOT, &NO]),
+    ("dot.150pk", [&PK, &DOT, &NO]),
+    ("bar.300pk", [&PK, &BAR, &NO]),
+    ("thin.300pk", [&PK, &THIN, &NO]),
+    ("gap.300pk", [&PK, &[0xf5], &NO]),
+    ("duo.vf", [&VF, &DUO, &NO]),
+    ("box.vf", [&VF, &BOX, &NO]),
+    ("bare.vf", [&VF, &BARE, &NO]),
+    ("nest.vf", [&VF, &NEST, &NO]),
+    // Over one local font: its name after the name's length, the packet of 65, and the end.
+    (
+        "twin.vf",
+        [&OVER, b"\x04thin", &[2, 65, 1, 0, 0, 65, 65, 0xf8]],
+    ),
+    (
+        "over.vf",
+        [&OVER, b"\x03duo", &[3, 65, 1, 0, 0, 65, 0x85, 65, 0xf8]],
+    ),
+    ("loop.vf", [&OVER, b"\x04loop", &SET]),
+    // A change to local font 5, a character that `dot` hasn't, and a font without files.
+    (
+        "far.vf",
+        [&OVER, b"\x03dot", &[3, 65, 1, 0, 0, 65, 0xb0, 65, 0xf8]],
+    ),
+    (
+        "miss.vf",
+        [&OVER, b"\x03dot", &[2, 65, 1, 0, 0, 0x85, 66, 0xf8]],
+    ),
+    ("lost.vf", [&OVER, b"\x04none", &SET]),
+    // A chain: in each of these fonts 65 is that of the next one.
+    ("a.tfm", [&TFM, &WIDE, &TFM_END]),
+    ("a.vf", [&OVER, b"\x01b", &SET]),
+    ("b.tfm", [&TFM, &WIDE, &TFM_END]),
+    ("b.vf", [&OVER, b"\x01c", &SET]),
+    ("c.tfm", [&TFM, &WIDE, &TFM_END]),
+    ("c.vf", [&OVER, b"\x01d", &SET]),
+    ("d.tfm", [&TFM, &WIDE, &TFM_END]),
+    ("d.vf", [&OVER, b"\x01e", &SET]),
+    ("e.tfm", [&TFM, &WIDE, &TFM_END]),
+    ("e.vf", [&OVER, b"\x01f", &SET]),
+    ("f.tfm", [&TFM, &WIDE, &TFM_END]),
+    ("f.vf", [&OVER, b"\x01g", &SET]),
+    ("g.tfm", [&TFM, &WIDE, &TFM_END]),
+    ("g.vf", [&OVER, b"\x01h", &SET]),
+    ("h.tfm", [&TFM, &WIDE, &TFM_END]),
+    ("h.vf", [&OVER, b"\x01i", &SET]),
+    ("i.tfm", [&TFM, &WIDE, &TFM_END]),
+    ("i.vf", [&OVER, b"\x01j", &SET]),
+    ("j.tfm", [&TFM, &WIDE, &TFM_END]),
+    ("j.vf", [&OVER, b"\x04hole", &SET]),
+    // The last of the chain has a packet of 66 alone.
+    ("hole.tfm", [&TFM_OF_TWO, &NO, &NO]),
+    ("hole.vf", [&VF, &[0, 66, 1, 0, 0], &[0xf8]]),
 ];
 
-// Fonts of a chain: in each the character 65 is that of the next one, the last of which is `hole`.
-static CHAIN: [&str; 11] = ["a", "b", "c", "d", "e", "f", "g", "h", "i", "j", "hole"];
-
-// Adds a file of these bytes, one part after another.
-fn add(alloc: Global, library: &mut Library, name: &str, parts: &[&[u8]]) -> Result<(), Fail> {
+// These bytes, one part after another.
+fn joined(alloc: Global, parts: &[&[u8]]) -> Result<Vec<u8>, NoMemory> {
     let mut bytes = Vec::new(alloc);
     for part in parts {
         bytes.extend_from_slice(part)?;
     }
-    library.add(FileName::new(alloc, name.as_bytes())?, bytes)?;
-    Ok(())
+    Ok(bytes)
 }
-
-// Adds a VF file with one local font, at the font's own size, and the packet of 65.
-fn add_over(
-    alloc: Global,
-    library: &mut Library,
-    name: &str,
-    local: &str,
-    packet: &[u8],
-) -> Result<(), Fail> {
-    let define: &[u8] = &[0xf3, 0, 0, 0, 0, 0, 0, 16, 0, 0, 0, 0xf6, 0xae, 0x7d, 0];
-    let length = [u8::try_from(local.len()).unwrap_or(0)];
-    let prefix = [u8::try_from(packet.len()).unwrap_or(0), 65, 1, 0, 0];
-    let end: &[u8] = &[0xf8];
-    add(
-        alloc,
-        library,
-        name,
-        &[
-            &VF_BEGIN,
-            define,
-            &length,
-            local.as_bytes(),
-            &prefix,
-            packet,
-            end,
-        ],
-    )
-}
-
-// Adds the files of the chain.
-fn add_chain(alloc: Global, library: &mut Library) -> Result<(), Fail> {
-    for (name, next) in CHAIN.iter().zip(&CHAIN[1..]) {
-        let tfm = format!(in alloc; "{name}.tfm")?;
-        add(alloc, library, &tfm, &[&TFM])?;
-        let vf = format!(in alloc; "{name}.vf")?;
-        add_over(alloc, library, &vf, next, &[65])?;
-    }
-    // A packet of 66 alone.
-    add(alloc, library, "hole.tfm", &[&TFM_OF_TWO])?;
-    add(
-        alloc,
-        library,
-        "hole.vf",
-        &[&VF_BEGIN, &[0, 66, 1, 0, 0, 0xf8]],
-    )
-}
-
-// Files of two parts.
-static FILES: [(&str, &[u8], &[u8]); 10] = [
-    ("box.tfm", &TFM_OF_TWO, &[]),
-    ("dot.300pk", &PK_BEGIN, &DOT),
-    ("dot.150pk", &PK_BEGIN, &DOT),
-    ("bar.300pk", &PK_BEGIN, &BAR),
-    ("thin.300pk", &PK_BEGIN, &THIN),
-    ("gap.300pk", &PK_BEGIN, &[0xf5]),
-    ("duo.vf", &VF_BEGIN, &DUO),
-    ("box.vf", &VF_BEGIN, &BOX),
-    ("bare.vf", &VF_BEGIN, &BARE),
-    ("nest.vf", &VF_BEGIN, &NEST),
-];
-
-// VF files over one local font: the font's name, and the packet of 65. The last three have a change
-// to local font 5, a character that `dot` hasn't, and a font without files.
-static OVER: [(&str, &str, &[u8]); 6] = [
-    ("twin.vf", "thin", &[65, 65]),
-    ("over.vf", "duo", &[65, 0x85, 65]),
-    ("loop.vf", "loop", &[65]),
-    ("far.vf", "dot", &[65, 0xb0, 65]),
-    ("miss.vf", "dot", &[0x85, 66]),
-    ("lost.vf", "none", &[65]),
-];
 
 /// The files of all fonts.
 pub fn library(alloc: Global) -> Result<Arc<Library>, Fail> {
     let mut library = Library::new(alloc);
-    for (name, width) in &WIDTHS {
-        let width = width.to_be_bytes();
-        add(alloc, &mut library, name, &[&TFM[..40], &width, &TFM[44..]])?;
+    for (name, parts) in FILES.iter() {
+        library.add(
+            FileName::new(alloc, name.as_bytes())?,
+            joined(alloc, parts)?,
+        )?;
     }
-    for (name, begin, rest) in &FILES {
-        add(alloc, &mut library, name, &[begin, rest])?;
-    }
-    for (name, local, packet) in &OVER {
-        add_over(alloc, &mut library, name, local, packet)?;
-    }
-    add_chain(alloc, &mut library)?;
     Ok(Arc::new(alloc, library)?)
 }
 
+// The preamble with an empty text: num 1270, den 3 and mag 1000, half a dot for a unit.
+const PRE: [u8; 15] = [0xf7, 2, 0, 0, 4, 0xf6, 0, 0, 0, 3, 0, 0, 3, 0xe8, 0];
+
+// Font 0 at a size and a design size of 128, up to the length of its name.
+const DEFINE: [u8; 15] = [0xf3, 0, 0, 0, 0, 0, 0, 0, 0, 128, 0, 0, 0, 128, 0];
+
+// A page's beginning.
+const BOP: [u8; 45] = [
+    0x8b, 0, 0, 0, 0, 0, 0, 0, 0, 0, 0, 0, 0, 0, 0, 0, 0, 0, 0, 0, 0, 0, 0, 0, 0, 0, 0, 0, 0, 0, 0,
+    0, 0, 0, 0, 0, 0, 0, 0, 0, 0, 0xff, 0xff, 0xff, 0xff,
+];
+
+// What stands in the postamble after the page's place: the fractions of the preamble, the tallest
+// and the widest page, the deepest stack, and one page.
+const POST: [u8; 24] = [
+    0, 0, 4, 0xf6, 0, 0, 0, 3, 0, 0, 3, 0xe8, 0, 0, 0, 0, 0, 0, 0, 0, 0, 0, 0, 1,
+];
+
 /// A document of one page that has font 0 at a size and a design size of 128. The page's first
 /// command stands at 76 and as many bytes more as the name has.
-pub fn document(alloc: Global, font: &str, page: &[u8]) -> Result<Vec<u8>, Fail> {
-    let mut define = Vec::from_slice(alloc, &[0xf3, 0, 0, 0, 0, 0])?;
-    define.extend_from_slice(&[0, 0, 0, 128, 0, 0, 0, 128, 0])?;
-    define.push(u8::try_from(font.len()).unwrap_or(0))?;
-    define.extend_from_slice(font.as_bytes())?;
-    let mut bytes = Vec::from_slice(alloc, &PRE)?;
-    bytes.extend_from_slice(&define)?;
-    let bop = u32::try_from(bytes.len()).unwrap_or(0);
-    bytes.push(0x8b)?;
-    bytes.extend_from_slice(&[0; 40])?;
-    bytes.extend_from_slice(&[0xff; 4])?;
-    bytes.extend_from_slice(page)?;
-    bytes.push(0x8c)?;
-    let post = u32::try_from(bytes.len()).unwrap_or(0);
-    bytes.push(0xf8)?;
-    bytes.extend_from_slice(&bop.to_be_bytes())?;
-    bytes.extend_from_slice(&PRE[2..14])?;
-    // The tallest and the widest page, the deepest stack, and one page.
-    bytes.extend_from_slice(&[0, 0, 0, 0, 0, 0, 0, 0, 0, 0, 0, 1])?;
-    bytes.extend_from_slice(&define)?;
-    bytes.push(0xf9)?;
-    bytes.extend_from_slice(&post.to_be_bytes())?;
-    bytes.extend_from_slice(&[2, 223, 223, 223, 223, 223, 223, 223])?;
-    Ok(bytes)
+pub fn document(alloc: Global, font: &str, page: &[u8]) -> Result<Vec<u8>, NoMemory> {
+    let name = font.as_bytes();
+    let length = [u8::try_from(name.len()).unwrap_or(0)];
+    let bop = u32::from(length[0]) + 31;
+    let post = u32::try_from(page.len())
+        .unwrap_or(0)
+        .saturating_add(bop + 46);
+    let (bop, post) = (bop.to_be_bytes(), post.to_be_bytes());
+    let end: [u8; 8] = [2, 223, 223, 223, 223, 223, 223, 223];
+    joined(
+        alloc,
+        &[
+            &PRE,
+            &DEFINE,
+            &length,
+            name,
+            &BOP,
+            page,
+            &[0x8c, 0xf8],
+            &bop,
+            &POST,
+            &DEFINE,
+            &length,
+            name,
+            &[0xf9],
+            &post,
+            &end,
+        ],
+    )
 }

@@ -1,5 +1,7 @@
 //! What the steps of a page show.
+ghost use Rattle.std.specs.Prelude.{◌<◌};
 ghost use Rattle.outside.specs.FontKeys.{IsFontKey};
+ghost use Rattle.page_index.specs.Document.{pages_begun};
 ghost use Rattle.pixel_round.specs.Preamble.{AreUnits};
 
 use super::files::{document, library};
@@ -14,109 +16,127 @@ use std::test::Fail;
 use vf_expand::{Expander, PageFault, Step};
 
 /// A font: its name, its size and its design size.
-pub type Named = (&'static str, u32, u32);
-
-/// What a step shows. A motion is named by its register, with how far it goes and a sixth of the
-/// font's size.
 #[derive(Clone, Copy, Debug, PartialEq, Eq)]
-pub enum Shown {
-    Skip,
-    /// A character: its font, its code, its width, whether it is put, and the sides of its glyph.
-    Char(Named, u8, i64, bool, (u32, u32)),
-    /// A rule: its height, its width, and whether it is put.
-    Rule(i64, i64, bool),
-    Move(&'static str, i64, i64),
-    /// A motion by what a register holds.
-    Again(&'static str, i64),
-    Push,
-    Pop,
-    Enter,
-    Leave,
-    Advance(i64),
-    Ask(Named),
-    End,
-    /// A fault, with the font and the number that it names.
-    Stop(&'static str, Option<Named>, Option<i32>),
-}
+pub struct Named(pub &'static str, pub u32, pub u32);
+
+/// What a step shows: the position of the page's command that it comes from, what the step is, its
+/// font, and its numbers.
+///
+/// A character that is set or put has its code, its width, and the sides of its glyph; a rule its
+/// height and its width; a motion, which is named by its register, how far it goes and a sixth of
+/// the font's size; one by what the register holds that sixth alone; and a stop the number that it
+/// names.
+#[derive(Clone, Copy, Debug, PartialEq, Eq)]
+pub struct Shown(pub usize, pub &'static str, pub Named, pub [i64; 4]);
+
+/// The font of a step that has none.
+pub const NO_FONT: Named = Named("", 0, 0);
+
+/// The numbers of a step that has none.
+pub const NOTHING: [i64; 4] = [0; 4];
 
 static NAMES: [&str; 26] = [
     "dot", "bar", "thin", "gap", "duo", "twin", "over", "loop", "box", "bare", "nest", "far",
     "miss", "lost", "none", "hole", "a", "b", "c", "d", "e", "f", "g", "h", "i", "j",
 ];
 
-fn name_of(bytes: &[u8]) -> &'static str {
-    for name in NAMES {
-        if name.as_bytes() == bytes {
-            return name;
+fn font_named(key: &FontKey) -> Named {
+    for name in NAMES.iter() {
+        if name.as_bytes() == key.name.bytes() {
+            return Named(*name, key.size, key.design);
         }
     }
-    "another font"
-}
-
-fn named(key: &FontKey) -> Named {
-    (name_of(key.name.bytes()), key.size, key.design)
+    Named("another font", key.size, key.design)
 }
 
 // The sides of a character's glyph in the font that the page holds for it.
-fn sides(font: Option<&Arc<Decoded>>, code: u8) -> (u32, u32) {
+fn sides(font: Option<&Arc<Decoded>>, code: u8) -> (i64, i64) {
     let Some(font) = font else { return (0, 0) };
     let Decoded::Font(font) = &**font else {
         return (0, 0)
     };
     match font.glyph(u32::from(code)) {
-        Some(glyph) => (glyph.raster.width(), glyph.raster.height()),
+        Some(glyph) => (
+            i64::from(glyph.raster.width()),
+            i64::from(glyph.raster.height()),
+        ),
         None => (0, 0),
     }
 }
 
-fn shown_flat(flat: &Flat, font: Option<&Arc<Decoded>>) -> Shown {
-    match flat {
-        Flat::Skip => Shown::Skip,
+// What a flat command shows: what it is, its font, and its numbers. The page holds a font beside a
+// character alone.
+fn flat_shown(flat: &Flat, font: Option<&Arc<Decoded>>) -> (&'static str, Named, [i64; 4]) {
+    let (what, numbers) = match flat {
         Flat::Char {
             key,
             code,
             width,
             put,
-        } => Shown::Char(named(key), *code, *width, *put, sides(font, *code)),
-        Flat::Rule { height, width, put } => Shown::Rule(*height, *width, *put),
-        Flat::Right { by, space } => Shown::Move("right", *by, *space),
-        Flat::W { by, space } => Shown::Move("w", *by, *space),
-        Flat::X { by, space } => Shown::Move("x", *by, *space),
-        Flat::Down { by, space } => Shown::Move("down", *by, *space),
-        Flat::Y { by, space } => Shown::Move("y", *by, *space),
-        Flat::Z { by, space } => Shown::Move("z", *by, *space),
-        Flat::W0 { space } => Shown::Again("w", *space),
-        Flat::X0 { space } => Shown::Again("x", *space),
-        Flat::Y0 { space } => Shown::Again("y", *space),
-        Flat::Z0 { space } => Shown::Again("z", *space),
-        Flat::Push => Shown::Push,
-        Flat::Pop => Shown::Pop,
-        Flat::Enter => Shown::Enter,
-        Flat::Leave => Shown::Leave,
-        Flat::Advance { width } => Shown::Advance(*width),
+        } => {
+            let (columns, rows) = sides(font, *code);
+            let numbers = [i64::from(*code), *width, columns, rows];
+            return (if *put { "put" } else { "set" }, font_named(key), numbers);
+        }
+        Flat::Rule { height, width, put } => {
+            let what = if *put { "put rule" } else { "rule" };
+            (what, [*height, *width, 0, 0])
+        }
+        Flat::Right { by, space } => ("right", [*by, *space, 0, 0]),
+        Flat::W { by, space } => ("w", [*by, *space, 0, 0]),
+        Flat::X { by, space } => ("x", [*by, *space, 0, 0]),
+        Flat::Down { by, space } => ("down", [*by, *space, 0, 0]),
+        Flat::Y { by, space } => ("y", [*by, *space, 0, 0]),
+        Flat::Z { by, space } => ("z", [*by, *space, 0, 0]),
+        Flat::W0 { space } => ("w again", [*space, 0, 0, 0]),
+        Flat::X0 { space } => ("x again", [*space, 0, 0, 0]),
+        Flat::Y0 { space } => ("y again", [*space, 0, 0, 0]),
+        Flat::Z0 { space } => ("z again", [*space, 0, 0, 0]),
+        Flat::Skip => ("skip", NOTHING),
+        Flat::Push => ("push", NOTHING),
+        Flat::Pop => ("pop", NOTHING),
+        Flat::Enter => ("enter", NOTHING),
+        Flat::Leave => ("leave", NOTHING),
+        Flat::Advance { width } => ("advance", [*width, 0, 0, 0]),
+    };
+    if font.is_some() {
+        return ("a font beside another step", NO_FONT, numbers);
     }
+    (what, NO_FONT, numbers)
 }
 
-fn shown_fault(fault: &PageFault) -> Shown {
-    match fault {
-        PageFault::NoFont(number) => Shown::Stop("no font", None, Some(*number)),
-        PageFault::NoCurrentFont => Shown::Stop("no current font", None, None),
-        PageFault::NoCharacter(key, code) => {
-            Shown::Stop("no character", Some(named(key)), Some(*code))
-        }
-        PageFault::NoGlyph(key, code) => Shown::Stop("no glyph", Some(named(key)), Some(*code)),
-        PageFault::NoPacket(key, code) => Shown::Stop("no packet", Some(named(key)), Some(*code)),
-        PageFault::NoLocalFont(key, number) => {
-            Shown::Stop("no local font", Some(named(key)), *number)
-        }
-        PageFault::Depth(key, code) => Shown::Stop("depth", Some(named(key)), Some(*code)),
-        PageFault::TooLong => Shown::Stop("too long", None, None),
-        PageFault::Font(key, FontFault::Missing(FileKind::Tfm)) => {
-            Shown::Stop("missing tfm", Some(named(key)), None)
-        }
-        PageFault::Font(key, _) => Shown::Stop("another fault", Some(named(key)), None),
-        PageFault::Pen(_) => Shown::Stop("a fault of the pen", None, None),
-    }
+// What a fault shows: what it is, the font that it names, and the number.
+fn fault_shown(fault: &PageFault) -> (&'static str, Named, [i64; 4]) {
+    let (what, font, number) = match fault {
+        PageFault::NoFont(number) => ("no font", NO_FONT, *number),
+        PageFault::NoCurrentFont => ("no current font", NO_FONT, 0),
+        PageFault::NoCharacter(key, code) => ("no character", font_named(key), *code),
+        PageFault::NoGlyph(key, code) => ("no glyph", font_named(key), *code),
+        PageFault::NoPacket(key, code) => ("no packet", font_named(key), *code),
+        PageFault::NoLocalFont(key, None) => ("no local fonts", font_named(key), 0),
+        PageFault::NoLocalFont(key, Some(number)) => ("no local font", font_named(key), *number),
+        PageFault::Depth(key, code) => ("depth", font_named(key), *code),
+        PageFault::TooLong => ("too long", NO_FONT, 0),
+        PageFault::Font(key, FontFault::Missing(FileKind::Tfm)) => (
+            "missing tfm",
+            font_named(key),
+            0,
+        ),
+        PageFault::Font(key, _) => ("another fault", font_named(key), 0),
+        PageFault::Pen(_) => ("a fault of the pen", NO_FONT, 0),
+    };
+    (what, font, [i64::from(number), 0, 0, 0])
+}
+
+// What a step shows.
+fn step_shown(expander: &Expander, step: &Step) -> Shown {
+    let (what, font, numbers) = match step {
+        Step::Flat(flat) => flat_shown(flat, expander.font()),
+        Step::Ask(key) => ("ask", font_named(key), NOTHING),
+        Step::End => ("end", NO_FONT, NOTHING),
+        Step::Stop(fault) => fault_shown(fault),
+    };
+    Shown(expander.at(), what, font, numbers)
 }
 
 // What is found for a key in a library.
@@ -134,60 +154,59 @@ fn found(
     Ok(Arc::new(alloc, decode(alloc, key, &files, units)?)?)
 }
 
-// Each step to the page's end or its stop, with its place. A font stands beside a character alone,
-// and the last step comes again.
-fn walked(
-    alloc: Global,
-    library: &Arc<Library>,
-    bytes: &[u8],
-) -> Result<Vec<(usize, Shown)>, Fail> {
-    let Ok(index) = Index::read(alloc, bytes, 300) else {
-        return Err(Fail::from("no document"));
-    };
-    if index.pages() == 0 {
-        return Err(Fail::from("no page"));
+// Whether the last step comes again.
+fn comes_again(expander: &mut Expander, steps: &[Shown]) -> Result<bool, Fail> {
+    let step = expander.next()?;
+    Ok(steps.last() == Some(&step_shown(expander, &step)))
+}
+
+// The steps, where the last one comes again.
+fn ended(expander: &mut Expander, steps: Vec<Shown>) -> Result<Vec<Shown>, Fail> {
+    if comes_again(expander, &steps)? {
+        return Ok(steps);
     }
+    Err(Fail::from("another step after the last one"))
+}
+
+// Each step of a document's first page.
+fn walked(alloc: Global, library: &Arc<Library>, index: &Index) -> Result<Vec<Shown>, Fail>
+    requires page { 0 < pages_begun index.now.reading }
+{
     let units = index.units();
-    let mut expander = Expander::new(alloc, &index, 0)?;
+    let mut expander = Expander::new(alloc, index, 0)?;
     let mut steps = Vec::new(alloc);
     for _ in 0..100u32 {
         match expander.next()? {
             Step::Flat(flat) => {
-                let font = expander.font();
-                if font.is_some() != matches!(flat, Flat::Char { .. }) {
-                    return Err(Fail::from("a font beside another step than a character"));
-                }
-                steps.push((expander.at(), shown_flat(&flat, font)))?;
+                let (what, font, numbers) = flat_shown(&flat, expander.font());
+                steps.push(Shown(expander.at(), what, font, numbers))?;
             }
             Step::Ask(key) => {
-                steps.push((expander.at(), Shown::Ask(named(&key))))?;
+                steps.push(Shown(expander.at(), "ask", font_named(&key), NOTHING))?;
                 expander.answer(found(alloc, library, &key, &units)?);
             }
             Step::End => {
-                steps.push((expander.at(), Shown::End))?;
-                if !matches!(expander.next()?, Step::End) {
-                    return Err(Fail::from("another step after the end"));
-                }
-                return Ok(steps);
+                steps.push(Shown(expander.at(), "end", NO_FONT, NOTHING))?;
+                return ended(&mut expander, steps);
             }
             Step::Stop(fault) => {
-                let stop = (expander.at(), shown_fault(&fault));
-                steps.push(stop)?;
-                let Step::Stop(again) = expander.next()? else {
-                    return Err(Fail::from("another step after the stop"));
-                };
-                if (expander.at(), shown_fault(&again)) != stop {
-                    return Err(Fail::from("another stop after the stop"));
-                }
-                return Ok(steps);
+                let (what, font, numbers) = fault_shown(&fault);
+                steps.push(Shown(expander.at(), what, font, numbers))?;
+                return ended(&mut expander, steps);
             }
         }
     }
     Err(Fail::from("no end after 100 steps"))
 }
 
-/// The steps of a document's page that has this font as its font 0, each with the position of the
-/// page's command that it comes from.
-pub fn steps(alloc: Global, font: &str, page: &[u8]) -> Result<Vec<(usize, Shown)>, Fail> {
-    walked(alloc, &library(alloc)?, &document(alloc, font, page)?)
+/// The steps of a document's page that has this font as its font 0.
+pub fn steps(alloc: Global, font: &str, page: &[u8]) -> Result<Vec<Shown>, Fail> {
+    let bytes = document(alloc, font, page)?;
+    let Ok(index) = Index::read(alloc, &bytes, 300) else {
+        return Err(Fail::from("no document"));
+    };
+    if index.pages() == 0 {
+        return Err(Fail::from("no page"));
+    }
+    walked(alloc, &library(alloc)?, &index)
 }
