@@ -9,7 +9,7 @@ mod drawing;
 mod keeping;
 pub mod laws;
 mod loading;
-mod paper;
+pub mod paper;
 mod round;
 mod seating;
 mod worker;
@@ -20,6 +20,3 @@ pub use paper::drop_paper;
 pub use round::{MOST_WORKERS, draw_round, draw_round_on};
 pub use seating::{join_all, seat_all};
 pub use worker::{PageResult, Worker};
-
-#[cfg(test)]
-mod tests;

@@ -44,7 +44,7 @@ pub struct Worker<F: FontSource> {
     /// Its seat at the counter of a round, while it draws the round's pages.
     pub counter: Option<CounterSeat>,
     /// Pages that were written, on whose memory it draws again.
-    pub(crate) paper: Vec<Page>,
+    pub paper: Vec<Page>,
 }
 
 impl<F: FontSource> Worker<F> {

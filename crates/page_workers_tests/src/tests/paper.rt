@@ -1,71 +1,79 @@
-//! Pages that are drawn on the memory of others.
-ghost use Rattle.std.specs.Prelude.{◌≤◌, IfOk};
-ghost use Rattle.page_workers.specs.Seating.{IsUnused};
+//! Paper: which of it becomes a blank page, and how spare pages are shared out.
 
-use super::files::library;
-use super::{one_round, outcome_at};
-use outside::{FontSource, Library, SureFonts};
-use page_draw::Sheet;
-use page_workers::Worker;
-use raster_page::Page;
+use super::crew::{SHEET, black_page, crew};
+use super::source::Plan;
+use page_workers::paper::{blank_page, share_paper};
 use std::alloc::Global;
-use std::sync::Arc;
 use std::test::Fail;
 
-// A page whose dots are all black.
-fn black_page(alloc: Global, width: u32, height: u32) -> Result<Page, Fail>
-    requires wide { 1 ≤ width }
-    requires narrow { width ≤ 20000 }
-    requires high { 1 ≤ height }
-    requires low { height ≤ 20000 }
-{
-    let mut page = Page::blank(alloc, width, height)?;
-    page.rule(0, 0, i64::from(width), i64::from(height));
-    Ok(page)
-}
+// How many pages a worker keeps that gets black pages of these sides; and of each of four blank
+// pages that are made of them its width, its height, how many of its dots are black, and how many
+// pages are left after it.
+type Blanks = (usize, [u32; 4], [u32; 4], [u64; 4], [usize; 4]);
 
-// A worker with black paper, of which two pages have the sides of the tests' sheet.
-fn worker_with_paper(alloc: Global, library: &Arc<Library>) -> Result<Worker<SureFonts>, Fail>
-    ensures unused { IfOk result (λ worker. IsUnused worker) }
-{
-    let mut worker = Worker::new(alloc, SureFonts::new(Arc::try_clone(library)?));
-    worker.give_back(black_page(alloc, 8, 2)?);
-    worker.give_back(black_page(alloc, 2, 8)?);
-    worker.give_back(black_page(alloc, 8, 3)?);
-    worker.give_back(black_page(alloc, 9, 2)?);
-    worker.give_back(black_page(alloc, 8, 2)?);
-    Ok(worker)
-}
-
-// How many dots of a page are black.
-fn black_dots<F: FontSource>(workers: &[Worker<F>], page: usize) -> u64 {
-    let mut dots = 0u64;
-    for worker in workers {
-        for drawn in &worker.results {
-            if let Ok(bitmap) = &drawn.outcome {
-                if drawn.page == page {
-                    dots = bitmap.count().saturating_add(dots);
-                }
-            }
+fn blanks(alloc: Global, sides: &[(u8, u8)]) -> Result<Blanks, Fail> {
+    let mut workers = crew(alloc, 1, Plan::Sure, sides)?;
+    let mut told = (0, [0; 4], [0; 4], [0; 4], [0; 4]);
+    for worker in &mut workers {
+        told.0 = worker.paper.len();
+        for at in 0..4usize {
+            let page = blank_page(alloc, &mut worker.paper, &SHEET)?;
+            told.1[at] = page.width();
+            told.2[at] = page.height();
+            told.3[at] = page.count();
+            told.4[at] = worker.paper.len();
         }
     }
-    dots
+    Ok(told)
 }
 
+// A sheet of 8 by 2 dots: paper of other sides is dropped.
+static BLANKS: [(&'static [(u8, u8)], Blanks); 5] = [
+    (&[(8, 2), (8, 2)], (2, [8; 4], [2; 4], [0; 4], [1, 0, 0, 0])),
+    (&[(8, 2), (8, 3)], (2, [8; 4], [2; 4], [0; 4], [0, 0, 0, 0])),
+    (&[(8, 2), (9, 2)], (2, [8; 4], [2; 4], [0; 4], [0, 0, 0, 0])),
+    (&[(8, 2), (2, 8)], (2, [8; 4], [2; 4], [0; 4], [0, 0, 0, 0])),
+    (
+        &[(8, 2), (2, 8), (8, 3), (9, 2), (8, 2)],
+        (5, [8; 4], [2; 4], [0; 4], [4, 0, 0, 0]),
+    ),
+];
+
 #[test]
-fn pages_are_drawn_on_black_paper(rt: HostRuntime) -> Result<(), Fail> {
-    let alloc = rt.alloc();
-    let library = library(alloc)?;
-    let mut workers = Vec::from_array(alloc, [worker_with_paper(alloc, &library)?])?;
-    let pages: [&[u8]; 4] = [&[0xab, 0x41], &[], &[0xac, 0x41, 0xab, 0x41], &[]];
-    one_round(&rt, alloc, &mut workers, 4, &pages)?;
-    assert_eq!(rt; outcome_at(&workers, 0), (1, 0xc0, 'w'));
-    assert_eq!(rt; outcome_at(&workers, 1), (1, 0, 'w'));
-    assert_eq!(rt; outcome_at(&workers, 2), (1, 0xcc, 'w'));
-    assert_eq!(rt; outcome_at(&workers, 3), (1, 0, 'w'));
-    assert_eq!(rt; black_dots(&workers, 0), 4);
-    assert_eq!(rt; black_dots(&workers, 1), 0);
-    assert_eq!(rt; black_dots(&workers, 2), 8);
-    assert_eq!(rt; black_dots(&workers, 3), 0);
+fn paper_becomes_blank_pages(rt: HostRuntime) -> Result<(), Fail> {
+    for (row, (sides, expected)) in BLANKS.iter().enumerate() {
+        assert_eq!(rt; blanks(rt.alloc(), sides)?, *expected, "row {row}");
+    }
+    Ok(())
+}
+
+// How many of n spare pages each of two workers has for a round of three pages, and how many are
+// left.
+fn shares(alloc: Global, spare: usize) -> Result<([usize; 2], usize), Fail> {
+    let mut workers = crew(alloc, 2, Plan::Sure, &[])?;
+    let mut paper = Vec::new(alloc);
+    for _ in 0..spare {
+        paper.push(black_page(alloc, 8, 2)?)?;
+    }
+    share_paper(&mut workers, &mut paper, 3);
+    let mut told = [0; 2];
+    for (share, worker) in told.iter_mut().zip(&workers) {
+        *share = worker.paper.len();
+    }
+    Ok((told, paper.len()))
+}
+
+static SHARES: [(usize, ([usize; 2], usize)); 4] = [
+    (5, ([2, 1], 0)),
+    (3, ([2, 1], 0)),
+    (2, ([2, 0], 0)),
+    (1, ([1, 0], 0)),
+];
+
+#[test]
+fn spare_pages_are_shared(rt: HostRuntime) -> Result<(), Fail> {
+    for (spare, expected) in SHARES.iter() {
+        assert_eq!(rt; shares(rt.alloc(), *spare)?, *expected, "of {spare}");
+    }
     Ok(())
 }

@@ -1,6 +1,6 @@
 use Rattle.std.proofs.Common.{◌≡◌, All, length}
 use Rattle.page_workers.specs.Seating.{IsUnused}
-use Rattle.page_workers_tests.proofs.tests.sure_workers.Given as goal
+use Rattle.page_workers_tests.proofs.tests.crew.crew.Given as goal
 
 abbrev pub invariant-loop-i : goal.invariant-loop-i
 invariant-loop-i l = record {

@@ -4,7 +4,7 @@ use Rattle.page_workers.specs.declared.bench.Bench.{Bench}
 use Rattle.page_workers.specs.Seating.{IsUnused, numbers}
 use Rattle.page_workers.proofs.Numbers.{numbers_joined}
 use Rattle.page_workers.proofs.Rounds.{seated_may_draw, drawn_may_leave}
-use Rattle.page_workers_tests.proofs.tests.one_round.Goals as goal
+use Rattle.page_workers_tests.proofs.tests.crew.one_round.Goals as goal
 
 pub draw_round-requires-clause-ready : goal.draw_round-requires-clause-ready
 draw_round-requires-clause-ready g c κs within =
