@@ -38,27 +38,3 @@ pub fn signed(bytes: &[u8]) -> i32
         _ => BigEndian::read_i32(bytes),
     }
 }
-
-#[cfg(test)]
-mod tests {
-    use super::*;
-
-    #[test]
-    fn unsigned_numbers(rt: HostRuntime) {
-        assert_eq!(rt; unsigned(&[0x41]), 65);
-        assert_eq!(rt; unsigned(&[0x00, 0x80]), 128);
-        assert_eq!(rt; unsigned(&[0x0f, 0x42, 0x40]), 1_000_000);
-        assert_eq!(rt; unsigned(&[0x00, 0x00, 0x04, 0xf6]), 1270);
-        assert_eq!(rt; unsigned(&[0xff, 0xff, 0xff, 0xff]), 4_294_967_295);
-    }
-
-    #[test]
-    fn signed_numbers(rt: HostRuntime) {
-        assert_eq!(rt; signed(&[0xff]), -1);
-        assert_eq!(rt; signed(&[0x80]), -128);
-        assert_eq!(rt; signed(&[0x00, 0x80]), 128);
-        assert_eq!(rt; signed(&[0xff, 0xff, 0xfe]), -2);
-        assert_eq!(rt; signed(&[0x00, 0x00, 0x04, 0xf6]), 1270);
-        assert_eq!(rt; signed(&[0xff, 0xff, 0xff, 0xff]), -1);
-    }
-}

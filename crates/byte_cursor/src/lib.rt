@@ -6,6 +6,3 @@
 mod cursor;
 
 pub use cursor::{Cursor, Short};
-
-#[cfg(test)]
-mod tests;

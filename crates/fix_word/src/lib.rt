@@ -7,6 +7,3 @@ pub mod laws;
 mod sizes;
 
 pub use sizes::{scale, tex_units};
-
-#[cfg(test)]
-mod tests;
