@@ -3,8 +3,6 @@
 
 mod glyph;
 mod laws;
-#[cfg(test)]
-mod tests;
 
 pub use glyph::paint;
 pub use laws::glyphs;

@@ -133,26 +133,3 @@ impl PackedBitmap {
         &self.bytes
     }
 }
-
-#[cfg(test)]
-mod tests {
-    use super::*;
-    use std::test::Fail;
-
-    #[test]
-    fn rows_are_blackened_and_copied(rt: HostRuntime) -> Result<(), Fail> {
-        let mut bitmap = PackedBitmap::white(rt.alloc(), 10, 4)?;
-        assert_eq!(rt; bitmap.width(), 10);
-        assert_eq!(rt; bitmap.height(), 4);
-        bitmap.blacken(Span { from: 6, until: 10 }, Span { from: 1, until: 2 });
-        assert_eq!(rt; bitmap.rows(), [0, 0, 0x03, 0xc0, 0, 0, 0, 0].as_slice());
-        bitmap.copy_down(1, 1);
-        assert_eq!(rt;
-            bitmap.rows(),
-            [0, 0, 0x03, 0xc0, 0x03, 0xc0, 0, 0].as_slice()
-        );
-        assert_eq!(rt; bitmap.row(2), [0x03, 0xc0].as_slice());
-        assert!(rt; bitmap.is_black(6, 2) && !bitmap.is_black(5, 2));
-        Ok(())
-    }
-}

@@ -235,6 +235,3 @@ impl PaddedBitmap {
         count_ones(&self.bytes[..padded_bytes(self.width) * self.height as usize])
     }
 }
-
-#[cfg(test)]
-mod tests;

@@ -60,38 +60,3 @@ fn set_bits(row: &mut [u8], at: usize, mask: u8)
 {
     row[at] |= mask;
 }
-
-#[cfg(test)]
-mod tests {
-    use super::*;
-
-    #[test]
-    fn blackens_inside_one_byte(rt: HostRuntime) {
-        let mut row = [0x81, 0];
-        blacken(&mut row, 2, 4);
-        assert_eq!(rt; row, [0b1011_0001, 0]);
-        blacken(&mut row, 7, 7);
-        assert_eq!(rt; row, [0b1011_0001, 0]);
-    }
-
-    #[test]
-    fn blackens_over_byte_borders(rt: HostRuntime) {
-        let mut row = [0, 0, 0, 0b0100_0000];
-        blacken(&mut row, 7, 25);
-        assert_eq!(rt; row, [1, 0xff, 0xff, 0b1100_0000]);
-        let mut whole = [0, 0];
-        blacken(&mut whole, 0, 16);
-        assert_eq!(rt; whole, [0xff, 0xff]);
-    }
-
-    #[test]
-    fn the_first_pixel_is_in_the_high_bit(rt: HostRuntime) {
-        let row = [0b1000_0000, 0b0000_0001];
-        assert!(rt;
-            is_black(&row, 0) && !is_black(&row, 1) && !is_black(&row, 14) && is_black(&row, 15)
-        );
-        assert_eq!(rt; row_bytes(0), 0);
-        assert_eq!(rt; row_bytes(8), 1);
-        assert_eq!(rt; row_bytes(9), 2);
-    }
-}

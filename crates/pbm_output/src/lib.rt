@@ -2,8 +2,6 @@
 #![tactic(auto)]
 
 mod laws;
-#[cfg(test)]
-mod tests;
 mod write;
 
 pub use laws::{lengths, told_pages, worked_page};

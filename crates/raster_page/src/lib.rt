@@ -5,8 +5,6 @@
 mod laws;
 mod page;
 mod span;
-#[cfg(test)]
-mod tests;
 
 pub use laws::{either_order, marks};
 pub use page::Page;

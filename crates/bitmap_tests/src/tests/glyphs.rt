@@ -2,7 +2,7 @@
 
 mod random_places;
 
-use crate::paint;
+use glyph_paint::paint;
 use packed_rows::MAX_COORDINATE;
 use pk_runs::raster;
 use raster_page::Page;
