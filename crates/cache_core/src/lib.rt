@@ -24,6 +24,3 @@ pub use ghost_common::GhostCommon;
 pub use stands::Stands;
 pub use state::CacheState;
 pub use told::Told;
-
-#[cfg(test)]
-mod tests;

@@ -8,6 +8,3 @@ mod cache;
 pub mod laws;
 
 pub use cache::{CacheSeat, FontCache};
-
-#[cfg(test)]
-mod tests;

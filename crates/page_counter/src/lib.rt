@@ -12,6 +12,3 @@ mod view;
 pub use counter::PageCounter;
 pub use seat::CounterSeat;
 pub use view::{SeatClaims, View};
-
-#[cfg(test)]
-mod tests;

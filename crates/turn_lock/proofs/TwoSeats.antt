@@ -11,13 +11,6 @@ use Rattle.turn_lock.specs.Histories.{AllMade}
 use Rattle.turn_lock.specs.Seats.{AllJoined}
 use Rattle.turn_lock.proofs.OwnCalls.{own-append, append_same, made_prefix, made_back}
 
--- both seats that were made beside seat 0 were joined
-pub both_joined : (v : View) → v.made ≡ 3 → v.joined ≡ 1 ∷ 2 ∷ [] → AllJoined v
-both_joined v three is zero above below = absurd (omega arith)
-both_joined v three is (suc zero) above below = (0, ap (λ l. get_elem? l 0) is)
-both_joined v three is (suc (suc zero)) above below = (1, ap (λ l. get_elem? l 1) is)
-both_joined v three is (suc (suc (suc n))) above below = absurd (omega arith)
-
 -- of two numbers one has no calls, so all are the other's
 all_own : (n m : ℕ) → ((k : ℕ) → k < 2 → k ≢ m → k ≡ n) → (xs : List Call) → AllMade 2 xs → own m xs ≡ [] → own n xs ≡ xs
 all_own n m other [] made none = refl

@@ -15,6 +15,3 @@ mod waiting;
 pub use lock::TurnLock;
 pub use seat::Seat;
 pub use view::{Stage, View};
-
-#[cfg(test)]
-mod tests;

@@ -32,6 +32,11 @@ impl<T: Told> TurnLock<T> {
         next > shared.peek(SERVING)
     }
 
+    /// Whether nobody has the turn, waits in line or sleeps, as it was at some time in the call.
+    pub fn is_idle(&self) -> bool {
+        !self.is_taken() && self.sleepers.are_none()
+    }
+
     // Looks for a short time whether nobody has the turn.
     fn is_free_soon(&self) -> bool {
         for looks in 0..LOOKS {

@@ -1,0 +1,140 @@
+//! The cache's machine: a page's looks, by one seat, and a claim that is given up.
+ghost use Rattle.std.specs.Prelude.{◌≡◌, ◌+◌, ◌<◌, ◌≤◌, [], IfOk};
+
+use super::{Sized, key_of};
+use cache_core::{Act, CacheState, Entry, Look};
+use outside::FontKey;
+use std::alloc::{AllocError as NoMemory, Global};
+use std::sync::Arc;
+use std::test::Fail;
+
+// Looks the key up. Where it was claimed, the claim is filled or given up.
+fn asked(
+    alloc: Global,
+    state: &mut CacheState<Sized>,
+    name: &[u8],
+    fills: bool,
+) -> Result<(), NoMemory>
+    requires idle { state.old.claims ≡ [] }
+    requires few { state.old.turns < 1000 }
+    ensures idle { IfOk result (λ _. state.new.claims ≡ []) }
+{
+    let key = key_of(alloc, name, 128)?;
+    let font = Arc::new(
+        alloc,
+        Sized {
+            size: 128,
+            number: 1,
+        },
+    )?;
+    let Look::Claimed = state.look(1, &key)? else {
+        return Ok(());
+    };
+    if !fills {
+        state.release(1, &key);
+    } else if state.fill(1, &key, font).is_err() {
+        return Err(NoMemory);
+    }
+    Ok(())
+}
+
+fn second_letter(key: &Arc<FontKey>) -> char {
+    match key.name.bytes().get(1) {
+        Some(byte) => *byte as char,
+        None => '?',
+    }
+}
+
+// The second letter of the key, and a letter for what was done.
+fn letters(entry: &Entry) -> (char, char) {
+    let act = match &entry.act {
+        Act::Hit => 'h',
+        Act::Claimed => 'c',
+        Act::Busy => 'b',
+        Act::Filled { gone: None } => 'f',
+        Act::Filled { gone: Some(key) } => second_letter(key),
+        Act::Released => 'r',
+    };
+    (second_letter(&entry.key), act)
+}
+
+fn told(alloc: Global, entries: &[Entry]) -> Result<Vec<(char, char)>, NoMemory> {
+    let mut told = Vec::new(alloc);
+    for entry in entries {
+        told.push(letters(entry))?;
+    }
+    Ok(told)
+}
+
+// How many fonts are kept, the fonts that are asked for, and whether claims are filled.
+type Asked = (usize, &'static [&'static [u8]], bool);
+
+// How many turns there were, and the history as it is shown and as it is handed out.
+fn history(
+    alloc: Global,
+    asked_for: &Asked,
+) -> Result<(u64, Vec<(char, char)>, Vec<(char, char)>), NoMemory> {
+    let (capacity, names, fills) = *asked_for;
+    let mut state = CacheState::new(alloc, capacity.max(1).min(256))?;
+    for name in names {
+        if state.turns() >= 1000 {
+            return Err(NoMemory);
+        }
+        asked(alloc, &mut state, name, fills)?;
+    }
+    let turns = state.turns();
+    let shown = told(alloc, state.entries())?;
+    Ok((turns, shown, told(alloc, &state.finish())?))
+}
+
+// One font, the two that it is made of, and these again.
+const PAGE: &[&[u8]] = &[b"duo", b"dot", b"bar", b"dot", b"bar"];
+
+// With how many turns there were, and the second letter of each key with a letter for what was
+// done: that of the font that left, where one did.
+static ROWS: [(Asked, u64, &'static [(char, char)]); 3] = [
+    (
+        (1, PAGE, true),
+        10,
+        &[
+            ('u', 'c'),
+            ('u', 'f'),
+            ('o', 'c'),
+            ('o', 'u'),
+            ('a', 'c'),
+            ('a', 'o'),
+            ('o', 'c'),
+            ('o', 'a'),
+            ('a', 'c'),
+            ('a', 'o'),
+        ],
+    ),
+    (
+        (3, PAGE, true),
+        8,
+        &[
+            ('u', 'c'),
+            ('u', 'f'),
+            ('o', 'c'),
+            ('o', 'f'),
+            ('a', 'c'),
+            ('a', 'f'),
+            ('o', 'h'),
+            ('a', 'h'),
+        ],
+    ),
+    ((1, &[b"dot"], false), 2, &[('o', 'c'), ('o', 'r')]),
+];
+
+#[test]
+fn histories(rt: HostRuntime) -> Result<(), Fail> {
+    for (row, (asked_for, turns, want)) in ROWS.iter().enumerate() {
+        let (number, shown, handed) = history(rt.alloc(), asked_for)?;
+        assert_eq!(rt;
+            (number, shown.as_slice(), handed.as_slice()),
+            (*turns, *want, *want),
+            "row {row}"
+        );
+    }
+    Ok(())
+}

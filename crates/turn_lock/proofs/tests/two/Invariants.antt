@@ -1,5 +1,0 @@
-use Rattle.turn_lock.specs.Diaries.{any_part}
-use Rattle.turn_lock.proofs.tests.two.Given as goal
-
-abbrev pub ghost-make : goal.ghost-make
-ghost-make g a = any_part
