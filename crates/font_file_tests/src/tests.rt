@@ -1,6 +1,7 @@
 //! Small files of fonts, worked out by hand.
 
 mod packed_fonts;
+mod packing;
 mod rasters;
 mod spellings;
 mod virtual_fonts;

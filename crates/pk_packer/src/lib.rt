@@ -14,8 +14,6 @@ mod plain;
 mod row;
 mod rows;
 mod runs;
-#[cfg(test)]
-mod tests;
 mod writer;
 
 pub use laws::{plain_bitmaps, runs_written, written_examples};

@@ -1,7 +1,8 @@
 //! Rasters and what they are packed into, worked out apart from this program by the rules of PKtype.
 
-use crate::pack;
-use pk_runs::raster;
+use pk_packer::pack;
+use pk_runs::{RunStop, raster};
+use std::alloc::Global;
 use std::test::Fail;
 
 // A raster, as bytes that stand for it in some form, and what is to become of it.
@@ -246,24 +247,31 @@ static CASES: [Case; 23] = [
     },
 ];
 
+// The `dyn_f` that the raster is packed with, whether its first run is black, its bytes, and the
+// lengths by each `dyn_f`.
+fn packed(
+    alloc: Global,
+    given: (&[u8], u8, bool, u32, u32),
+) -> Result<((u8, bool), Vec<u8>, [u64; 14]), RunStop> {
+    let (bytes, dyn_f, black, width, height) = given;
+    if dyn_f > 14 || width > 16384 || height > 16384 {
+        return Err(RunStop::NoMemory);
+    }
+    let raster = raster(alloc, bytes, dyn_f, black, width, height)?;
+    let packed = pack(alloc, &raster)?;
+    let mut lengths = [0; 14];
+    for f in 0..14u8 {
+        lengths[f as usize] = packed.lengths.at(f);
+    }
+    Ok(((packed.dyn_f, packed.black), packed.bytes, lengths))
+}
+
 #[test]
 fn packs_in_the_fewest_bytes(rt: HostRuntime) -> Result<(), Fail> {
     for (number, case) in CASES.iter().enumerate() {
-        let (bytes, dyn_f, black, width, height) = case.given;
-        let packed = pack(
-            rt.alloc(),
-            &raster(rt.alloc(), bytes, dyn_f, black, width, height)?,
-        )?;
-        let mut lengths = [0; 14];
-        for f in 0..14u8 {
-            lengths[f as usize] = packed.lengths.at(f);
-        }
+        let (form, bytes, lengths) = packed(rt.alloc(), case.given)?;
         assert_eq!(rt;
-            (
-                (packed.dyn_f, packed.black),
-                packed.bytes.as_slice(),
-                lengths
-            ),
+            (form, bytes.as_slice(), lengths),
             (case.form, case.bytes, case.lengths),
             "case {number}"
         );
