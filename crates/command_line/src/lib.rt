@@ -10,8 +10,6 @@ mod matches;
 mod parse;
 mod settings;
 mod shape;
-#[cfg(test)]
-mod tests;
 
 pub use parse::{LineStop, line};
 pub use settings::{Settings, default_settings, default_sheet};
