@@ -20,6 +20,15 @@ use Rattle.packed_rows.proofs.PaddedRows.{row_dots, set_words}
 abbrev pub AreSet : ℕ → ℕ → ℕ → ℕ → ℕ → ℕ → ℕ → List ℕ → ℕ → List ℕ → List ℕ → Type 0
 AreSet w from until a s b t new k source old = AreStamped (8 * div_ceil w 64) from until (λ x y. ltb x w && pixel_over (row_at k source (y + t - b)) a s x) old new
 
+-- the same of a raster that lies inside, whose rows are counted from the first that it is set on
+pub set_inside : (w from until a b k : ℕ) (new source old : List ℕ) → AreStamped (8 * div_ceil w 64) from until (λ x y. ltb x w && pixel_over (row_at k source (y - b)) a 0 x) old new
+    → AreSet w from until a 0 b 0 new k source old
+set_inside w from until a b k new source old dots = λ x y in_row on_page.
+    dots x y in_row on_page ∙ ap (λ r. is_within from until y && (ltb x w && pixel_over (row_at k source r) a 0 x) || pixel (row_at (8 * div_ceil w 64) old y) x) (place y)
+  where
+    place : (y : ℕ) → y - b ≡ y + 0 - b
+    place y = omega arith
+
 inside_place : (x a s : ℕ) → a ≤ x + s → (pos x -ℤ (pos a -ℤ pos s)) ≡ pos (x + s - a)
 inside_place x a s h = omega (arith, ints, h)
 

@@ -138,16 +138,12 @@ impl PaddedBitmap {
         let row = offset_of(y);
         if self.has_columns(raster, column) && self.has_rows(raster, row) {
             let upper = upper_of(raster);
-            let placing = Placing {
-                across: column,
-                down: row,
-                rows: Span {
-                    from: row.start,
-                    until: row.start + upper.count,
-                },
+            let rows = Span {
+                from: row.start,
+                until: row.start + upper.count,
             };
             let width = self.width;
-            stamp_inside(&mut self.bytes, width, upper, placing);
+            stamp_inside(&mut self.bytes, width, upper, column.start, rows);
         } else {
             self.stamp_pieces(raster, x, y);
         }

@@ -14,8 +14,8 @@ use crate::rows::Span;
 use crate::strips::{Strip, stamp_strip};
 use crate::words::span_word;
 
-// A piece: the pixels of each upper row from a byte on. Its first pixel lies over pixel
-// `start - skipped` of the row below it, where whole words are skipped.
+// A piece: the pixels of each upper row from a byte on. The first of them lies over pixel
+// `start - skipped` of the row below, and what is skipped is whole words.
 #[derive(Clone, Copy)]
 struct Piece {
     lower: Lower,

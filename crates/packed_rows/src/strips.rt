@@ -5,7 +5,7 @@ ghost use Rattle.std.specs.Int.{div_ceil};
 ghost use Rattle.packed_rows.specs.Stored.{row_at};
 ghost use Rattle.packed_rows.specs.Stamped.{part_over, pixel_over, strip_over, AreStamped};
 
-use crate::placing::{Lower, Placing, Upper};
+use crate::placing::{Lower, Upper};
 use crate::row::padded_bytes;
 use crate::rows::Span;
 use crate::words::{join_word, span_word, turned, word_at};
@@ -26,7 +26,7 @@ pub struct Strip {
     ghost inside: { to + 8 ≤ lower.row_len },
 }
 
-// How many rows a narrow raster has, and how many bytes each.
+// How many bytes a row of a narrow raster has, and how many rows there are.
 #[derive(Clone, Copy)]
 struct Narrow {
     stride: usize,
@@ -126,35 +126,30 @@ pub fn stamp_strip(bytes: &mut [u8], upper: Upper, strip: Strip)
     stamp_rest(bytes, upper, strip, 4 * fours);
 }
 
-/// Sets upper rows on as many rows of `width` pixels, by one word each. From column `across.start`
-/// on there is room for a word.
+/// Sets upper rows on as many rows of `width` pixels, by one word each, their first pixels in
+/// column `column`, from which on there is room for a word.
 #[inline(always)]
-pub fn stamp_inside(bytes: &mut [u8], width: u32, upper: Upper, placing: Placing)
+pub fn stamp_inside(bytes: &mut [u8], width: u32, upper: Upper, column: usize, rows: Span)
     requires narrow { width < 2 ^ 16 }
-    requires whole { placing.rows.until * (8 * div_ceil width 64) ≤ length bytes.old }
+    requires whole { rows.until * (8 * div_ceil width 64) ≤ length bytes.old }
     requires some { 0 < upper.stride }
     requires in_word { upper.stride ≤ 7 }
-    requires right { placing.across.skipped ≡ 0 }
-    requires room { placing.across.start + 64 ≤ width }
-    requires below { placing.down.skipped ≡ 0 }
-    requires down_start { placing.down.start ≡ placing.rows.from }
-    requires above { placing.rows.until ≤ placing.rows.from + upper.count }
+    requires room { column + 64 ≤ width }
+    requires all { rows.until ≡ rows.from + upper.count }
     ensures len { length bytes.new ≡ length bytes.old }
     ensures bytes { (i : ℕ) → slice_index bytes.new i < 256 }
-    ensures dots { AreStamped (8 * div_ceil width 64) placing.rows.from placing.rows.until
-        (λ x y. nat_lt x width && pixel_over (row_at upper.entry.stride upper.entry.bytes.now
-        (y + placing.down.skipped - placing.down.start))
-        placing.across.start placing.across.skipped x) bytes.old bytes.new }
+    ensures dots { AreStamped (8 * div_ceil width 64) rows.from rows.until
+        (λ x y. nat_lt x width && pixel_over
+        (row_at upper.entry.stride upper.entry.bytes.now (y - rows.from)) column 0 x)
+        bytes.old bytes.new }
 {
     let row_len = padded_bytes(width);
-    let rows = placing.rows;
     let start = rows.from * row_len;
     let size = Narrow {
         stride: upper.stride,
-        count: rows.until - rows.from,
+        count: upper.count,
     };
     let below = &mut bytes[start..start + size.count * row_len];
-    let column = placing.across.start;
     stamp_narrow(below, Lower { row_len }, upper.bytes, size, column);
 }
 
