@@ -7,7 +7,7 @@ use Rattle.packed_rows.specs.Bitmap.{Bitmap, is_black}
 use Rattle.packed_rows.specs.Packing.{pixel, pixels_of}
 use Rattle.packed_rows.specs.Changes.{is_within}
 use Rattle.packed_rows.specs.Stored.{row_at, bitmap_of, IsStored, padded_bitmap_of, IsStoredPadded}
-use Rattle.packed_rows.specs.Stamped.{is_black_at, with_raster, pixel_over}
+use Rattle.packed_rows.specs.Stamped.{is_black_at, with_raster, pixel_over, AreStamped}
 use Rattle.packed_rows.proofs.Lists.{get_or-from_fn, from_fn_past}
 use Rattle.packed_rows.proofs.Parts.{pixel_past}
 use Rattle.packed_rows.proofs.StoredBitmaps as bitmaps
@@ -18,8 +18,16 @@ use Rattle.packed_rows.proofs.PaddedRows.{row_dots, set_words}
 
 -- what set rows say of each dot, for rows of a bitmap w wide, under rows of k bytes
 abbrev pub AreSet : ℕ → ℕ → ℕ → ℕ → ℕ → ℕ → ℕ → List ℕ → ℕ → List ℕ → List ℕ → Type 0
-AreSet w from until a s b t new k source old = (x y : ℕ) → x < 64 * div_ceil w 64 → y * (8 * div_ceil w 64) + 8 * div_ceil w 64 ≤ length old
-    → pixel (row_at (8 * div_ceil w 64) new y) x ≡ (is_within from until y && (ltb x w && pixel_over (row_at k source (y + t - b)) a s x) || pixel (row_at (8 * div_ceil w 64) old y) x)
+AreSet w from until a s b t new k source old = AreStamped (8 * div_ceil w 64) from until (λ x y. ltb x w && pixel_over (row_at k source (y + t - b)) a s x) old new
+
+-- the same of a raster that lies inside, whose rows are counted from the first that it is set on
+pub set_inside : (w from until a b k : ℕ) (new source old : List ℕ) → AreStamped (8 * div_ceil w 64) from until (λ x y. ltb x w && pixel_over (row_at k source (y - b)) a 0 x) old new
+    → AreSet w from until a 0 b 0 new k source old
+set_inside w from until a b k new source old dots = λ x y in_row on_page.
+    dots x y in_row on_page ∙ ap (λ r. is_within from until y && (ltb x w && pixel_over (row_at k source r) a 0 x) || pixel (row_at (8 * div_ceil w 64) old y) x) (place y)
+  where
+    place : (y : ℕ) → y - b ≡ y + 0 - b
+    place y = omega arith
 
 inside_place : (x a s : ℕ) → a ≤ x + s → (pos x -ℤ (pos a -ℤ pos s)) ≡ pos (x + s - a)
 inside_place x a s h = omega (arith, ints, h)

@@ -7,6 +7,7 @@ use borrow.Rule.Slice.PartMut.{put_mid}
 use Rattle.packed_rows.specs.Packing.{pixel}
 use Rattle.packed_rows.specs.Stored.{row_at}
 use Rattle.packed_rows.specs.Changes.{is_within}
+use Rattle.packed_rows.specs.Stamped.{AreStamped}
 use Rattle.packed_rows.proofs.Blackened.{elsewhere, ordered}
 use Rattle.packed_rows.proofs.StoredRows.{row_at-put_same, row_at-put_other, row_at-length, next_start, row_at-put_before, row_at-put_after, row_at-put_inside, row_at-part_inside}
 
@@ -17,7 +18,7 @@ AreUnder stride f old new = (x : ℕ) → x < 8 * stride → pixel new x ≡ (f 
 -- the rows from `first` to `last` were set, where f x y is what lies over pixel x of row y
 pub record IsStamped (stride first last : ℕ) (f : ℕ → ℕ → Bool) (old new : List ℕ) : Type 0 where
   pub len : length new ≡ length old
-  pub dots : (x y : ℕ) → x < 8 * stride → y * stride + stride ≤ length old → pixel (row_at stride new y) x ≡ (is_within first last y && f x y || pixel (row_at stride old y) x)
+  pub dots : AreStamped stride first last f old new
 
 in_step : (first y : ℕ) → first ≤ y → is_within first (y + 1) y ≡ true
 in_step first y h = grind (arith, nat_tests)

@@ -1,10 +1,11 @@
 -- A raster that is set on a bitmap: the pixels that lie on its black ones become black, the others
 -- stay.
-use Rattle.std.specs.Prelude.{ℕ, ◌+◌, ◌-◌, ◌*◌, ◌%◌, ℤ, pos, ◌-ℤ◌, Bool, false, ◌&&◌, ◌||◌, ◌==◌, List, nat_le}
+use Rattle.std.specs.Prelude.{◌≡◌, ℕ, ◌+◌, ◌-◌, ◌*◌, ◌%◌, ◌<◌, ◌≤◌, ℤ, pos, ◌-ℤ◌, Bool, false, ◌&&◌, ◌||◌, ◌==◌, List, length, nat_le}
 use Rattle.std.specs.Int.{bit_at}
 use Rattle.packed_rows.specs.Bitmap.{Bitmap, is_black, from_fn}
 use Rattle.packed_rows.specs.Packing.{pixel}
 use Rattle.packed_rows.specs.Changes.{is_within}
+use Rattle.packed_rows.specs.Stored.{row_at}
 
 -- a pixel of a raster by its place, which may lie outside: white there
 abbrev pub is_black_at : Bitmap → ℤ → ℤ → Bool
@@ -50,3 +51,12 @@ abbrev pub part_over : List ℕ → ℕ → ℕ → ℕ → ℕ → ℕ → ℕ 
 part_over upper at start skipped lo hi x =
     is_within (start + lo) (start + hi) (x + skipped) && pixel upper (8 * at +
     (x + skipped - start))
+
+-- ---- rows side by side
+
+-- of rows of n bytes each, those from `from` on and before `until` have become black where f has a
+-- pixel, by its column and its row, and nothing else has changed
+abbrev pub AreStamped : ℕ → ℕ → ℕ → (ℕ → ℕ → Bool) → List ℕ → List ℕ → Type 0
+AreStamped n from until f old new =
+    (x y : ℕ) → x < 8 * n → y * n + n ≤ length old
+    → pixel (row_at n new y) x ≡ (is_within from until y && f x y || pixel (row_at n old y) x)

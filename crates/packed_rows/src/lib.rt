@@ -12,6 +12,7 @@ mod ones;
 mod packed;
 mod padded;
 mod pieces;
+mod placing;
 mod row;
 mod rows;
 mod strips;

@@ -3,18 +3,19 @@
 ghost use Rattle.std.specs.Prelude.{◌≡◌, ℕ, ◌+◌, ◌*◌, ◌^◌, ◌<◌, ◌≤◌, ◌↔◌, [], IfOk, IfSome, IsSome, IsTrue, length, replicate, slice_index, slice_index_or, take};
 ghost use Rattle.std.specs.Int.{div_ceil};
 ghost use Rattle.std.specs.List.{flat_map};
-ghost use Rattle.packed_rows.specs.declared.offset.TheConstants.{MAX_COORDINATE};
 ghost use Rattle.packed_rows.specs.Bitmap.{is_black};
 ghost use Rattle.packed_rows.specs.Coordinates.{IsCoordinate};
 ghost use Rattle.packed_rows.specs.Changes.{white_bitmap, with_black, black_count};
 ghost use Rattle.packed_rows.specs.Stamped.{with_raster};
 ghost use Rattle.packed_rows.specs.Packing.{row_text, pixels_of, IsPadded};
+ghost use Rattle.packed_rows.specs.Stored.{bitmap_of, IsStored};
 
 use crate::black::blacken_rows;
 use crate::offset::{Offset, offset_of, reached};
 use crate::ones::count_ones;
 use crate::packed::PackedBitmap;
 use crate::pieces::stamp_over;
+use crate::placing::{Placing, Upper};
 use crate::row::{is_black, padded_bytes, row_bytes};
 use crate::rows::Span;
 use crate::strips::stamp_inside;
@@ -47,6 +48,20 @@ fn whiten(bytes: &mut Vec<u8>)
     ensures { bytes.new.items ≡ replicate (length bytes.old.items) 0 }
 {
     bytes.fill(0);
+}
+
+// The rows of a raster, to be set on others.
+fn upper_of(raster: &PackedBitmap) -> Upper<'_>
+    ensures stored { IsStored raster.now.width raster.now.height result.bytes.now }
+    ensures value { bitmap_of raster.now.width raster.now.height result.bytes.now ≡ raster.now }
+    ensures stride { result.stride ≡ div_ceil raster.now.width 8 }
+    ensures count { result.count ≡ raster.now.height }
+{
+    Upper {
+        bytes: raster.stored(),
+        stride: row_bytes(raster.width()),
+        count: raster.height() as usize,
+    }
 }
 
 impl PaddedBitmap {
@@ -121,47 +136,38 @@ impl PaddedBitmap {
     {
         let column = offset_of(x);
         let row = offset_of(y);
-        if self.has_room(raster, column, row) {
-            let stride = row_bytes(raster.width());
+        if self.has_columns(raster, column) && self.has_rows(raster, row) {
+            let upper = upper_of(raster);
             let rows = Span {
                 from: row.start,
-                until: row.start + raster.height() as usize,
+                until: row.start + upper.count,
             };
             let width = self.width;
-            stamp_inside(
-                &mut self.bytes,
-                width,
-                raster.stored(),
-                stride,
-                column,
-                row,
-                rows,
-            );
+            stamp_inside(&mut self.bytes, width, upper, column.start, rows);
         } else {
             self.stamp_pieces(raster, x, y);
         }
     }
 
-    // Whether a raster with that offset is narrow and lies inside, and a word has room from its
-    // first column on.
+    // Whether a raster with that offset is narrow, and a word has room from its first column on.
     #[inline(always)]
-    fn has_room(&self, raster: &PackedBitmap, column: Offset, row: Offset) -> bool
-        requires column { column.start ≤ MAX_COORDINATE }
-        requires row { row.start ≤ MAX_COORDINATE }
+    fn has_columns(&self, raster: &PackedBitmap, column: Offset) -> bool
         ensures right { IsTrue result → column.skipped ≡ 0 }
-        ensures below { IsTrue result → row.skipped ≡ 0 }
         ensures some { IsTrue result → 1 ≤ raster.now.width }
         ensures narrow { IsTrue result → raster.now.width ≤ 56 }
         ensures room { IsTrue result → column.start + 64 ≤ self.now.width }
-        ensures low { IsTrue result → row.start + raster.now.height ≤ self.now.height }
     {
         let side = raster.width();
-        column.skipped == 0
-            && row.skipped == 0
-            && 1 <= side
-            && side <= 56
-            && column.start + 64 <= self.width as usize
-            && row.start + raster.height() as usize <= self.height as usize
+        column.skipped == 0 && 1 <= side && side <= 56 && column.start + 64 <= self.width as usize
+    }
+
+    // Whether all rows of a raster with that offset lie inside.
+    #[inline(always)]
+    fn has_rows(&self, raster: &PackedBitmap, row: Offset) -> bool
+        ensures below { IsTrue result → row.skipped ≡ 0 }
+        ensures low { IsTrue result → row.start + raster.now.height ≤ self.now.height }
+    {
+        row.skipped == 0 && row.start + raster.height() as usize <= self.height as usize
     }
 
     // Sets any raster, piece by piece.
@@ -173,18 +179,11 @@ impl PaddedBitmap {
     {
         let across = offset_of(x);
         let down = offset_of(y);
-        let rows = reached(down, raster.height() as usize, self.height as usize);
-        let stride = row_bytes(raster.width());
+        let upper = upper_of(raster);
+        let rows = reached(down, upper.count, self.height);
+        let placing = Placing { across, down, rows };
         let width = self.width;
-        stamp_over(
-            &mut self.bytes,
-            width,
-            raster.stored(),
-            stride,
-            across,
-            down,
-            rows,
-        );
+        stamp_over(&mut self.bytes, width, upper, placing);
     }
 
     /// The bytes of row `y` without its padding: eight pixels a byte, the first in the high bit, 1
