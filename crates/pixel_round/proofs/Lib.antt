@@ -1,3 +1,4 @@
 pub mod Conversion
 pub mod Equal
+pub mod Reciprocal
 pub mod OneRound

@@ -5,7 +5,7 @@ ghost use Rattle.std.specs.Int.{div_ceil};
 ghost use Rattle.pixel_round.specs.Limits.{HIGHEST_RESOLUTION};
 ghost use Rattle.pixel_round.specs.Pixels.{AreEqual, conversion, nearest, round, ceil, IsUsable};
 
-use crate::quotients::{gcd, quotient, quotient_up};
+use crate::quotients::{gcd, quotient, quotient_by, quotient_up, reciprocal_of};
 use crate::units::Units;
 use std::error::Error;
 use std::fmt;
@@ -28,10 +28,12 @@ impl Error for Scale {}
 pub struct Conv {
     top: u128,
     bottom: u64,
+    // 2^64 by twice the bottom, rounded down.
+    reciprocal: u64,
 }
 
 impl Model for Conv {
-    ghost use Rattle.std.specs.Prelude.{◌<◌, ◌≤◌, ◌*◌, ◌^◌};
+    ghost use Rattle.std.specs.Prelude.{◌≡◌, ◌<◌, ◌≤◌, ◌*◌, ◌/◌, ◌^◌};
     ghost use Rattle.pixel_round.specs.Pixels.{Fraction};
 
     ghost Value = { Fraction };
@@ -39,9 +41,13 @@ impl Model for Conv {
     ghost view = { λ c. record { top = c.top; bottom = c.bottom } };
 
     ghost invariant = { λ c. (0 < c.top) × (0 < c.bottom) × (c.top ≤ 512 * c.bottom)
-        × (c.bottom < 2 ^ 59) };
+        × (c.bottom < 2 ^ 59) × (c.reciprocal ≡ 2 ^ 64 / (2 * c.bottom)) };
 
-    ghost inverse = { λ c. record { top = c.top; bottom = c.bottom } };
+    ghost inverse = { λ c. record {
+      top = c.top;
+      bottom = c.bottom;
+      reciprocal = 2 ^ 64 / (2 * c.bottom);
+    } };
 }
 
 impl Conv {
@@ -77,9 +83,11 @@ impl Conv {
         ensures usable { IsUsable result }
     {
         let common = gcd(top, bottom);
+        let bottom = bottom / common;
         Conv {
             top: top / u128::from(common),
-            bottom: bottom / common,
+            bottom,
+            reciprocal: reciprocal_of(2 * bottom),
         }
     }
 
@@ -121,9 +129,10 @@ impl Conv {
         ensures value { result ≡ pos (nearest self.now size) }
         ensures bounded { nearest self.now size ≤ 512 * size + 1 }
     {
-        quotient(
+        quotient_by(
             2 * u128::from(size) * self.top + u128::from(self.bottom),
             2 * self.bottom,
+            self.reciprocal,
         ) as i64
     }
 

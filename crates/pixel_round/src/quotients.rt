@@ -1,5 +1,5 @@
 //! Quotients of wide numbers by narrow ones.
-ghost use Rattle.std.specs.Prelude.{◌≡◌, ◌/◌, ◌<◌};
+ghost use Rattle.std.specs.Prelude.{◌≡◌, ◌/◌, ◌<◌, ◌^◌};
 ghost use Rattle.std.specs.Int.{IsGcd, div_ceil};
 
 // What fits 64 bits is divided there, which is many times faster.
@@ -31,6 +31,28 @@ pub fn quotient(top: u128, bottom: u64) -> u128
         u128::from(top as u64 / bottom)
     } else {
         top / u128::from(bottom)
+    }
+}
+
+/// 2^64 by a number, rounded down: with it quotients by that number are products.
+pub fn reciprocal_of(bottom: u64) -> u64
+    requires { 1 < bottom }
+    ensures { result ≡ 2 ^ 64 / bottom }
+{
+    (NARROW / u128::from(bottom)) as u64
+}
+
+/// The quotient, rounded down, by a product where the number is below the reciprocal.
+#[inline(always)]
+pub fn quotient_by(top: u128, bottom: u64, reciprocal: u64) -> u128
+    requires some { 0 < bottom }
+    requires reciprocal { reciprocal ≡ 2 ^ 64 / bottom }
+    ensures { result ≡ top / bottom }
+{
+    if top < u128::from(reciprocal) {
+        top * (u128::from(reciprocal) + 1) / NARROW
+    } else {
+        quotient(top, bottom)
     }
 }
 

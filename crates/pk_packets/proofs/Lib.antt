@@ -1,4 +1,3 @@
-pub mod Kept
 pub mod Added
 pub mod SoFar
 pub mod OneItem

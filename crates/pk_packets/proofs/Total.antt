@@ -164,7 +164,7 @@ sound_items_have_glyphs items h = (font, λ c. subst (λ (o : Option Glyph). IsA
     of c = lookup (λ k. c == k) r.0
 
     font : Glyphs
-    font = record { plain = from_fn 256 of; others = r.0 }
+    font = record { by_place = from_fn 256 of; others = r.0 }
 
     same : (c : ℕ) → glyph_of font c ≡ of c
     same c = elim (cases_lt c 256) [

@@ -1,9 +1,9 @@
 -- A PK file and its glyphs: Rokicki, PKtype, "Packed file format".
-use Rattle.std.specs.Prelude.{◌≡◌, ℕ, ◌++◌, ◌&&◌, List, [], ◌∷◌, drop, nat_lt, ◌==◌, if◌then◌else◌, Option, Some, None, IsTrue, get_or}
-use Rattle.std.specs.Map.{lookup}
+use Rattle.std.specs.Prelude.{◌≡◌, ℕ, ◌++◌, ◌&&◌, List, [], ◌∷◌, drop, ◌==◌, if◌then◌else◌, Option, Some, None, IsTrue}
 use Rattle.packed_rows.specs.Bitmap.{Bitmap}
 use Rattle.pk_runs.specs.Raster.{IsRaster}
 use Rattle.pk_runs.specs.declared.glyph.Glyph.{Glyph}
+pub use Rattle.pk_runs.specs.Glyphs.{Glyphs, glyph_of}
 use Rattle.pk_packets.specs.Preamble.{preamble_fault, preamble_size}
 use Rattle.pk_packets.specs.Items.{IsItem, is_packet, text_of}
 use Rattle.pk_packets.specs.Packets.{code_of, dyn_f_of, raster_height, hoff_of, is_first_black, packet_fault, raster_of, voff_of, raster_width}
@@ -57,16 +57,6 @@ abbrev pub IsAnswer : List (List ℕ) → ℕ → Option Glyph → Type 0
 IsAnswer items c answer = IsGlyphFor (packet_with items c) answer
 
 -- ---- what is kept of it
-
--- the glyphs of the codes from 0 to 255 by their places, and those of others by their codes
-pub record Glyphs : Type 0 where
-  pub plain : List (Option Glyph)
-  pub others : List (ℕ × Glyph)
-
--- the glyph of a code
-abbrev pub glyph_of : Glyphs → ℕ → Option Glyph
-glyph_of font c =
-    if nat_lt c 256 then get_or font.plain c None else lookup (λ k. c == k) font.others
 
 -- each code's glyph is that of its last packet
 abbrev pub HasGlyphsOf : List (List ℕ) → Glyphs → Type 0

@@ -6,7 +6,7 @@ use Rattle.big_endian.specs.Fields.{unsigned_at, signed_at}
 use Rattle.pk_packets.specs.Items.{by_form, code_size, count_size, head_size, is_packet, opcode, told_size}
 use Rattle.pk_packets.specs.declared.faults.PkFault.{PkFault}
 use Rattle.pk_packets.specs.declared.faults.PkFault.TheVariants.{TooBig, FontTooBig, Length}
-use Rattle.pk_runs.specs.Limits.{LONGEST_SIDE}
+use Rattle.pk_runs.specs.Limits.{LONGEST_SIDE, MAX_RASTER_BYTES}
 
 -- ---- the fields
 
@@ -73,5 +73,5 @@ packet_fault before bytes =
     if nat_lt (told_size bytes) (fixed_size (opcode bytes)) then Some (Length (code_of bytes))
     else if nat_lt LONGEST_SIDE (raster_width bytes) || nat_lt LONGEST_SIDE (raster_height bytes)
     then Some (TooBig (code_of bytes))
-    else if nat_lt 8388608 (raster_sum before + raster_size bytes) then Some FontTooBig
+    else if nat_lt MAX_RASTER_BYTES (raster_sum before + raster_size bytes) then Some FontTooBig
     else None

@@ -5,39 +5,34 @@ ghost use Rattle.pk_runs.specs.Raster.{IsRaster, IsRunFault};
 ghost use Rattle.pk_runs.specs.declared.faults.RunFault.{RunFault};
 ghost use Rattle.pk_packets.specs.Stops.{IfFault};
 ghost use Rattle.pk_packets.specs.declared.faults.PkFault.TheVariants as fault;
-ghost use Rattle.pk_runs.specs.Limits.{LONGEST_SIDE as THE_LONGEST_SIDE};
+ghost use Rattle.pk_runs.specs.Limits as limits;
 
 use crate::packet::Packet;
 use crate::{PkFault, PkStop};
-use pk_runs::{Glyph, RunStop, raster};
+use pk_runs::{Glyph, LONGEST_SIDE, MAX_RASTER_BYTES, RunStop, raster};
 use std::alloc::Global;
-
-// The longest side of a raster, in dots.
-const LONGEST_SIDE: u32 = 16384;
-// The most bytes that the rasters of a font may take.
-const MOST_BYTES: u32 = 8_388_608;
 
 /// The bytes that the rasters take with this packet's, where those before it take n. `TooBig`
 /// where a side is too long, else `FontTooBig` where they take too many.
 pub fn sum_with(packet: &Packet, before: u32) -> Result<u32, PkFault>
-    requires { before ≤ 8388608 }
+    requires { before ≤ limits.MAX_RASTER_BYTES }
     ensures sum { IfOk result (λ sum. sum ≡ before + packet.now.height
         * div_ceil packet.now.width 8) }
-    ensures few { IfOk result (λ sum. sum ≤ 8388608) }
-    ensures narrow { OnOk result (packet.now.width ≤ THE_LONGEST_SIDE) }
-    ensures low { OnOk result (packet.now.height ≤ THE_LONGEST_SIDE) }
+    ensures few { IfOk result (λ sum. sum ≤ limits.MAX_RASTER_BYTES) }
+    ensures narrow { OnOk result (packet.now.width ≤ limits.LONGEST_SIDE) }
+    ensures low { OnOk result (packet.now.height ≤ limits.LONGEST_SIDE) }
     ensures fault { IfErr result (λ f.
-        (((THE_LONGEST_SIDE < packet.now.width) ⊎ (THE_LONGEST_SIDE < packet.now.height))
+        (((limits.LONGEST_SIDE < packet.now.width) ⊎ (limits.LONGEST_SIDE < packet.now.height))
         × (f ≡ fault.TooBig packet.now.code))
-        ⊎ ((packet.now.width ≤ THE_LONGEST_SIDE) × (packet.now.height ≤ THE_LONGEST_SIDE)
-        × (8388608 < before + packet.now.height * div_ceil packet.now.width 8)
+        ⊎ ((packet.now.width ≤ limits.LONGEST_SIDE) × (packet.now.height ≤ limits.LONGEST_SIDE)
+        × (limits.MAX_RASTER_BYTES < before + packet.now.height * div_ceil packet.now.width 8)
         × (f ≡ fault.FontTooBig))) }
 {
     if packet.width > LONGEST_SIDE || packet.height > LONGEST_SIDE {
         return Err(PkFault::TooBig(packet.code));
     }
     let sum = before + packet.height * packet.width.div_ceil(8);
-    if sum > MOST_BYTES {
+    if sum > MAX_RASTER_BYTES {
         return Err(PkFault::FontTooBig);
     }
     Ok(sum)
@@ -46,8 +41,8 @@ pub fn sum_with(packet: &Packet, before: u32) -> Result<u32, PkFault>
 /// The glyph that a packet's raster bytes stand for, or `Runs` with the fault of its runs.
 pub fn glyph(alloc: Global, packet: &Packet) -> Result<Glyph, PkStop>
     requires form { packet.now.dyn_f ≤ 14 }
-    requires narrow { packet.now.width ≤ THE_LONGEST_SIDE }
-    requires low { packet.now.height ≤ THE_LONGEST_SIDE }
+    requires narrow { packet.now.width ≤ limits.LONGEST_SIDE }
+    requires low { packet.now.height ≤ limits.LONGEST_SIDE }
     ensures raster { IfOk result
         (λ g. IsRaster packet.now.raster.now packet.now.dyn_f packet.now.black
         packet.now.width packet.now.height g.raster) }

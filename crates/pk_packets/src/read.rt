@@ -1,5 +1,6 @@
 //! Reading a PK file.
 ghost use Rattle.std.specs.Prelude.{◌≡◌, ◌≤◌, ◌+◌, ℕ, List, ◌∷◌, IfErr, IfOk, IsTrue, MatchResult};
+ghost use Rattle.pk_runs.specs.Limits.{MAX_RASTER_BYTES};
 ghost use Rattle.pk_packets.specs.Faults.{IsFirstFault, IsPacketFault};
 ghost use Rattle.pk_packets.specs.Fonts.{HasGlyphsOf, IsPacketSound, IsPkFile};
 ghost use Rattle.pk_packets.specs.Items.{IsItem, is_packet};
@@ -56,8 +57,8 @@ impl PkFont {
     fn add(&mut self, alloc: Global, bytes: &[u8], sum: u32) -> Result<u32, PkStop>
         requires item { IsItem bytes.now }
         requires packet { IsTrue (is_packet bytes.now) }
-        requires few { sum ≤ 8388608 }
-        ensures few { IfOk result (λ sum. sum ≤ 8388608) }
+        requires few { sum ≤ MAX_RASTER_BYTES }
+        ensures few { IfOk result (λ sum. sum ≤ MAX_RASTER_BYTES) }
         ensures sum { IfOk result (λ after. after ≡ sum + raster_size bytes.now) }
         ensures added { (before : List (List ℕ)) → sum ≡ raster_sum before
             → HasGlyphsOf before self.old →

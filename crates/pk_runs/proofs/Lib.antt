@@ -14,5 +14,7 @@ pub mod Complete
 pub mod PlainWords
 pub mod Empty
 pub mod RowsGiven
+pub mod GlyphsKept
 pub mod Sizes
 pub mod Total
+pub mod Shapes

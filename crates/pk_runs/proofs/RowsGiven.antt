@@ -1,9 +1,10 @@
 -- Rasters painted from given rows.
-use Rattle.std.proofs.Common.{◌≡◌, ℕ, zero, suc, ◌+◌, ◌*◌, ◌/◌, ◌%◌, ◌<◌, ◌≤◌, Bool, false, List, [], length, get_or, map, sym, ap, ◌∙◌, arith, Vec, Global}
+use Rattle.std.proofs.Common.{◌≡◌, ℕ, zero, suc, ◌+◌, ◌*◌, ◌/◌, ◌%◌, ◌<◌, ◌≤◌, Bool, false, List, [], length, get_or, map, refl, sym, ap, ◌∙◌, arith, Vec, Global}
 use Rattle.std.proofs.lemmas.List.{length-map, get_or-map}
 use Rattle.std.proofs.lemmas.Nat.{div-mul-add, mod-mul-add, div_below}
-use Rattle.packed_rows.specs.Bitmap.{Bitmap}
+use Rattle.packed_rows.specs.Bitmap.{Bitmap, IsShaped}
 use Rattle.pk_runs.specs.Given.{rows_width, bitmap_of_rows, pixel_at}
+use Rattle.pk_runs.specs.Limits.{LONGEST_SIDE}
 use Rattle.pk_runs.proofs.Complete.{IsPlainTo, given_all}
 
 abbrev seen_rows : List (Vec Bool Global) → List (List Bool)
@@ -33,3 +34,15 @@ rows_painted rows w k b size all equal d =
 
     make : ℕ → ℕ → List (List Bool) → Bitmap
     make n m r = record { width = n; height = m; rows = r }
+
+-- a bitmap of rows of one length is as a raster is to be
+pub given_rows : (rows : List (Vec Bool Global)) (b : Bitmap) → b ≡ bitmap_of_rows (map (λ v. v.items) rows) → rows_width (map (λ v. v.items) rows) ≤ LONGEST_SIDE → length rows ≤ LONGEST_SIDE
+    → ((y : ℕ) → y < length rows → length (get_or (map (λ v. v.items) rows) y []) ≡ rows_width (map (λ v. v.items) rows)) → (b.width ≤ LONGEST_SIDE) × (b.height ≤ LONGEST_SIDE) × IsShaped b
+given_rows rows b is narrow low equal = rw is (
+  narrow,
+  omega (arith, low, high),
+  record { rows = refl; columns = λ y inside. equal y (omega (arith, inside, high)) },
+)
+  where
+    high : length (map (λ (v : Vec Bool Global). v.items) rows) ≡ length rows
+    high = length-map rows (λ (v : Vec Bool Global). v.items)

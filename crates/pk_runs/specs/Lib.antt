@@ -4,5 +4,6 @@ pub mod Painting
 pub mod Reading
 pub mod Stops
 pub mod Given
+pub mod Glyphs
 pub mod Narrow
 pub mod Limits

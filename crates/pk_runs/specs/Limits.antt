@@ -1,6 +1,11 @@
--- The limits of a raster: of no standard, but this project's own choice.
+-- The limits of a font's rasters: of no standard, but this project's own choice.
 use Rattle.std.specs.Prelude.{ℕ}
 
 -- the greatest width and height of a raster, in pixels
 abbrev pub LONGEST_SIDE : ℕ
 LONGEST_SIDE = 16384
+
+-- the most bytes that the rasters of a font may take, each row in whole bytes, those among them
+-- that later ones replace
+abbrev pub MAX_RASTER_BYTES : ℕ
+MAX_RASTER_BYTES = 8388608

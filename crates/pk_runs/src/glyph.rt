@@ -2,7 +2,7 @@
 
 ghost use Rattle.std.specs.Prelude.{◌≡◌, ◌<◌, ◌≤◌, ℕ, [], length, map, slice_index_or, IfOk};
 ghost use Rattle.pk_runs.specs.Given.{rows_width, bitmap_of_rows};
-ghost use Rattle.packed_rows.specs.Bitmap.{is_black};
+ghost use Rattle.packed_rows.specs.Bitmap.{IsShaped, is_black};
 ghost use Rattle.pk_runs.specs.Limits.{LONGEST_SIDE};
 
 use crate::given::{paint_rows, row_len};
@@ -18,14 +18,15 @@ pub struct Raster {
 
 impl Model for Raster {
     ghost use Rattle.std.specs.Prelude.{◌≤◌};
-    ghost use Rattle.packed_rows.specs.Bitmap.{Bitmap};
+    ghost use Rattle.packed_rows.specs.Bitmap.{Bitmap, IsShaped};
     ghost use Rattle.pk_runs.specs.Limits.{LONGEST_SIDE};
 
     ghost Value = { Bitmap };
 
     ghost view = { λ r. r.bits };
 
-    ghost invariant = { λ r. (r.bits.width ≤ LONGEST_SIDE) × (r.bits.height ≤ LONGEST_SIDE) };
+    ghost invariant = { λ r. (r.bits.width ≤ LONGEST_SIDE) × (r.bits.height ≤ LONGEST_SIDE)
+        × IsShaped r.bits };
 }
 
 /// A raster, and how far right and down of its upper left pixel the reference pixel lies.
@@ -52,6 +53,16 @@ impl Raster {
         let mut bits = PackedBitmap::white(alloc, w as u32, rows.len() as u32)?;
         paint_rows(&mut bits, rows, w);
         Ok(Raster { bits })
+    }
+
+    /// The raster of a packed bitmap, for whoever paints one by other means than runs.
+    pub fn of_bits(bits: PackedBitmap) -> Raster
+        requires narrow { bits.width ≤ LONGEST_SIDE }
+        requires low { bits.height ≤ LONGEST_SIDE }
+        requires shaped { IsShaped bits }
+        ensures { result ≡ bits }
+    {
+        Raster { bits }
     }
 
     /// How many pixels a row has.
@@ -84,6 +95,7 @@ impl Raster {
         ensures value { result.now ≡ self.now }
         ensures narrow { result.now.width ≤ LONGEST_SIDE }
         ensures low { result.now.height ≤ LONGEST_SIDE }
+        ensures shaped { IsShaped result.now }
     {
         &self.bits
     }

@@ -1,4 +1,5 @@
-//! Rasters of packed fonts, from the run lengths and repeat counts that stand for them.
+//! Rasters of packed fonts, from the run lengths and repeat counts that stand for them, and the
+//! table of a font's glyphs.
 #![tactic(auto)]
 
 mod decode;
@@ -7,6 +8,7 @@ mod given;
 mod glyph;
 mod items;
 mod laws;
+mod limits;
 mod narrow;
 mod narrow_runs;
 mod numbers;
@@ -15,8 +17,11 @@ mod painter;
 mod plain;
 mod row_words;
 mod runs;
+mod table;
 
 pub use decode::raster;
 pub use faults::{RunFault, RunStop};
 pub use glyph::{Glyph, Raster};
 pub use laws::{one_fault, runs_apart};
+pub use limits::{LONGEST_SIDE, MAX_RASTER_BYTES};
+pub use table::GlyphTable;

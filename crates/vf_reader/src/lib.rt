@@ -9,6 +9,7 @@ mod faults;
 mod font;
 mod items;
 pub mod laws;
+mod limits;
 mod local_table;
 mod locals;
 mod opcodes;

@@ -9,6 +9,7 @@ ghost use Rattle.vf_reader.specs.Items.{IsItem, definition_of, is_packet};
 ghost use Rattle.vf_reader.specs.Locals.{definition_fault, is_factor as is_factor_of, is_same_local, local_of};
 
 use crate::VfFault;
+use crate::limits::FIX_WORDS;
 use crate::opcodes::LONG_PACKET;
 use big_endian::{signed, unsigned};
 use dvi_commands::FontDef;
@@ -26,9 +27,6 @@ pub struct LocalDef {
     pub factor: u32,
     pub points: u32,
 }
-
-// A factor is below this fix_word.
-const FACTORS: i32 = 16_777_216;
 
 // The number that n bytes from a place on spell, unsigned.
 fn unsigned_at(bytes: &[u8], at: usize, n: usize) -> u32
@@ -87,7 +85,7 @@ pub fn definition(item: &[u8]) -> FontDef<'_>
 fn is_factor(factor: i32) -> bool
     ensures { result ≡ is_factor_of factor }
 {
-    0 < factor && factor < FACTORS
+    0 < factor && factor < FIX_WORDS
 }
 
 // Whether a definition says the same as an earlier one. The checksum isn't compared.

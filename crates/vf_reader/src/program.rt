@@ -5,17 +5,13 @@ ghost use Rattle.dvi_commands.specs.Spelling.{DviCommand, seen};
 ghost use Rattle.vf_reader.specs.Programs.{AreCommandsOf, IsProgramFault, command_fault, dimensions, is_dimension as is_dimension_of, open_after};
 
 use crate::VfFault;
+use crate::limits::{FIX_WORDS, LEAST_FIX_WORD};
 use dvi_commands::{Command, Context, read_command};
-
-// Dimensions lie from here, -2^24, up to below the other.
-const LEAST_DIMENSION: i32 = -16_777_216;
-
-const DIMENSIONS: i32 = 16_777_216;
 
 fn is_dimension(x: i32) -> bool
     ensures { result ≡ is_dimension_of x }
 {
-    LEAST_DIMENSION <= x && x < DIMENSIONS
+    LEAST_FIX_WORD <= x && x < FIX_WORDS
 }
 
 // Whether the motion or the sides of the rule are in range.

@@ -8,7 +8,7 @@ returns-clause-value c =
     let most = nearest_at_most c.self.inside.top c.self.inside.bottom c.args.size c.self.invariant.1 c.self.invariant.2 in
     let small : (2 * (c.args.size * c.self.inside.top) + c.self.inside.bottom) / (2 * c.self.inside.bottom) < 2 ^ 63 = omega (arith, most) in
     let same : 2 * c.args.size * c.self.inside.top ≡ 2 * (c.args.size * c.self.inside.top) = omega arith in
-    rw (← c.self.view_is, c.quotient.ensures, c.from.ensures, c.from-2.ensures, same) (to_z_pos w64 _ small)
+    rw (← c.self.view_is, c.quotient_by.ensures, c.from.ensures, c.from-2.ensures, same) (to_z_pos w64 _ small)
 
 pub returns-clause-bounded : goal.returns-clause-bounded
 returns-clause-bounded c =

@@ -8,7 +8,7 @@ use Rattle.std.proofs.lemmas.Bool.{cases_lt, lt-ltb, le-ltb}
 use Rattle.std.proofs.lemmas.Bool.Decides.{nat_tests}
 use Rattle.std.proofs.lemmas.List.{get_or-replicate}
 use Rattle.pk_runs.specs.declared.glyph.Glyph.{Glyph}
-use Rattle.pk_packets.specs.Fonts.{Glyphs, glyph_of}
+use Rattle.pk_runs.specs.Glyphs.{Glyphs, glyph_of}
 
 -- two tests of a code are one
 same_test : (c k : ℕ) → (c == k) ≡ is_eq (nat_cmp c k)
@@ -19,25 +19,25 @@ same_lookup c [] = refl
 same_lookup c (e ∷ es) = ap (λ t. cond t (Some e.1) (lookup (λ k. c == k) es)) (same_test c e.0) ∙ ap (cond (is_eq (nat_cmp c e.0)) (Some e.1)) (same_lookup c es)
 
 abbrev kept : List (Option Glyph) → List (ℕ × Glyph) → Glyphs
-kept plain others = record { plain = plain; others = others }
+kept by_place others = record { by_place = by_place; others = others }
 
 apart : (c k : ℕ) → 256 ≤ c → k < 256 → (c == k) ≡ false
 apart c k high low = grind (arith, nat_tests)
 
 -- a glyph of a code above 255 is found by it, and every other code keeps its own
-pub other_kept : (c k : ℕ) (g : Glyph) (plain : List (Option Glyph)) (old new : List (ℕ × Glyph)) → 256 ≤ c
+pub other_kept : (c k : ℕ) (g : Glyph) (by_place : List (Option Glyph)) (old new : List (ℕ × Glyph)) → 256 ≤ c
     → lookup (is_at (nat_cmp k)) new ≡ cond (is_at (nat_cmp c) k) (Some g) (lookup (is_at (nat_cmp k)) old)
-    → glyph_of (kept plain new) k ≡ (if c == k then Some g else glyph_of (kept plain old) k)
-other_kept c k g plain old new high found = elim (cases_lt k 256) [
+    → glyph_of (kept by_place new) k ≡ (if c == k then Some g else glyph_of (kept by_place old) k)
+other_kept c k g by_place old new high found = elim (cases_lt k 256) [
   | inl low ↦ rw (lt-ltb k 256 low, apart c k high low) refl
   | inr le ↦ rw (le-ltb k 256 le) (
       same_lookup k new ∙ found ∙ ap (λ t. cond t (Some g) (lookup (is_at (nat_cmp k)) old)) (sym (same_test c k))
       ∙ ap (cond (c == k) (Some g)) (sym (same_lookup k old)))
 ]
 
--- a font without glyphs has none for any code
-pub nothing_kept : (k : ℕ) (plain : List (Option Glyph)) (others : List (ℕ × Glyph)) → plain ≡ replicate 256 None → others ≡ [] → glyph_of (kept plain others) k ≡ None
-nothing_kept k plain others empty none = elim (cases_lt k 256) [
+-- a table without glyphs has none for any code
+pub nothing_kept : (k : ℕ) (by_place : List (Option Glyph)) (others : List (ℕ × Glyph)) → by_place ≡ replicate 256 None → others ≡ [] → glyph_of (kept by_place others) k ≡ None
+nothing_kept k by_place others empty none = elim (cases_lt k 256) [
   | inl low ↦ rw (lt-ltb k 256 low) (ap (λ xs. get_or xs k None) empty ∙ get_or-replicate 256 k None None low)
   | inr le ↦ rw (le-ltb k 256 le) (ap (lookup (λ q. k == q)) none)
 ]
