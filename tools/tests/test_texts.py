@@ -54,7 +54,7 @@ class Readme(unittest.TestCase):
     def test_what_is_proved_says_no_more_than_the_clauses(self):
         proved = section(self.text, 'What is proved')
         self.assertIn('Each call ends, but for those that may wait for a turn', proved)
-        self.assertIn('Memory may run out at any time: status 9 may then stand in place of any other', proved)
+        self.assertIn('Memory may run out at any time: status 9 may then come in place of any other', proved)
         self.assertEqual(re.findall(r'and the run ends\b', proved), [])
 
     def test_where_to_read_how_to_change_it(self):
@@ -92,7 +92,7 @@ class Limits(unittest.TestCase):
         self.limits = ' '.join(page[page.index('.Sh LIMITS'):page.index('.Sh NOTES')].split())
 
     def test_what_memory_grows_by(self):
-        for words in ('Each look-up of a font is kept to the end of the run, in 41 bytes', '690 MB', '226 pages', '20 MB', 'with more fewer than 96',
+        for words in ('Each look-up of a font is kept to the end of the run, in 41 bytes', '690 MB', '226 pages', '20 MB', 'and fewer than 96 with more',
                       '.Pq Ql ulimit -v'):
             self.assertIn(words, self.limits)
 
