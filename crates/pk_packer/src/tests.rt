@@ -1,5 +1,4 @@
-//! Rasters and what they are packed into, worked out apart from this program by the rules of
-//! PKtype.
+//! Rasters and what they are packed into, worked out apart from this program by the rules of PKtype.
 
 use crate::pack;
 use pk_runs::raster;
