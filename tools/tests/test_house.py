@@ -6,7 +6,7 @@ import collections, glob, os, re, tempfile, unittest
 
 from common import TOP
 
-MOST_ARGUMENTS, MOST_LINES_OF_A_BODY, MOST_LINES_OF_A_FILE, MOST_COLUMNS = 7, 40, 300, 100
+MAX_ARGUMENTS, MAX_BODY_LINES, MAX_FILE_LINES, MAX_COLUMNS = 7, 40, 300, 100
 
 # Public calls whose signatures are given, of eight arguments each.
 GIVEN = {'crates/dvi_run/src/run.rt: run_with', 'crates/dvi_run/src/run.rt: dvipbm_run', 'crates/page_workers/src/round.rt: draw_round'}
@@ -151,30 +151,30 @@ def findings(top, named=None):
     for name, text in sources('crates/*/src/**/*.rt'):
         for function in functions(text):
             what, lines = f'{name}: {function.name}', function.lines
-            if len(function.arguments) > MOST_ARGUMENTS:
+            if len(function.arguments) > MAX_ARGUMENTS:
                 judge(what, what, GIVEN, f'{len(function.arguments)} arguments')
             for alike in neighbours(function.arguments) if not A_TEST.search(name) else ():
                 judge(what, what, NEIGHBOURS, f'neighbours of one type: {alike}')
-            if lines > MOST_LINES_OF_A_BODY and A_TEST.search(name) and lines <= TEST_BODIES[1]:
+            if lines > MAX_BODY_LINES and A_TEST.search(name) and lines <= TEST_BODIES[1]:
                 of_tests.append(f'{what} has a body of {lines} lines')
-            elif lines > MOST_LINES_OF_A_BODY:
+            elif lines > MAX_BODY_LINES:
                 allowed = lines <= named.get(function.name, 0) and not A_TEST.search(name)
                 judge(what, function.name, named if allowed else (), f'a body of {lines} lines')
     for name, text in sources(*PROMISE):
-        found += [f'{name}: {what} has {count} arguments' for what, count in definitions(text) if count > MOST_ARGUMENTS]
+        found += [f'{name}: {what} has {count} arguments' for what, count in definitions(text) if count > MAX_ARGUMENTS]
     for name, text in sources('crates/*/src/**/*.rt', 'crates/*/specs/**/*.antt'):
         # Imports stand on one line, and so do the lemmas that an attribute names. Proofs have terms of any length.
         found += [f'{name}:{number} has {len(line)} columns' for number, line in enumerate(text.splitlines(), 1)
-                  if len(line) > MOST_COLUMNS and not re.match(r'\s*(?:(?:pub )?(?:ghost )?use |#\[tactic\()', line)]
+                  if len(line) > MAX_COLUMNS and not re.match(r'\s*(?:(?:pub )?(?:ghost )?use |#\[tactic\()', line)]
     of_kind = {name: kind for kind in LONG_FILES for name, _ in sources(kind)}
     long = {kind: [] for kind in LONG_FILES}
     for name, text in sources('crates/*/src/**/*.rt', 'crates/*/specs/**/*.antt', *LONG_FILES):
         count, kind = len(text.splitlines()), of_kind.get(name)
-        if count > MOST_LINES_OF_A_FILE:
+        if count > MAX_FILE_LINES:
             long.get(kind, []).append(name)
             if kind is None or count > LONG_FILES[kind][1]:
                 found.append(f'{name} has {count} lines')
-    found += [f'{kind}: {len(names)} have more than {MOST_LINES_OF_A_FILE} lines: {", ".join(names)}'
+    found += [f'{kind}: {len(names)} have more than {MAX_FILE_LINES} lines: {", ".join(names)}'
               for kind, names in long.items() if len(names) > LONG_FILES[kind][0]]
     found += of_tests if len(of_tests) > TEST_BODIES[0] else []
     return found, sorted((GIVEN | NEIGHBOURS | named.keys()) - needed)
