@@ -54,8 +54,17 @@ class Readme(unittest.TestCase):
     def test_what_is_proved_says_no_more_than_the_clauses(self):
         proved = section(self.text, 'What is proved')
         self.assertIn('Each call ends, but for those that may wait for a turn', proved)
-        self.assertIn('Memory may run out at any time: status 9 may then stand in place of any other', proved)
+        self.assertIn('Memory may run out at any time: status 9 may then come in place of any other', proved)
         self.assertEqual(re.findall(r'and the run ends\b', proved), [])
+
+    def test_words_that_a_stranger_reads_twice(self):
+        pages = ('README.md', 'CHANGELOG.md', 'CONTRIBUTING.md', 'bench/README.md', 'docs/PROMISES.md', 'docs/USING.md', 'docs/man/dvipbm.1', 'docs/man/dvipbm-recipes.1')
+        words = r'tells its cause|\bturn about|want of memory|\bis none\b|passed over|may so be|takes? them away'
+        self.assertEqual([(page, found) for page in pages for found in re.findall(words, text_of(page))], [])
+
+    def test_the_kit_that_proved_it_is_named_alike(self):
+        kit = r'`(rattle-kit-\w+ logic \w+)` \(`rt version`\)'
+        self.assertEqual(re.findall(kit, self.text), re.findall(kit, text_of('docs/CRATES.md')))
 
     def test_where_to_read_how_to_change_it(self):
         self.assertIn('](CONTRIBUTING.md)', self.text)
@@ -92,7 +101,7 @@ class Limits(unittest.TestCase):
         self.limits = ' '.join(page[page.index('.Sh LIMITS'):page.index('.Sh NOTES')].split())
 
     def test_what_memory_grows_by(self):
-        for words in ('Each look-up of a font is kept to the end of the run, in 41 bytes', '690 MB', '226 pages', '20 MB', 'with more fewer than 96',
+        for words in ('Each look-up of a font is kept to the end of the run, in 41 bytes', '690 MB', '226 pages', '20 MB', 'and fewer than 96 with more',
                       '.Pq Ql ulimit -v'):
             self.assertIn(words, self.limits)
 

@@ -71,7 +71,7 @@ class Using(unittest.TestCase):
             'A thousand documents': {'thousand/story.pbm': b'P4\n1240 1754\n', 'thousand/lost.pbm': b'P4\n1240 1754\n'},
             'An archive': {'story.tiff': b'', 'pages.list': b'#status'},
             'A queue of CUPS': {'queue.pdf': b'%PDF'},
-            'Documents of nobody knows whom': {'story.pbm': b'P4\n2550 3300\n', 'pages.list': b'#status'},
+            'Documents from strangers': {'story.pbm': b'P4\n2550 3300\n', 'pages.list': b'#status'},
             'Several machines': {'story.pbm': b'P4\n2550 3300\n', 'lost.pbm': b'P4\n2550 3300\n'},
         }
         for name, head in wanted.get(section, {}).items():

@@ -39,7 +39,8 @@ IsChosen r dyn_f black bytes =
     (f : ℕ) × IsShortest (length_of r) f
     × MatchBool (nat_le (run_bytes r f) (plain_size r))
     ((dyn_f ≡ f) × (black ≡ first_colour (pixel_rows r))
-    × HoldNybbles bytes (items_text f (written_runs (pixel_rows r))) × (length bytes ≡ run_bytes r f))
+    × HoldNybbles bytes (items_text f (written_runs (pixel_rows r)))
+    × (length bytes ≡ run_bytes r f))
     ((dyn_f ≡ 14) × (black ≡ false) × (bytes ≡ plain_bytes r))
 
 -- none of the fifteen forms takes fewer bytes

@@ -31,7 +31,8 @@ impl Nybbles {
     pub fn push(&mut self, nybble: u8) -> Result<(), NoMemory>
         requires small { nybble < 16 }
         requires high { self.old.high < 16 }
-        ensures written { OnOk result (nybbles_written self.new ≡ nybbles_written self.old ++ nybble ∷ []) }
+        ensures written { OnOk result (nybbles_written self.new
+            ≡ nybbles_written self.old ++ nybble ∷ []) }
         ensures high { self.new.high < 16 }
     {
         if self.half {

@@ -27,7 +27,8 @@ pub fn row_begin(bits: &PackedBitmap, row: u32) -> Place
     ensures column { result.column ≡ 0 }
     ensures small { result.due ≤ result.copies }
     ensures more { (items : List Item) → items_from (pixel_rows bits.now) result items
-        ≡ with_rows (first_colour (pixel_rows bits.now)) items (written_rows (drop row (pixel_rows bits.now))) }
+        ≡ with_rows (first_colour (pixel_rows bits.now)) items
+        (written_rows (drop row (pixel_rows bits.now))) }
 {
     if row == bits.height() {
         return Place {

@@ -15,7 +15,8 @@ use std::alloc::AllocError as NoMemory;
 // Writes the digits of a number, and nothing for 0.
 fn write_digits(out: &mut Nybbles, value: u32) -> Result<(), NoMemory>
     requires high { out.old.high < 16 }
-    ensures written { OnOk result (nybbles_written out.new ≡ nybbles_written out.old ++ digits_of 16 value) }
+    ensures written { OnOk result (nybbles_written out.new
+        ≡ nybbles_written out.old ++ digits_of 16 value) }
     ensures high { out.new.high < 16 }
 {
     if value == 0 {
@@ -29,7 +30,8 @@ fn write_digits(out: &mut Nybbles, value: u32) -> Result<(), NoMemory>
 fn write_long(out: &mut Nybbles, value: u32) -> Result<(), NoMemory>
     requires some { 1 ≤ value }
     requires high { out.old.high < 16 }
-    ensures written { OnOk result (nybbles_written out.new ≡ nybbles_written out.old ++ long_text value) }
+    ensures written { OnOk result (nybbles_written out.new
+        ≡ nybbles_written out.old ++ long_text value) }
     ensures high { out.new.high < 16 }
 {
     let zeros = digit_count(value) - 1;
@@ -44,7 +46,8 @@ fn write_number(out: &mut Nybbles, dyn_f: u8, n: u32) -> Result<(), NoMemory>
     requires form { dyn_f ≤ 13 }
     requires small { n < 2 ^ 30 }
     requires high { out.old.high < 16 }
-    ensures written { OnOk result (nybbles_written out.new ≡ nybbles_written out.old ++ number_text dyn_f n) }
+    ensures written { OnOk result (nybbles_written out.new
+        ≡ nybbles_written out.old ++ number_text dyn_f n) }
     ensures high { out.new.high < 16 }
 {
     if n <= u32::from(dyn_f) {
@@ -63,7 +66,8 @@ fn write_count(out: &mut Nybbles, dyn_f: u8, n: u32) -> Result<(), NoMemory>
     requires form { dyn_f ≤ 13 }
     requires small { n < 2 ^ 30 }
     requires high { out.old.high < 16 }
-    ensures written { OnOk result (nybbles_written out.new ≡ nybbles_written out.old ++ items_text dyn_f (with_count n [])) }
+    ensures written { OnOk result (nybbles_written out.new
+        ≡ nybbles_written out.old ++ items_text dyn_f (with_count n [])) }
     ensures high { out.new.high < 16 }
 {
     match n {
@@ -82,7 +86,8 @@ pub fn write_run(out: &mut Nybbles, dyn_f: u8, count: u32, len: u32) -> Result<(
     requires count { count < 2 ^ 30 }
     requires len { len < 2 ^ 30 }
     requires high { out.old.high < 16 }
-    ensures written { OnOk result (nybbles_written out.new ≡ nybbles_written out.old ++ items_text dyn_f (Run len ∷ with_count count [])) }
+    ensures written { OnOk result (nybbles_written out.new
+        ≡ nybbles_written out.old ++ items_text dyn_f (Run len ∷ with_count count [])) }
     ensures high { out.new.high < 16 }
 {
     write_count(out, dyn_f, count)?;
