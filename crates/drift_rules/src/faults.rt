@@ -1,5 +1,6 @@
 //! Why a pen stops.
 
+use std::alloc::AllocFailed;
 use thiserror::Error;
 
 /// Why no state of the registers comes after a flat command.
@@ -28,4 +29,26 @@ pub enum PenStop {
     /// There is no memory for the registers to be saved.
     #[error("out of memory")]
     NoMemory,
+}
+
+impl From<PenFault> for PenStop {
+    ghost use Rattle.std.specs.Prelude.{◌≡◌};
+    ghost use Rattle.drift_rules.specs.declared.faults.PenStop.TheVariants.{Fault};
+
+    ghost from_gives = { λ fault stop. stop ≡ Fault fault };
+
+    fn from(fault: PenFault) -> PenStop {
+        PenStop::Fault(fault)
+    }
+}
+
+impl<T: Drop> From<AllocFailed<T>> for PenStop {
+    ghost use Rattle.std.specs.Prelude.{◌≡◌};
+    ghost use Rattle.drift_rules.specs.declared.faults.PenStop.TheVariants.{NoMemory};
+
+    ghost from_gives = { λ _ stop. stop ≡ NoMemory };
+
+    fn from(_: AllocFailed<T>) -> PenStop {
+        PenStop::NoMemory
+    }
 }

@@ -201,13 +201,8 @@ impl Pen {
             (seen_flat flat.now)) }
         ensures unchanged { OnErr result (self.new ≡ self.old) }
     {
-        match moved(&self.conv, self.registers, flat) {
-            Ok(registers) => {
-                self.registers = registers;
-                Ok(())
-            }
-            Err(fault) => Err(PenStop::Fault(fault)),
-        }
+        self.registers = moved(&self.conv, self.registers, flat)?;
+        Ok(())
     }
 
     /// Judges the page's end: `StackLeft` exactly where registers are saved.

@@ -48,10 +48,8 @@ impl Saved {
         if self.sets.len() >= MAX_SAVED {
             return Err(PenStop::Fault(PenFault::StackDeep));
         }
-        match self.sets.push(registers) {
-            Ok(()) => Ok(()),
-            Err(_) => Err(PenStop::NoMemory),
-        }
+        self.sets.push(registers)?;
+        Ok(())
     }
 
     pub(crate) fn pop(&mut self) -> Option<Registers>
