@@ -213,12 +213,12 @@ fn pages_worked_out_by_hand(rt: HostRuntime) -> Result<(), Fail> {
         let whole = if case.whole { Some(case.bytes) } else { None };
         assert_eq!(rt;
             (
-                (page.width() as u8, page.height() as u8),
+                (page.width(), page.height()),
                 (bytes.as_slice(), dots.as_slice(), zeros),
                 (page.count(), page.rows())
             ),
             (
-                case.size,
+                (u32::from(case.size.0), u32::from(case.size.1)),
                 (case.bytes, case.bytes, case.padding),
                 (case.count, whole)
             ),

@@ -198,12 +198,12 @@ fn bitmaps_worked_out_by_hand(rt: HostRuntime) -> Result<(), Fail> {
         let whole = if case.whole { Some(case.bytes) } else { None };
         assert_eq!(rt;
             (
-                (bitmap.width() as u8, bitmap.height() as u8),
+                (bitmap.width(), bitmap.height()),
                 (bytes.as_slice(), pixels.as_slice(), zeros),
                 (bitmap.count(), bitmap.rows())
             ),
             (
-                case.size,
+                (u32::from(case.size.0), u32::from(case.size.1)),
                 (case.bytes, case.bytes, case.padding),
                 (case.count, whole)
             ),
