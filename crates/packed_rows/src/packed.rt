@@ -102,7 +102,12 @@ impl PackedBitmap {
         requires { y + copies < self.old.height }
         ensures { self.new ≡ with_copies self.old y copies }
     {
-        copy_rows(&mut self.bytes, row_bytes(self.width), y, copies);
+        let stride = row_bytes(self.width);
+        let rows = Span {
+            from: y,
+            until: y + 1 + copies,
+        };
+        copy_rows(&mut self.bytes, stride, rows);
     }
 
     /// The bytes of row `y`: eight pixels a byte, the first in the high bit, 1 for black, and zero

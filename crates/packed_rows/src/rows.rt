@@ -41,31 +41,36 @@ pub(crate) fn blacken_bytes(bytes: &mut [u8], stride: usize, columns: Span, rows
     }
 }
 
-// Copies row `y` over the `copies` rows below it.
-pub(crate) fn copy_rows(bytes: &mut [u8], stride: usize, y: usize, copies: usize)
+// Copies the first of some rows over the others.
+pub(crate) fn copy_rows(bytes: &mut [u8], stride: usize, rows: Span)
     requires small { stride < 2 ^ 20 }
-    requires few { y + copies < 2 ^ 20 }
-    requires whole { (y + copies + 1) * stride ≤ length bytes.old }
+    requires few { rows.until ≤ 2 ^ 20 }
+    requires some { rows.from < rows.until }
+    requires whole { rows.until * stride ≤ length bytes.old }
     ensures len { length bytes.new ≡ length bytes.old }
     ensures rows { (r : ℕ) → r * stride + stride ≤ length bytes.old →
-        row_at stride bytes.new r
-        ≡ row_at stride bytes.old (if is_within (y + 1) (y + 1 + copies) r then y else r) }
+        row_at stride bytes.new r ≡ row_at stride bytes.old
+        (if is_within (rows.from + 1) rows.until r then rows.from else r) }
 {
-    for to in y + 1..y + 1 + copies {
-        copy_row(bytes, stride, y, to);
+    for to in rows.from + 1..rows.until {
+        let copied = Span {
+            from: rows.from,
+            until: to,
+        };
+        copy_row(bytes, stride, copied);
     }
 }
 
-// Copies row `y` over a row below it.
-fn copy_row(bytes: &mut [u8], stride: usize, y: usize, to: usize)
+// Copies the row at which a span begins over the one at its end.
+fn copy_row(bytes: &mut [u8], stride: usize, span: Span)
     requires small { stride < 2 ^ 20 }
-    requires few { to < 2 ^ 20 }
-    requires below { y < to }
-    requires whole { to * stride + stride ≤ length bytes.old }
-    ensures { bytes.new ≡ take (to * stride) bytes.old
-        ++ (row_at stride bytes.old y ++ drop stride (drop (to * stride) bytes.old)) }
+    requires few { span.until < 2 ^ 20 }
+    requires below { span.from < span.until }
+    requires whole { span.until * stride + stride ≤ length bytes.old }
+    ensures { bytes.new ≡ take (span.until * stride) bytes.old
+        ++ (row_at stride bytes.old span.from ++ drop stride (drop (span.until * stride) bytes.old)) }
 {
-    let (above, below) = bytes.split_at_mut(to * stride);
-    let start = y * stride;
+    let (above, below) = bytes.split_at_mut(span.until * stride);
+    let start = span.from * stride;
     below[..stride].copy_from_slice(&above[start..start + stride]);
 }

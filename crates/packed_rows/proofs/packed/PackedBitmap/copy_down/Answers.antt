@@ -12,8 +12,8 @@ invariant_of-self c =
     let high : c.self.inside.height ≡ c.args.self.now.height = ap (λ (p : Bitmap). p.height) c.self.view_is in
     let low : c.args.y + 1 + c.args.copies ≤ c.self.inside.height = omega (arith, high, c.requires) in
     subst (λ (l : List ℕ). IsStored c.self.inside.width c.self.inside.height l) (sym (with_items_is c.self.inside.bytes c.copy_rows.new.bytes long))
-    (copied_stored c.self.inside.width c.self.inside.height c.args.y (c.args.y + 1 + c.args.copies) c.row_bytes.result c.self.inside.bytes.items c.deref_mut.result.now c.copy_rows.new.bytes
-    c.row_bytes.ensures c.deref_mut.ensures.value low c.self.invariant (record { len = c.copy_rows.ensures.len; rows = c.copy_rows.ensures.rows }))
+    (copied_stored c.self.inside.width c.self.inside.height c.args.y (c.args.y + 1 + c.args.copies) c.row_bytes-stride.result c.self.inside.bytes.items c.deref_mut.result.now c.copy_rows.new.bytes
+    c.row_bytes-stride.ensures c.deref_mut.ensures.value low c.self.invariant (record { len = c.copy_rows.ensures.len; rows = c.copy_rows.ensures.rows }))
 
 pub returns : goal.returns
 returns c =
@@ -21,6 +21,6 @@ returns c =
     let high : c.self.inside.height ≡ c.args.self.now.height = ap (λ (p : Bitmap). p.height) c.self.view_is in
     let low : c.args.y + 1 + c.args.copies ≤ c.self.inside.height = omega (arith, high, c.requires) in
     ap (λ l. bitmap_of c.self.inside.width c.self.inside.height l) (with_items_is c.self.inside.bytes c.copy_rows.new.bytes long)
-    ∙ copied_bitmap c.self.inside.width c.self.inside.height c.args.y c.args.copies c.row_bytes.result c.self.inside.bytes.items c.deref_mut.result.now c.copy_rows.new.bytes
-    c.row_bytes.ensures c.deref_mut.ensures.value low c.self.invariant (record { len = c.copy_rows.ensures.len; rows = c.copy_rows.ensures.rows })
+    ∙ copied_bitmap c.self.inside.width c.self.inside.height c.args.y c.args.copies c.row_bytes-stride.result c.self.inside.bytes.items c.deref_mut.result.now c.copy_rows.new.bytes
+    c.row_bytes-stride.ensures c.deref_mut.ensures.value low c.self.invariant (record { len = c.copy_rows.ensures.len; rows = c.copy_rows.ensures.rows })
     ∙ ap (λ (p : Bitmap). with_copies p c.args.y c.args.copies) c.self.view_is
