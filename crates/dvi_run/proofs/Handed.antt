@@ -1,5 +1,5 @@
 -- From the workers of a run's own to those that what they drew is handed to.
-use Rattle.std.proofs.Common.{◌≡◌, ◌∙◌, ◌⊎◌, inl, inr, ℕ, ◌+◌, ◌*◌, ◌<◌, ◌≤◌, Bool, List, [], ◌∷◌, length, get_or, Option, Some, None, IfSome, refl, sym, ap, subst, arith}
+use Rattle.std.proofs.Common.{◌≡◌, ◌∙◌, ◌⊎◌, inl, inr, ℕ, ◌+◌, ◌*◌, ◌<◌, ◌≤◌, List, [], ◌∷◌, length, get_or, Option, Some, None, IfSome, refl, sym, ap, subst, arith}
 use Rattle.std.proofs.lemmas.Bool.{cases_lt}
 use Rattle.std.proofs.lemmas.List.{ext_get_or}
 use Rattle.outside.specs.Counts.{Rose}
@@ -8,20 +8,21 @@ use Rattle.cache_core.specs.declared.calls.Call.{Call}
 use Rattle.cache_core.specs.Histories.{own}
 use Rattle.font_decode.specs.Desks.{misses}
 use Rattle.font_decode.specs.Loads.{RoseUpTo}
-use Rattle.outside.specs.declared.keys.FontKey.{FontKey}
-use Rattle.page_index.specs.Document.{Reading, pages_begun}
+use Rattle.page_index.specs.Document.{Reading}
 use Rattle.page_workers.specs.declared.worker.Worker.{Worker}
-use Rattle.dvi_run.specs.Pages.{Setup, finding}
-use Rattle.dvi_run.specs.Endings.{EndingSeen, Source, IsAmong}
+use Rattle.sample_maker.specs.Sample.{sample_files}
+use Rattle.command_line.specs.declared.settings.Settings.{Settings}
+use Rattle.dvi_run.specs.Pages.{finding, setup_by}
+use Rattle.dvi_run.specs.Endings.{EndingSeen, status_of}
 use Rattle.dvi_run.specs.Looked.{BrokenLooks, WholeLooks}
-use Rattle.dvi_run.specs.Rounds.{FailedAt, indexed_of}
+use Rattle.dvi_run.specs.Rounds.{indexed_of}
 use Rattle.dvi_run.specs.Sampled.{SourcesAreKept, WasHanded}
-use Rattle.dvi_run.specs.Tally.{CountsTo}
+use Rattle.dvi_run.specs.Outside.{Drawing, Sources, StreamChange, task_for_sample}
 use Rattle.dvi_run.specs.Together.{Answered, AreDone, DrewTogether, IsReady, RestIsKept, SomeUsed, SourceRose, Worked}
 use Rattle.dvi_run.specs.declared.tally.Tally.{Tally}
 use Rattle.dvi_run.specs.Shares.{AreShares}
 use Rattle.dvi_run.proofs.Shares.{shared_as}
-use Rattle.dvi_run.proofs.Together.{one_of, some_rose}
+use Rattle.dvi_run.proofs.Together.{history_for_sample, one_of, some_rose}
 
 -- two lists with the same elements are one
 ext_by : {A : Type 0} (xs ys : List A) → length xs ≡ length ys → ((k : ℕ) (d : A) → k < length xs → get_or xs k d ≡ get_or ys k d) → xs ≡ ys
@@ -37,36 +38,41 @@ never_rose before now none (inr at) = omega (arith, at, none)
 -- ---- one worker
 
 module _ {F G : Type 0} (mine : Worker G) (was now : Worker F) (h : WasHanded mine was now) where
-  worked_handed : (glibrary : G → Option FileTable) (gfaults gloads : G → ℕ) (gtold : Option FileTable) (library : F → Option FileTable) (faults loads : F → ℕ) (told : Option FileTable) (pages n status : ℕ) (history : List Call) (k : ℕ) (first : Worker G)
-      → first.loads ≡ 0 → IsReady library told was → Worked glibrary gfaults gloads gtold None n status history k first mine → Worked library faults loads told (Some pages) n status history k was now
-  worked_handed glibrary gfaults gloads gtold library faults loads told pages n status history k first none ready w = record {
+  worked_handed : (gtold told : Option FileTable) (pages : ℕ) (settings : Settings) (gsources : Sources G) (sources : Sources F) (status : ℕ) (calls : List Call) (first : Worker G) → first.loads ≡ 0 → IsReady sources.library told was
+      → Worked (task_for_sample None gtold settings) gsources status calls first mine → Worked (task_for_sample (Some pages) told settings) sources status calls was now
+  worked_handed gtold told pages settings gsources sources status calls first none ready w = record {
     seat = h.seat ∙ ready.seat;
     none = ap (λ v. v.items) h.results ∙ ready.fresh.none;
     counter = h.counter ∙ ready.fresh.counter;
     paper = λ none. ap (λ v. v.items) h.paper ∙ none;
-    tells = subst (λ (s : F). IfSome told (λ l. library s ≡ Some l)) (sym h.source) ready.fresh.tells;
-    count = subst (λ (s : F). faults was.source ≤ faults s) (sym h.source) (omega arith);
+    tells = subst (λ (s : F). IfSome told (λ l. sources.library s ≡ Some l)) (sym h.source) ready.fresh.tells;
+    count = subst (λ (s : F). sources.faults was.source ≤ sources.faults s) (sym h.source) (omega arith);
     keys = w.keys;
     answered = w.answered;
     last = w.last;
     kept = w.kept;
-    loaded = subst (λ (m : ℕ). RoseUpTo (5 * misses (own (k + 1) history)) m now.loads) (none ∙ sym ready.fresh.loads)
-        (subst (λ (m : ℕ). RoseUpTo (5 * misses (own (k + 1) history)) first.loads m) (sym h.loads) w.loaded.counted);
+    loaded = subst (λ (m : ℕ). RoseUpTo (5 * misses calls) m now.loads) (none ∙ sym ready.fresh.loads) (subst (λ (m : ℕ). RoseUpTo (5 * misses calls) first.loads m) (sym h.loads) w.loaded.counted);
   }
 
-  answered_handed : (g : Setup) (reading : Reading) (capacity n status : ℕ) (history : List Call) (k : ℕ) → Answered g reading capacity n status history k mine → Answered g reading capacity n status history k now
-  answered_handed g reading capacity n status history k a = record {
-    keys = a.keys;
-    looked = subst (λ (ps : List ℕ). WholeLooks (finding g reading) (indexed_of g reading) g.sheet ps a.keys ⊎ BrokenLooks (finding g reading) (indexed_of g reading) g.sheet ps a.keys) (sym h.pages) a.looked;
-    through = λ is. subst (λ (ps : List ℕ). WholeLooks (finding g reading) (indexed_of g reading) g.sheet ps a.keys) (sym h.pages) (a.through is);
-    answered = a.answered;
-    one = a.one;
-  }
+  answered_handed : (told : Option FileTable) (pages : ℕ) (settings : Settings) (reading : Reading) (history : List Call) (status k : ℕ) → Answered (task_for_sample None (Some sample_files) settings) reading history status k mine
+      → Answered (task_for_sample (Some pages) told settings) reading history status k now
+  answered_handed told pages settings reading history status k a =
+      let g = setup_by (Some sample_files) settings in
+      record {
+        keys = a.keys;
+        looked = subst (λ (ps : List ℕ). WholeLooks (finding g reading) (indexed_of g reading) g.sheet ps a.keys ⊎ BrokenLooks (finding g reading) (indexed_of g reading) g.sheet ps a.keys) (sym h.pages) a.looked;
+        through = λ is. subst (λ (ps : List ℕ). WholeLooks (finding g reading) (indexed_of g reading) g.sheet ps a.keys) (sym h.pages) (a.through is);
+        answered = a.answered;
+        one = a.one;
+      }
 
 -- ---- all of them
 
-module _ {F G : Type 0} (n : ℕ) (first last : List (Worker G)) (before after : List (Worker F)) (long : length first ≡ n) (long_last : length last ≡ n)
-    (handed : (k : ℕ) (e : Worker G) (d : Worker F) → k < n → WasHanded (get_or last k e) (get_or before k d) (get_or after k d)) where
+module _ {F G : Type 0} (settings : Settings) (first last : List (Worker G)) (before after : List (Worker F)) (long : length first ≡ settings.workers) (long_last : length last ≡ settings.workers)
+    (handed : (k : ℕ) (e : Worker G) (d : Worker F) → k < settings.workers → WasHanded (get_or last k e) (get_or before k d) (get_or after k d)) where
+  abbrev n : ℕ
+  n = settings.workers
+
   at_first : (k : ℕ) → k < n → Worker G
   at_first k lt = one_of first k (omega (arith, lt, long))
 
@@ -84,7 +90,7 @@ module _ {F G : Type 0} (n : ℕ) (first last : List (Worker G)) (before after :
     ]
 
     module _ (library : F → Option FileTable) (told : Option FileTable) (ready : (k : ℕ) (d : Worker F) → k < n → IsReady library told (get_or before k d))
-        (glibrary : G → Option FileTable) (gtold : Option FileTable) (own_ready : (k : ℕ) (d : Worker G) → k < n → IsReady glibrary gtold (get_or first k d)) where
+        (glibrary : G → Option FileTable) (own_ready : (k : ℕ) (d : Worker G) → k < n → IsReady glibrary (Some sample_files) (get_or first k d)) where
       -- where the run's own workers are as they were, the others are too
       same_workers : length before ≡ length after → last ≡ first → after ≡ before
       same_workers sizes same =
@@ -103,37 +109,46 @@ module _ {F G : Type 0} (n : ℕ) (first last : List (Worker G)) (before after :
           let e = at_last 0 some in
           shared_as total n (λ k. (get_or last k e).pages.items) (λ k. (get_or after k d).pages.items) (λ k lt. (handed k e d lt).pages) (shared e)
 
-      pub drew_handed : 0 < n → (g : Setup) (counted : Bool) (old new : Option (List ℕ)) (capacity status : ℕ) (e : EndingSeen) (tally : Option Tally) (history : List Call) (bytes : List ℕ) → length before ≡ length after
-          → DrewTogether g counted old new capacity n status e tally history first last bytes → DrewTogether g counted old new capacity n status e tally history before after bytes
-      drew_handed some g counted old new capacity status e tally history bytes sizes (inl idle) = inl (idle.0, idle.1, idle.2, same_workers sizes idle.3)
-      drew_handed some g counted old new capacity status e tally history bytes sizes (inr run) =
-          inr (
-            run.0,
-            run.1,
-            run.2,
-            (
-              run.3.0,
-              run.3.1,
-              record {
-                drawn = run.3.2.drawn;
-                few = run.3.2.few;
-                shares = shares_handed some run.3.2.drawn run.3.2.shares;
-                reach = run.3.2.reach;
-                written = run.3.2.written;
-              },
-              λ k d lt. answered_handed (get_or last k (at_last k lt)) (get_or before k d) (get_or after k d) (handed k (at_last k lt) d lt) g run.0 capacity n status history k (run.3.3 k (at_last k lt) lt),
-            ),
-          )
+      module _ (some : 0 < n) (gfaults gloads : G → ℕ) (faults loads : F → ℕ) (output : StreamChange) (history : List Call) (e : EndingSeen) (tally : Option Tally) where
+        -- what the run's own workers drew
+        abbrev mine : Drawing G
+        mine = record { sources = record { library = glibrary; faults = gfaults; loads = gloads }; output = output; before = first; after = last; history = history }
 
-      pub done_handed : 0 < n → (gfaults gloads : G → ℕ) (faults loads : F → ℕ) (pages capacity status : ℕ) (e : EndingSeen) (tally : Option Tally) (history : List Call) → ((s : G) → gfaults s ≡ 0)
-          → AreDone glibrary gfaults gloads gtold None capacity n status e tally history first last → AreDone library faults loads told (Some pages) capacity n status e tally history before after
-      done_handed some gfaults gloads faults loads pages capacity status e tally history sure done = record {
-        counts = done.counts;
-        failed = λ page is. absurd (none_rose gfaults sure (some_rose gfaults n first last page (done.failed page is)));
-        one = done.one;
-        worked = λ k d lt.
-            worked_handed (get_or last k (at_last k lt)) (get_or before k d) (get_or after k d) (handed k (at_last k lt) d lt) glibrary gfaults gloads gtold library faults loads told pages n status history k
-            (get_or first k (at_last k lt)) (own_ready k (at_last k lt) lt).fresh.loads (ready k d lt) (done.worked k (at_last k lt) lt);
-        shares = (done.shares.0, shares_handed some done.shares.0 done.shares.1);
-        rest = rest;
-      }
+        -- and the same of the others
+        abbrev theirs : Drawing F
+        theirs = record { sources = record { library = library; faults = faults; loads = loads }; output = output; before = before; after = after; history = history }
+
+        pub drew_handed : length before ≡ length after → (pages status : ℕ) (bytes : List ℕ) → DrewTogether (task_for_sample None (Some sample_files) settings) mine status e tally bytes
+            → DrewTogether (task_for_sample (Some pages) told settings) theirs status e tally bytes
+        drew_handed sizes pages status bytes (inl idle) = inl (idle.0, idle.1, idle.2, same_workers sizes idle.3)
+        drew_handed sizes pages status bytes (inr run) =
+            inr (
+              run.0,
+              run.1,
+              run.2,
+              (
+                run.3.0,
+                run.3.1,
+                record {
+                  drawn = run.3.2.drawn;
+                  few = run.3.2.few;
+                  shares = shares_handed some run.3.2.drawn run.3.2.shares;
+                  reach = run.3.2.reach;
+                  written = run.3.2.written;
+                },
+                λ k d lt.
+                    answered_handed (get_or last k (at_last k lt)) (get_or before k d) (get_or after k d) (handed k (at_last k lt) d lt) told pages settings run.0 history status k (run.3.3 k (at_last k lt) lt),
+              ),
+            )
+
+        pub done_handed : ((s : G) → gfaults s ≡ 0) → (pages : ℕ) → AreDone (task_for_sample None (Some sample_files) settings) mine e tally → AreDone (task_for_sample (Some pages) told settings) theirs e tally
+        done_handed sure pages done = record {
+          counts = done.counts;
+          failed = λ page is. absurd (none_rose gfaults sure (some_rose gfaults n first last page (done.failed page is)));
+          one = history_for_sample (Some pages) (task_for_sample None (Some sample_files) settings).settings (status_of e) history done.one;
+          worked = λ k d lt.
+              worked_handed (get_or last k (at_last k lt)) (get_or before k d) (get_or after k d) (handed k (at_last k lt) d lt) (Some sample_files) told pages settings mine.sources theirs.sources (status_of e)
+              (own (k + 1) history) (get_or first k (at_last k lt)) (own_ready k (at_last k lt) lt).fresh.loads (ready k d lt) (done.worked k (at_last k lt) lt);
+          shares = (done.shares.0, shares_handed some done.shares.0 done.shares.1);
+          rest = rest;
+        }

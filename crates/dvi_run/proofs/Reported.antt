@@ -1,10 +1,10 @@
 -- The end of a run after its report: it is as it was, but where all pages were written and the
 -- notes failed.
-use Rattle.std.proofs.Common.{◌≡◌, ◌∙◌, inl, inr, ℕ, Bool, true, false, List, [], ◌∷◌, ◌++◌, Option, Some, None, Result, Ok, Err, refl, sym, ap, get_or}
-use Rattle.std.specs.Prelude.{is_ok}
+use Rattle.std.proofs.Common.{◌≡◌, ◌∙◌, inl, inr, ℕ, ◌+◌, Bool, true, false, List, [], ◌∷◌, ◌++◌, Option, Some, None, Result, Ok, Err, refl, sym, ap, get_or}
+use Rattle.std.specs.Prelude.{IfSome, is_ok}
 use Rattle.outside.specs.Counts.{Rose}
-use Rattle.outside.specs.Library.{FileTable}
 use Rattle.outside.specs.Streams.{Writes}
+use Rattle.cache_core.specs.Histories.{own}
 use Rattle.cache_core.specs.declared.calls.Call.{Call}
 use Rattle.page_draw.specs.Values.{PageValue}
 use Rattle.page_index.specs.Document.{Reading}
@@ -16,6 +16,8 @@ use Rattle.dvi_run.specs.Endings.{EndingSeen, Written, Notes, IsAmong, IsEnding,
 use Rattle.dvi_run.specs.Lines.{line_of}
 use Rattle.dvi_run.specs.Report.{report_text, told_text}
 use Rattle.dvi_run.specs.Tally.{CountsTo, Tallied}
+use Rattle.dvi_run.specs.Sampled.{UsesTheSample}
+use Rattle.dvi_run.specs.Outside.{Drawing, Task}
 use Rattle.dvi_run.specs.Together.{Answered, AreDone, DrewTogether, IsOneHistory, Worked}
 use Rattle.dvi_run.specs.declared.ending.Ending.{Ending}
 use Rattle.dvi_run.specs.declared.ending.Ending.TheVariants as code
@@ -112,8 +114,8 @@ tallied_8 : (counted : Bool) (old new : Option (List ℕ)) (tally : Option Tally
 tallied_8 counted old new None values h = let is = h.0 in absurd cc
 tallied_8 counted old new (Some t) values h = record { few = h.few; black = h.black; next = tt; written = h.written }
 
-one_8 : (capacity n : ℕ) (history : List Call) → IsOneHistory capacity n 0 history → IsOneHistory capacity n 8 history
-one_8 capacity n history one = record {
+one_8 : (settings : Settings) (history : List Call) → IsOneHistory settings 0 history → IsOneHistory settings 8 history
+one_8 settings history one = record {
   legal = one.legal;
   made = one.made;
   none_of_first = one.none_of_first;
@@ -122,9 +124,9 @@ one_8 capacity n history one = record {
   idle = λ among. absurd (not_idle among);
 }
 
-module _ {F : Type 0} (library : F → Option FileTable) (faults loads : F → ℕ) (told : Option FileTable) (sample : Option ℕ) (capacity n : ℕ) (tally : Option Tally) (history : List Call) (before after : List (Worker F)) where
-  worked_8 : (k : ℕ) (was now : Worker F) → Worked library faults loads told sample n 0 history k was now → Worked library faults loads told sample n 8 history k was now
-  worked_8 k was now w = record {
+module _ {F : Type 0} (task : Task) (drawing : Drawing F) (tally : Option Tally) where
+  worked_8 : (calls : List Call) (was now : Worker F) → Worked task drawing.sources 0 calls was now → Worked task drawing.sources 8 calls was now
+  worked_8 calls was now w = record {
     seat = w.seat;
     none = w.none;
     counter = w.counter;
@@ -138,16 +140,13 @@ module _ {F : Type 0} (library : F → Option FileTable) (faults loads : F → �
     loaded = w.loaded;
   }
 
-  abbrev Done : EndingSeen → Type 0
-  Done e = AreDone library faults loads told sample capacity n (status_of e) e tally history before after
-
-  pub done_on : (x : Ending) (taken : Bool) → Done (seen_ending x) → Done (with_notes (seen_ending x) taken)
+  pub done_on : (x : Ending) (taken : Bool) → AreDone task drawing (seen_ending x) tally → AreDone task drawing (with_notes (seen_ending x) taken) tally
   done_on code.Written true h = h
   done_on code.Written false h = record {
     counts = counts_8 tally h.counts;
     failed = λ page is. absurd cc;
-    one = one_8 capacity n history h.one;
-    worked = λ k d lt. worked_8 k (get_or before k d) (get_or after k d) (h.worked k d lt);
+    one = one_8 task.settings drawing.history h.one;
+    worked = λ k d lt. worked_8 (own (k + 1) drawing.history) (get_or drawing.before k d) (get_or drawing.after k d) (h.worked k d lt);
     shares = h.shares;
     rest = h.rest;
   }
@@ -159,11 +158,10 @@ module _ {F : Type 0} (library : F → Option FileTable) (faults loads : F → �
   done_on (code.Output page) taken h = h
   done_on code.Memory taken h = h
 
-module _ {F : Type 0} (g : Setup) (counted : Bool) (old new : Option (List ℕ)) (capacity n : ℕ) (tally : Option Tally) (history : List Call) (before after : List (Worker F)) where
   abbrev Drew : EndingSeen → List ℕ → Type 0
-  Drew e bytes = DrewTogether g counted old new capacity n (status_of e) e tally history before after bytes
+  Drew e bytes = DrewTogether task drawing (status_of e) e tally bytes
 
-  answered_8 : (reading : Reading) (k : ℕ) (w : Worker F) → Answered g reading capacity n 0 history k w → Answered g reading capacity n 8 history k w
+  answered_8 : (reading : Reading) (k : ℕ) (w : Worker F) → Answered task reading drawing.history 0 k w → Answered task reading drawing.history 8 k w
   answered_8 reading k w a = record {
     keys = a.keys;
     looked = a.looked;
@@ -181,9 +179,9 @@ module _ {F : Type 0} (g : Setup) (counted : Bool) (old new : Option (List ℕ))
         run.2,
         (
           run.3.0,
-          tallied_8 counted old new tally run.1 run.3.1,
+          tallied_8 task.settings.summary drawing.output.before.bytes drawing.output.after.bytes tally run.1 run.3.1,
           record { drawn = run.3.2.drawn; few = run.3.2.few; shares = run.3.2.shares; reach = run.3.2.reach; written = run.3.2.written },
-          λ k d lt. answered_8 run.0 k (get_or after k d) (run.3.3 k d lt),
+          λ k d lt. answered_8 run.0 k (get_or drawing.after k d) (run.3.3 k d lt),
         ),
       )
 
@@ -197,3 +195,24 @@ module _ {F : Type 0} (g : Setup) (counted : Bool) (old new : Option (List ℕ))
   drew_on code.Input taken left h = h
   drew_on (code.Output page) taken left h = h
   drew_on code.Memory taken left h = h
+
+-- ---- a run of the sample
+
+module _ {F : Type 0} (Kept : Type 0) (before after : List (Worker F)) where
+  abbrev Uses : ℕ → Type 0
+  Uses status = UsesTheSample status Kept before after
+
+  uses_on : (x : Ending) (taken : Bool) → Uses (status_of (seen_ending x)) → Uses (status_of (with_notes (seen_ending x) taken))
+  uses_on code.Written true h = h
+  uses_on code.Written false h = record { input = h.input; sources = h.sources; answers = inr (inr (inr (inr (inl refl)))) }
+  uses_on code.Usage taken h = h
+  uses_on (code.Document fault) taken h = h
+  uses_on (code.Page page fault at) taken h = h
+  uses_on (code.Source page) taken h = h
+  uses_on code.Input taken h = h
+  uses_on (code.Output page) taken h = h
+  uses_on code.Memory taken h = h
+
+  pub sample_on : (sample : Option ℕ) (x : Ending) (taken : Bool) → IfSome sample (λ pages. Uses (status_of (seen_ending x))) → IfSome sample (λ pages. Uses (status_of (with_notes (seen_ending x) taken)))
+  sample_on None x taken h = h
+  sample_on (Some pages) x taken h = uses_on x taken h

@@ -12,12 +12,13 @@ use Rattle.cache_core.specs.Machine.{Legal}
 use Rattle.cache_core.specs.Solo.{solo_history}
 use Rattle.turn_lock.specs.Histories.{AllMade}
 use Rattle.turn_lock.specs.Laws.{AloneIsHistory}
-use Rattle.page_index.specs.Document.{IsDocument, Reading, pages_begun}
+use Rattle.page_index.specs.Document.{IsDocument, Reading}
 use Rattle.page_draw.specs.Values.{PageValue}
 use Rattle.page_workers.specs.declared.worker.Worker.{Worker}
-use Rattle.dvi_run.specs.Pages.{Setup}
-use Rattle.dvi_run.specs.Sampled.{LoadedBy, setup_to}
-use Rattle.dvi_run.specs.Promises.{HasEnded, IsNoted}
+use Rattle.dvi_run.specs.Pages.{Setup, setup_by}
+use Rattle.dvi_run.specs.Sampled.{LoadedBy}
+use Rattle.dvi_run.specs.Outside.{Drawing, FaultsRose, Run, Sources, StreamChange, Task, drawing_of, setup_of, task_for_sample}
+use Rattle.dvi_run.specs.Promises.{HasEnded, IsNoted, document_of}
 use Rattle.dvi_run.specs.Report.{loads_of, report_text}
 use Rattle.dvi_run.specs.Reading.{OfRead}
 use Rattle.dvi_run.specs.Endings.{EndingSeen, Written, Usage, Document, Page, Source, Input, Output, Notes, Memory, EndsPages, WroteAll, page_status, status_of}
@@ -148,9 +149,9 @@ each_kept n (c ∷ calls) made none kept = dite (ℕ_discrete c.seat 0)
 
 -- ---- what a worker did
 
-module _ {F : Type 0} (library : F → Option FileTable) (faults loads : F → ℕ) (g : Setup) (reading : Reading) (n : ℕ) (e : EndingSeen) (history : List Call) (k : ℕ) (before after : Worker F)
-    (ran : Ran (IsDrawnThrough n e) library faults loads g reading history (k + 1) before after) where
-  worked : Worked library faults loads g.library None n (status_of e) history k before after
+module _ {F : Type 0} (told : Option FileTable) (settings : Settings) (sources : Sources F) (reading : Reading) (e : EndingSeen) (history : List Call) (k : ℕ) (before after : Worker F)
+    (ran : Ran (IsDrawnThrough settings.workers e) sources.library sources.faults sources.loads (setup_by told settings) reading history (k + 1) before after) where
+  worked : Worked (task_for_sample None told settings) sources (status_of e) (own (k + 1) history) before after
   worked = record {
     seat = ran.seat;
     none = ran.none;
@@ -161,93 +162,106 @@ module _ {F : Type 0} (library : F → Option FileTable) (faults loads : F → �
     keys = ran.keys;
     answered = ran.answered;
     last = ran.last;
-    kept = λ h. ran.whole (through_by n e h);
+    kept = λ h. ran.whole (through_by settings.workers e h);
     loaded = ran.loaded;
   }
 
-  module _ (capacity : ℕ) (one : IsOneHistory capacity n (status_of e) history) (alone : AloneIsHistory) (law : SoloIsOne) (below : k < n) where
-    solo : n ≡ 1 → IsUnbrokenBy (status_of e) → history ≡ solo_history capacity 1 ran.keys
+  module _ (one : IsOneHistory (task_for_sample None told settings).settings (status_of e) history) (alone : AloneIsHistory) (law : SoloIsOne) (below : k < settings.workers) where
+    solo : settings.workers ≡ 1 → IsUnbrokenBy (status_of e) → history ≡ solo_history settings.cache 1 ran.keys
     solo single unbroken =
         let first : k + 1 ≡ 1 = omega arith in
         let made : AllMade 2 history = subst (λ (m : ℕ). AllMade (m + 1) history) single one.made in
         let whole : own 1 history ≡ history = alone 2 1 history made (λ other lt not. let zero_is : 0 ≡ other = omega (arith, lt, not) in subst (λ (m : ℕ). own m history ≡ []) zero_is one.none_of_first) in
         let mine : own (k + 1) history ≡ history = subst (λ (m : ℕ). own m history ≡ history) (sym first) whole in
-        law capacity 1 ran.keys history (record {
+        law settings.cache 1 ran.keys history (record {
           legal = one.legal;
           own = are_of history made one.none_of_first;
           for_keys = subst (SeatCalls ran.keys) mine ran.answered;
           kept = subst NoneReleased mine (ran.whole (inr (single, unbroken_by e unbroken)));
         })
 
-    answered : Answered g reading capacity n (status_of e) history k after
+    answered : Answered (task_for_sample None told settings) reading history (status_of e) k after
     answered = record {
       keys = ran.keys;
       looked = ran.looked;
-      through = λ h. ran.drawn_out (through_by n e h);
+      through = λ h. ran.drawn_out (through_by settings.workers e h);
       answered = ran.answered;
       one = solo;
     }
 
 -- ---- the history of all
 
+-- whatever sample is asked for
+pub history_for_sample : (sample : Option ℕ) (settings : Settings) (status : ℕ) (history : List Call) → IsOneHistory settings status history → IsOneHistory (record settings { sample = sample }) status history
+history_for_sample sample settings status history one = record {
+  legal = one.legal;
+  made = one.made;
+  none_of_first = one.none_of_first;
+  few_claims = one.few_claims;
+  kept = one.kept;
+  idle = one.idle;
+}
+
 -- one of some workers
 pub one_of : {A : Type 0} (xs : List A) (k : ℕ) → k < length xs → A
 one_of [] k lt = absurd (omega arith)
 one_of (x ∷ xs) k lt = x
 
-pub one_history : {F : Type 0} (library : F → Option FileTable) (faults loads : F → ℕ) (g : Setup) (n capacity : ℕ) (old new : Option (List ℕ)) (P : Type 0) (reading : Reading) (values : List PageValue) (e : EndingSeen)
-    (history : List Call) (before after : List (Worker F)) → EndsPages old new P (Unit {0}) e reading values → Legal capacity history → AllMade (n + 1) history → own 0 history ≡ [] → FewClaims history
-    → EachUsed n before after (λ k was now. Ran (IsDrawnThrough n e) library faults loads g reading history (k + 1) was now) → ((k : ℕ) → k < n → Worker F) → IsOneHistory capacity n (status_of e) history
-one_history library faults loads g n capacity old new P reading values e history before after ends legal made first few ran some = record {
+pub one_history : {F : Type 0} (settings : Settings) (g : Setup) (reading : Reading) (drawing : Drawing F) (P : Type 0) (values : List PageValue) (e : EndingSeen)
+    → EndsPages drawing.output.before.bytes drawing.output.after.bytes P (Unit {0}) e reading values → Legal settings.cache drawing.history → AllMade (settings.workers + 1) drawing.history → own 0 drawing.history ≡ [] → FewClaims drawing.history
+    → EachUsed settings.workers drawing.before drawing.after (λ k was now. Ran (IsDrawnThrough settings.workers e) drawing.sources.library drawing.sources.faults drawing.sources.loads g reading drawing.history (k + 1) was now)
+    → ((k : ℕ) → k < settings.workers → Worker F) → IsOneHistory settings (status_of e) drawing.history
+one_history settings g reading drawing P values e ends legal made first few ran some = record {
   legal = legal;
   made = made;
   none_of_first = first;
   few_claims = few;
-  kept = λ is. each_kept n history made first (λ k lt. (ran k (some k lt) lt).whole (inl (is_written e is)));
-  idle = λ among. absurd (ends_late old new P (Unit {0}) reading values e ends among);
+  kept = λ is. each_kept settings.workers drawing.history made first (λ k lt. (ran k (some k lt) lt).whole (inl (is_written e is)));
+  idle = λ among. absurd (ends_late drawing.output.before.bytes drawing.output.after.bytes P (Unit {0}) reading values e ends among);
 }
 
 -- ---- the pages of a document
 
-module _ {F : Type 0} (library : F → Option FileTable) (faults loads : F → ℕ) (g : Setup) (counted : Bool) (reading : Reading) (capacity n : ℕ) (old new : Option (List ℕ)) (P : Type 0) (e : EndingSeen) (tally : Option Tally)
-    (history : List Call) (before after : List (Worker F)) (drew : DrewPages library faults loads g counted reading capacity n old new P e tally history before after) where
-  pub are_done : RestIsKept n before after → AreDone library faults loads g.library None capacity n (status_of e) e tally history before after
+module _ {F : Type 0} (told : Option FileTable) (settings : Settings) (reading : Reading) (drawing : Drawing F) (e : EndingSeen) (tally : Option Tally) (drew : DrewPages (task_for_sample None told settings) reading drawing e tally) where
+  abbrev old : Option (List ℕ)
+  old = drawing.output.before.bytes
+
+  abbrev new : Option (List ℕ)
+  new = drawing.output.after.bytes
+
+  pub are_done : RestIsKept settings.workers drawing.before drawing.after → AreDone (task_for_sample None told settings) drawing e tally
   are_done rest = record {
-    counts = counts_to counted old new P (Unit {0}) reading drew.ends.0 e tally drew.ends.2 drew.ends.3;
+    counts = counts_to settings.summary old new (FaultsRose drawing.output) (Unit {0}) reading drew.ends.0 e tally drew.ends.2 drew.ends.3;
     failed = drew.failed;
     one = drew.one;
-    worked = λ k d lt. worked library faults loads g reading n e history k (get_or before k d) (get_or after k d) (drew.ran k d lt);
+    worked = λ k d lt. worked told settings drawing.sources reading e drawing.history k (get_or drawing.before k d) (get_or drawing.after k d) (drew.ran k d lt);
     shares = (drew.shares.drawn, drew.shares.shares);
     rest = rest;
   }
 
-  pub drew_together : (bytes : List ℕ) → IsDocument g.res bytes reading → AloneIsHistory → SoloIsOne → DrewTogether g counted old new capacity n (status_of e) e tally history before after bytes
+  pub drew_together : (bytes : List ℕ) → IsDocument settings.res bytes reading → AloneIsHistory → SoloIsOne → DrewTogether (task_for_sample None told settings) drawing (status_of e) e tally bytes
   drew_together bytes document alone law =
       inr (
         reading,
         drew.ends.0,
         record { document = document; pages = drew.ends.1 },
         (
-          ends_so old new P (Unit {0}) reading drew.ends.0 e drew.ends.2,
+          ends_so old new (FaultsRose drawing.output) (Unit {0}) reading drew.ends.0 e drew.ends.2,
           drew.ends.3,
           drew.shares,
-          λ k d lt. answered library faults loads g reading n e history k (get_or before k d) (get_or after k d) (drew.ran k d lt) capacity drew.one alone law lt,
+          λ k d lt. answered told settings drawing.sources reading e drawing.history k (get_or drawing.before k d) (get_or drawing.after k d) (drew.ran k d lt) drew.one alone law lt,
         ),
       )
 
-  pub ends_used : EndsPages old new P (SomeUsed n before after (SourceRose faults)) e reading drew.ends.0
-  ends_used = ends_by old new P (SomeUsed n before after (SourceRose faults)) reading drew.ends.0 e drew.ends.2 (λ page is. some_rose faults n before after page (drew.failed page is))
+  pub ends_used : EndsPages drawing.output.before.bytes drawing.output.after.bytes (FaultsRose drawing.output) (SomeUsed settings.workers drawing.before drawing.after (SourceRose drawing.sources.faults)) e reading drew.ends.0
+  ends_used =
+      ends_by old new (FaultsRose drawing.output) (SomeUsed settings.workers drawing.before drawing.after (SourceRose drawing.sources.faults)) reading drew.ends.0 e drew.ends.2
+      (λ page is. some_rose drawing.sources.faults settings.workers drawing.before drawing.after page (drew.failed page is))
 
 -- the end of a run
-pub ended_at : {F : Type 0} (faults : F → ℕ) (told : Option FileTable) (settings : Settings) (e : EndingSeen) (tally : Option Tally) (left old new notes_old notes_new : Option (List ℕ)) (notes_before notes_now : ℕ)
-    (history : List Call) (before after : List (Worker F))
-    → IsNoted (setup_to told settings) e left old new notes_old notes_new notes_before notes_now (report_text settings tally (loads_of settings.workers after) history e) → CountsTo tally e
-    → ((page : ℕ) → e ≡ Source page → SomeUsed settings.workers before after (FailedAt faults page))
-    → OfRead left (DrewTogether (setup_to told settings) settings.summary old new settings.cache settings.workers (status_of e) e tally history before after)
-    → (status : ℕ) → status ≡ status_of e → HasEnded faults told settings status e tally left old new notes_old notes_new notes_before notes_now history before after
-ended_at faults told settings e tally left old new notes_old notes_new notes_before notes_now history before after noted counted failed drew status is =
-    subst (λ (m : ℕ). HasEnded faults told settings m e tally left old new notes_old notes_new notes_before notes_now history before after) (sym is)
-    (record { noted = noted; counted = counted; failed = failed; drew = drew })
+pub ended_at : {F : Type 0} (run : Run F) (e : EndingSeen) (tally : Option Tally) → IsNoted run e (report_text run.task.settings tally (loads_of run.task.settings.workers run.after) run.history e) → AreDone run.task (drawing_of run) e tally
+    → OfRead (document_of run) (DrewTogether run.task (drawing_of run) (status_of e) e tally) → (status : ℕ) → status ≡ status_of e → HasEnded run status e tally
+ended_at run e tally noted done drew status is = subst (λ (m : ℕ). HasEnded run m e tally) (sym is) (record { noted = noted; counted = done.counts; failed = done.failed; drew = drew })
 
 -- a worker as it was made is ready for a run that is told no library
 pub ready_untold : {F : Type 0} (library : F → Option FileTable) (w : Worker F) → IsUnused w → IsReady library None w
@@ -275,9 +289,8 @@ idle_loaded None before count = record {
 }
 idle_loaded (Some pages) before count = record { most = omega arith; never_falls = omega arith }
 
-idle_worked : {F : Type 0} (library : F → Option FileTable) (faults loads : F → ℕ) (told : Option FileTable) (sample : Option ℕ) (n status k : ℕ) (w : Worker F) → IsReady library told w
-    → Worked library faults loads told sample n status [] k w w
-idle_worked library faults loads told sample n status k w ready = record {
+idle_worked : {F : Type 0} (task : Task) (sources : Sources F) (status : ℕ) (w : Worker F) → IsReady sources.library task.told w → Worked task sources status [] w w
+idle_worked task sources status w ready = record {
   seat = ready.seat;
   none = ready.fresh.none;
   counter = ready.fresh.counter;
@@ -288,44 +301,56 @@ idle_worked library faults loads told sample n status k w ready = record {
   answered = refl;
   last = tt;
   kept = λ h. tt;
-  loaded = idle_loaded sample (loads w.source) w.loads;
+  loaded = idle_loaded task.settings.sample (sources.loads w.source) w.loads;
 }
 
 not_source : (e : EndingSeen) → IsIdle e → (page : ℕ) → e ≡ Source page → ⊥
 not_source e idle page is = subst IsIdle is idle
 
-pub idle_done : {F : Type 0} (library : F → Option FileTable) (faults loads : F → ℕ) (told : Option FileTable) (sample : Option ℕ) (capacity n status : ℕ) (e : EndingSeen) (history : List Call) (ws : List (Worker F))
-    → ((k : ℕ) (d : Worker F) → k < n → IsReady library told (get_or ws k d)) → IsIdle e → history ≡ [] → AreDone library faults loads told sample capacity n status e None history ws ws
-idle_done library faults loads told sample capacity n status e history ws ready idle none =
-    subst (λ (h : List Call). AreDone library faults loads told sample capacity n status e None h ws ws) (sym none) (record {
-      counts = idle;
-      failed = λ page is. absurd (not_source e idle page is);
+-- the workers stayed as they were, and there is no call
+abbrev no_drawing : {F : Type 0} → Sources F → StreamChange → List (Worker F) → List Call → Drawing F
+no_drawing sources output ws history = record { sources = sources; output = output; before = ws; after = ws; history = history }
+
+pub idle_done : {F : Type 0} (task : Task) (sources : Sources F) (output : StreamChange) (ws : List (Worker F)) (history : List Call) (e : EndingSeen)
+    → ((k : ℕ) (d : Worker F) → k < task.settings.workers → IsReady sources.library task.told (get_or ws k d)) → IsIdle e → history ≡ [] → AreDone task (no_drawing sources output ws history) e None
+idle_done task sources output ws history e ready is_idle none =
+    subst (λ (h : List Call). AreDone task (no_drawing sources output ws h) e None) (sym none) (record {
+      counts = is_idle;
+      failed = λ page is. absurd (not_source e is_idle page is);
       one = record { legal = refl; made = tt; none_of_first = refl; few_claims = λ k. omega arith; kept = λ is. tt; idle = λ among. refl };
-      worked = λ k d lt. idle_worked library faults loads told sample n status k (get_or ws k d) (ready k d lt);
-      shares = (0, λ d. none_shared n (λ k. (get_or ws k d).pages.items) (λ k lt. (ready k d lt).fresh.pages));
+      worked = λ k d lt. idle_worked task sources (status_of e) (get_or ws k d) (ready k d lt);
+      shares = (0, λ d. none_shared task.settings.workers (λ k. (get_or ws k d).pages.items) (λ k lt. (ready k d lt).fresh.pages));
       rest = λ k d le. refl;
     })
 
-pub idle_drew : {F : Type 0} (g : Setup) (counted : Bool) (old new : Option (List ℕ)) (capacity n status : ℕ) (e : EndingSeen) (history : List Call) (ws : List (Worker F)) (left : Option (List ℕ)) → IsIdle e → history ≡ []
-    → OfRead left (DrewTogether g counted old new capacity n status e None history ws ws)
-idle_drew g counted old new capacity n status e history ws None idle none = tt
-idle_drew g counted old new capacity n status e history ws (Some bytes) idle none = inl (idle, refl, none, refl)
+pub idle_drew : {F : Type 0} (task : Task) (sources : Sources F) (output : StreamChange) (ws : List (Worker F)) (history : List Call) (status : ℕ) (e : EndingSeen) (left : Option (List ℕ)) → IsIdle e → history ≡ []
+    → OfRead left (DrewTogether task (no_drawing sources output ws history) status e None)
+idle_drew task sources output ws history status e None is_idle none = tt
+idle_drew task sources output ws history status e (Some bytes) is_idle none = inl (is_idle, refl, none, refl)
 
 -- ---- the first of some workers
 
-module _ {F : Type 0} (library : F → Option FileTable) (faults loads : F → ℕ) (g : Setup) (counted : Bool) (reading : Reading) (capacity : ℕ) (old new : Option (List ℕ)) (P : Type 0) (e : EndingSeen) (tally : Option Tally)
-    (history : List Call) (n : ℕ) (before prefix rest : List (Worker F)) (long : length prefix ≡ n) where
+module _ {F : Type 0} (task : Task) (reading : Reading) (drawing : Drawing F) (e : EndingSeen) (tally : Option Tally) (rest : List (Worker F)) (long : length drawing.after ≡ task.settings.workers) where
+  abbrev n : ℕ
+  n = task.settings.workers
+
+  abbrev before : List (Worker F)
+  before = drawing.before
+
+  abbrev prefix : List (Worker F)
+  prefix = drawing.after
+
   was : (k : ℕ) (d : Worker F) → k < n → get_or (take n before) k d ≡ get_or before k d
   was k d lt = get_or-take n before k d lt
 
   is : (k : ℕ) (d : Worker F) → k < n → get_or prefix k d ≡ get_or (prefix ++ rest) k d
   is k d lt = sym (get_or_append_left prefix rest d k (omega arith))
 
-  pub of_prefix : DrewPages library faults loads g counted reading capacity n old new P e tally history (take n before) prefix
-      → DrewPages library faults loads g counted reading capacity n old new P e tally history before (prefix ++ rest)
+  pub of_prefix : DrewPages task reading (record drawing { before = take task.settings.workers drawing.before }) e tally → DrewPages task reading (record drawing { after = drawing.after ++ rest }) e tally
   of_prefix d = record {
     ends = d.ends;
     failed = λ page at.
+        let faults = drawing.sources.faults in
         let f = d.failed page at in
         (f.0, f.1, λ w. subst (λ (x : Worker F). FailedAt faults page x (get_or (prefix ++ rest) f.0 w)) (was f.0 w f.1) (subst (λ (x : Worker F). FailedAt faults page (get_or (take n before) f.0 w) x) (is f.0 w f.1) (f.2 w)));
     shares = record {
@@ -337,8 +362,8 @@ module _ {F : Type 0} (library : F → Option FileTable) (faults loads : F → �
     };
     one = d.one;
     ran = λ k w lt.
-        subst (λ (x : Worker F). Ran (IsDrawnThrough n e) library faults loads g reading history (k + 1) x (get_or (prefix ++ rest) k w)) (was k w lt)
-        (subst (λ (x : Worker F). Ran (IsDrawnThrough n e) library faults loads g reading history (k + 1) (get_or (take n before) k w) x) (is k w lt) (d.ran k w lt));
+        let Did : Worker F → Worker F → Type 0 = Ran (IsDrawnThrough n e) drawing.sources.library drawing.sources.faults drawing.sources.loads (setup_of task) reading drawing.history (k + 1) in
+        subst (λ (x : Worker F). Did x (get_or (prefix ++ rest) k w)) (was k w lt) (subst (λ (x : Worker F). Did (get_or (take n before) k w) x) (is k w lt) (d.ran k w lt));
   }
 
 -- and the others are as they were

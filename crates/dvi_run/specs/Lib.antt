@@ -15,6 +15,7 @@ pub mod Shares
 pub mod Tally
 pub mod Report
 pub mod Sampled
+pub mod Outside
 pub mod Together
 pub mod Promises
 pub mod Examples

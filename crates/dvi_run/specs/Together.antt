@@ -1,5 +1,5 @@
 -- A run over workers: what each of them did, and how their calls make one history.
-use Rattle.std.specs.Prelude.{◌≡◌, ◌⊎◌, ℕ, ◌+◌, ◌*◌, ◌<◌, ◌≤◌, Bool, List, [], ◌∷◌, Option, Some, None, IfSome, slice_index_or}
+use Rattle.std.specs.Prelude.{◌≡◌, ◌⊎◌, ℕ, ◌+◌, ◌*◌, ◌<◌, ◌≤◌, List, [], ◌∷◌, Option, Some, None, IfSome, slice_index_or}
 use Rattle.outside.specs.Counts.{Rose}
 use Rattle.outside.specs.Library.{FileTable}
 use Rattle.outside.specs.declared.keys.FontKey.{FontKey}
@@ -14,13 +14,15 @@ use Rattle.page_index.specs.Document.{Reading, pages_begun}
 use Rattle.page_draw.specs.Values.{PageValue}
 use Rattle.page_workers.specs.Paper.{HasNoPaper}
 use Rattle.page_workers.specs.declared.worker.Worker.{Worker}
-use Rattle.dvi_run.specs.Pages.{AreValues, Setup, finding}
+use Rattle.command_line.specs.declared.settings.Settings.{Settings}
+use Rattle.dvi_run.specs.Pages.{AreValues, finding}
 use Rattle.dvi_run.specs.Endings.{EndingSeen, Source, EndsPages, IsAmong, OfRun, WroteAll, status_of}
 use Rattle.dvi_run.specs.Looked.{BrokenLooks, IsDrawnThrough, IsIdle, IsUnbrokenBy, WholeLooks}
 use Rattle.dvi_run.specs.Rounds.{FailedAt, IsFresh, Ran, indexed_of}
 use Rattle.dvi_run.specs.Shares.{AreShares, DrewShares}
 use Rattle.dvi_run.specs.Tally.{CountsTo, Tallied}
 use Rattle.dvi_run.specs.Sampled.{LoadedBy}
+use Rattle.dvi_run.specs.Outside.{Drawing, FaultsRose, Sources, Task, setup_of}
 use Rattle.dvi_run.specs.declared.tally.Tally.{Tally}
 
 -- ---- the workers that a run uses: the first n of them
@@ -60,12 +62,12 @@ IsDrawnThroughBy n status = WroteAll status ⊎ ((n ≡ 1) × IsUnbrokenBy statu
 
 -- ---- the history
 
--- the calls of the cache in a run over n workers, by its status
-pub record IsOneHistory (capacity n status : ℕ) (history : List Call) : Type 0 where
+-- the calls of the cache in a run with such settings, by its status
+pub record IsOneHistory (settings : Settings) (status : ℕ) (history : List Call) : Type 0 where
   -- it is legal for the capacity
-  pub legal : Legal capacity history
+  pub legal : Legal settings.cache history
   -- each call is of a used worker's seat, and these are numbered from 1
-  pub made : AllMade (n + 1) history
+  pub made : AllMade (settings.workers + 1) history
   pub none_of_first : own 0 history ≡ []
   -- a key is claimed at most once more than it left or was given up
   pub few_claims : FewClaims history
@@ -74,88 +76,96 @@ pub record IsOneHistory (capacity n status : ℕ) (history : List Call) : Type 0
   -- 1, 2 and 6: there is no call
   pub idle : IsAmong status (1 ∷ 2 ∷ 6 ∷ []) → history ≡ []
 
--- What a used worker did, by the calls of its seat in the history, in a run of the sample or of
--- what the outside gives.
-pub record Worked {F : Type 0} (library : F → Option FileTable) (faults loads : F → ℕ)
-    (told : Option FileTable) (sample : Option ℕ) (n status : ℕ) (history : List Call) (k : ℕ)
-    (before after : Worker F) : Type 0 where
+-- What a used worker did, by the calls of its seat, in a run of the sample or of what the outside
+-- gives.
+pub record Worked {F : Type 0} (task : Task) (sources : Sources F) (status : ℕ)
+    (calls : List Call) (before after : Worker F) : Type 0 where
   -- it has neither a seat nor a result any more, and no paper, unless it had some before
   pub seat : after.seat ≡ None
   pub none : after.results.items ≡ []
   pub counter : after.counter ≡ None
   pub paper : HasNoPaper before → HasNoPaper after
   -- its source tells what the run was told, and its count of faults didn't fall
-  pub tells : IfSome told (λ l. library after.source ≡ Some l)
-  pub count : faults before.source ≤ faults after.source
+  pub tells : IfSome task.told (λ l. sources.library after.source ≡ Some l)
+  pub count : sources.faults before.source ≤ sources.faults after.source
   -- each of its calls is there once: they answer the keys that it asked for, one after another
   pub keys : List FontKey
-  pub answered : SeatCalls keys (own (k + 1) history)
+  pub answered : SeatCalls keys calls
   -- a claim is given up at their end alone, and nowhere in a run that ends well
-  pub last : ReleasedLast (own (k + 1) history)
-  pub kept : IsDrawnThroughBy n status → NoneReleased (own (k + 1) history)
+  pub last : ReleasedLast calls
+  pub kept : IsDrawnThroughBy task.settings.workers status → NoneReleased calls
   -- it loaded at most five files for each look that was no hit, and its source counts as many,
   -- other than for the sample
-  pub loaded : LoadedBy sample (5 * misses (own (k + 1) history)) (loads before.source)
-      (loads after.source) before.loads after.loads
+  pub loaded : LoadedBy task.settings.sample (5 * misses calls) (sources.loads before.source)
+      (sources.loads after.source) before.loads after.loads
 
-module _ {F : Type 0} (g : Setup) (reading : Reading) where
-  -- the calls of a used worker answer the look-ups of the pages that it drew, one page after
-  -- another
-  pub record Answered (capacity n status : ℕ) (history : List Call) (k : ℕ)
-      (after : Worker F) : Type 0 where
-    pub keys : List FontKey
-    -- all look-ups of each page, but that the last may have been broken off
-    pub looked : WholeLooks (finding g reading) (indexed_of g reading)
-        g.sheet after.pages.items keys
-        ⊎ BrokenLooks (finding g reading) (indexed_of g reading) g.sheet after.pages.items keys
-    pub through : IsDrawnThroughBy n status → WholeLooks (finding g reading) (indexed_of g reading)
-        g.sheet after.pages.items keys
-    pub answered : SeatCalls keys (own (k + 1) history)
-    -- the calls of one worker are one list, given these keys, unless the source failed (5) or
-    -- memory ran out (9)
-    pub one : n ≡ 1 → IsUnbrokenBy status → history ≡ solo_history capacity 1 keys
+-- the calls of a used worker's seat answer the look-ups of the pages that it drew, one page after
+-- another; its place among the workers is counted from 0
+pub record Answered {F : Type 0} (task : Task) (reading : Reading) (history : List Call)
+    (status place : ℕ) (after : Worker F) : Type 0 where
+  pub keys : List FontKey
+  -- all look-ups of each page, but that the last may have been broken off
+  pub looked : WholeLooks (finding (setup_of task) reading) (indexed_of (setup_of task) reading)
+      task.settings.sheet after.pages.items keys
+      ⊎ BrokenLooks (finding (setup_of task) reading) (indexed_of (setup_of task) reading)
+      task.settings.sheet after.pages.items keys
+  pub through : IsDrawnThroughBy task.settings.workers status
+      → WholeLooks (finding (setup_of task) reading) (indexed_of (setup_of task) reading)
+      task.settings.sheet after.pages.items keys
+  pub answered : SeatCalls keys (own (place + 1) history)
+  -- the calls of one worker are one list, given these keys, unless the source failed (5) or
+  -- memory ran out (9)
+  pub one : task.settings.workers ≡ 1 → IsUnbrokenBy status
+      → history ≡ solo_history task.settings.cache 1 keys
 
 -- What was drawn of these bytes in a run that ended so: nothing where no cache was made. Else they
 -- are a document, whose pages have the values that say what was written, each font being what the
 -- library has for its key; the used workers drew its first pages, each page once, among them all
 -- that were written and the one named, and none after its round, or where its write failed after
 -- the next one; the calls of each answer what its pages looked up; and the tally is that of the
--- pages written whole, with their black pixels where they were counted.
-abbrev pub DrewTogether : {F : Type 0} → Setup → (counted : Bool) → (old new : Option (List ℕ))
-    → (capacity n status : ℕ) → EndingSeen → Option Tally → List Call
-    → (before after : List (Worker F)) → List ℕ → Type 0
-DrewTogether g counted old new capacity n status e tally history before after bytes =
-    (IsIdle e × (tally ≡ None) × (history ≡ []) × (after ≡ before))
-    ⊎ OfRun g bytes (λ reading values. EndsPages old new (Unit {0}) (Unit {0}) e reading values
-    × Tallied counted old new tally e values
-    × DrewShares (pages_begun reading) n e tally after
-    × EachUsed n before after (λ k _ now. Answered g reading capacity n status history k now))
+-- pages written whole, with their black pixels where the settings ask for the summary.
+abbrev pub DrewTogether : {F : Type 0} → Task → Drawing F → (status : ℕ) → EndingSeen
+    → Option Tally → (bytes : List ℕ) → Type 0
+DrewTogether task drawing status e tally bytes =
+    (IsIdle e × (tally ≡ None) × (drawing.history ≡ []) × (drawing.after ≡ drawing.before))
+    ⊎ OfRun (setup_of task) bytes (λ reading values.
+    EndsPages drawing.output.before.bytes drawing.output.after.bytes (Unit {0}) (Unit {0}) e
+    reading values
+    × Tallied task.settings.summary drawing.output.before.bytes drawing.output.after.bytes tally e
+    values
+    × DrewShares (pages_begun reading) task.settings.workers e tally drawing.after
+    × EachUsed task.settings.workers drawing.before drawing.after
+    (λ k _ now. Answered task reading drawing.history status k now))
 
 -- ---- the parts of a run
 
--- the pages of a document were drawn by n workers, and it ended so
-pub record DrewPages {F : Type 0} (library : F → Option FileTable) (faults loads : F → ℕ)
-    (g : Setup)
-    (counted : Bool) (reading : Reading) (capacity n : ℕ) (old new : Option (List ℕ))
-    (OutputFailed : Type 0) (e : EndingSeen) (tally : Option Tally) (history : List Call)
-    (before after : List (Worker F)) : Type 0 where
-  pub ends : (values : List PageValue) × AreValues g reading values
-      × EndsPages old new OutputFailed (Unit {0}) e reading values
-      × Tallied counted old new tally e values
-  pub failed : (page : ℕ) → e ≡ Source page → SomeUsed n before after (FailedAt faults page)
-  pub shares : DrewShares (pages_begun reading) n e tally after
-  pub one : IsOneHistory capacity n (status_of e) history
-  pub ran : EachUsed n before after (λ k was now. Ran (IsDrawnThrough n e)
-      library faults loads g reading history (k + 1) was now)
+-- the pages of a document were drawn by the workers that the settings name, and it ended so
+pub record DrewPages {F : Type 0} (task : Task) (reading : Reading) (drawing : Drawing F)
+    (e : EndingSeen) (tally : Option Tally) : Type 0 where
+  pub ends : (values : List PageValue) × AreValues (setup_of task) reading values
+      × EndsPages drawing.output.before.bytes drawing.output.after.bytes
+      (FaultsRose drawing.output) (Unit {0}) e reading values
+      × Tallied task.settings.summary drawing.output.before.bytes drawing.output.after.bytes tally
+      e values
+  pub failed : (page : ℕ) → e ≡ Source page
+      → SomeUsed task.settings.workers drawing.before drawing.after
+      (FailedAt drawing.sources.faults page)
+  pub shares : DrewShares (pages_begun reading) task.settings.workers e tally drawing.after
+  pub one : IsOneHistory task.settings (status_of e) drawing.history
+  pub ran : EachUsed task.settings.workers drawing.before drawing.after
+      (λ k was now. Ran (IsDrawnThrough task.settings.workers e) drawing.sources.library
+      drawing.sources.faults drawing.sources.loads (setup_of task) reading drawing.history (k + 1)
+      was now)
 
 -- what holds of the workers after any run that ended so
-pub record AreDone {F : Type 0} (library : F → Option FileTable) (faults loads : F → ℕ)
-    (told : Option FileTable) (sample : Option ℕ) (capacity n status : ℕ) (e : EndingSeen)
-    (tally : Option Tally) (history : List Call) (before after : List (Worker F)) : Type 0 where
+pub record AreDone {F : Type 0} (task : Task) (drawing : Drawing F) (e : EndingSeen)
+    (tally : Option Tally) : Type 0 where
   pub counts : CountsTo tally e
-  pub failed : (page : ℕ) → e ≡ Source page → SomeUsed n before after (FailedAt faults page)
-  pub one : IsOneHistory capacity n status history
-  pub worked : EachUsed n before after
-      (λ k was now. Worked library faults loads told sample n status history k was now)
-  pub shares : (total : ℕ) × AreShares total n after
-  pub rest : RestIsKept n before after
+  pub failed : (page : ℕ) → e ≡ Source page
+      → SomeUsed task.settings.workers drawing.before drawing.after
+      (FailedAt drawing.sources.faults page)
+  pub one : IsOneHistory task.settings (status_of e) drawing.history
+  pub worked : EachUsed task.settings.workers drawing.before drawing.after
+      (λ k was now. Worked task drawing.sources (status_of e) (own (k + 1) drawing.history) was now)
+  pub shares : (total : ℕ) × AreShares total task.settings.workers drawing.after
+  pub rest : RestIsKept task.settings.workers drawing.before drawing.after

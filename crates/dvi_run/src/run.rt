@@ -1,16 +1,12 @@
 //! The run.
-ghost use Rattle.std.specs.Prelude.{◌≡◌, ◌≤◌, ◌<◌, ℕ, Option, Some, None, [], IfSome, length, map, slice_index_or, string_bytes};
-ghost use Rattle.outside.specs.Counts.{Rose};
+ghost use Rattle.std.specs.Prelude.{◌≡◌, ◌≤◌, ◌<◌, ℕ, Option, None, [], length, map, slice_index_or, string_bytes};
 ghost use Rattle.outside.specs.Library.{FileTable};
 ghost use Rattle.cache_core.specs.Views.{calls_of};
 ghost use Rattle.command_line.specs.Line.{settings_of};
 ghost use Rattle.command_line.specs.Settings.{AreSettings};
-ghost use Rattle.dvi_run.specs.Shares.{AreShares};
-ghost use Rattle.dvi_run.specs.Sampled.{FailedTo, UsesTheSample, document_to, setup_to, rest_to};
-ghost use Rattle.dvi_run.specs.Together.{IsOneHistory, IsReady, RestIsKept, SomeUsed, SourceRose, Worked};
-ghost use Rattle.dvi_run.specs.Promises.{HasEnded, IsCaused, IsCutShort, IsWritten, NoCountFalls, WasRefused};
-ghost use Rattle.dvi_run.specs.Endings.{EndingSeen, status_of};
-ghost use Rattle.dvi_run.specs.declared.tally.Tally.{Tally};
+ghost use Rattle.dvi_run.specs.Outside.{change_of};
+ghost use Rattle.dvi_run.specs.Together.{IsReady};
+ghost use Rattle.dvi_run.specs.Promises.{ForSettings, KeepsPromises, NoCountFalls, WasRefused};
 
 use crate::ending::Ending;
 use crate::laws::runs;
@@ -85,55 +81,27 @@ pub fn run_with<R: Threads + Wait + Sync, I: Input, F: FontSource + Send, O: Out
         → IsReady F.library told (slice_index_or workers.old k d) }
     requires empty { history.old.items ≡ [] }
 
-    // Why it ended so: the causes of each status, both ways.
-    ensures caused { IsCaused (setup_to told settings.now) result
-        (document_to settings.now (I.left input.old))
-        (FailedTo settings.now (Rose (I.faults input.old) (I.faults input.new)))
-        (FailedTo settings.now
-        (SomeUsed settings.now.workers workers.old workers.new (SourceRose F.faults)))
-        (Rose (O.faults out.old) (O.faults out.new))
-        (Rose (N.faults notes.old) (N.faults notes.new)) }
+    // Why it ended so, what was read, written and noted, what each worker drew and loaded, and the
+    // calls of the cache.
+    ensures promises { KeepsPromises (record {
+      task = record { settings = settings.now; told = told };
+      streams = record {
+        input = change_of I.left I.faults input.old input.new;
+        output = change_of O.written O.faults out.old out.new;
+        notes = change_of N.written N.faults notes.old notes.new;
+      };
+      sources = record { library = F.library; faults = F.faults; loads = F.loads };
+      before = workers.old;
+      after = workers.new;
+      history = calls_of history.new.items;
+    }) result }
 
-    // The bytes written where it ended well.
-    ensures written { IsWritten (setup_to told settings.now) result
-        (document_to settings.now (I.left input.old)) (rest_to settings.now (I.left input.new))
-        (O.written out.old) (O.written out.new) }
-
-    // The report in the notes, what was written whole, the worker whose source failed, and the
-    // pages drawn, with what each look-up found and the calls that it made, of one and the same
-    // end.
-    ensures ended { (ending : EndingSeen) × (tally : Option Tally) × (result ≡ status_of ending)
-        × HasEnded F.faults told settings.now result ending tally
-        (document_to settings.now (I.left input.old)) (O.written out.old) (O.written out.new)
-        (N.written notes.old) (N.written notes.new)
-        (N.faults notes.old) (N.faults notes.new) (calls_of history.new.items) workers.old
-        workers.new }
-
-    // The history, one legal list.
-    ensures history { IsOneHistory settings.now.cache settings.now.workers result
-        (calls_of history.new.items) }
-
-    // Each call of each used worker, once, and its loads.
-    ensures called { (k : ℕ) (d : _) → k < settings.now.workers
-        → Worked F.library F.faults F.loads told settings.now.sample settings.now.workers result
-        (calls_of history.new.items) k (slice_index_or workers.old k d)
-        (slice_index_or workers.new k d) }
-
-    // What was written where it was refused: pages from the first on, and a prefix of one at most.
-    ensures cut_short { IsCutShort (setup_to told settings.now) result
-        (document_to settings.now (I.left input.old)) (O.written out.old) (O.written out.new)
-        (out.new ≡ out.old) }
-
-    // The pages that were drawn, the first n, each once and by one worker.
-    ensures shares { (total : ℕ) × AreShares total settings.now.workers workers.new }
-    ensures rest { RestIsKept settings.now.workers workers.old workers.new }
-
-    // With the sample neither the input nor a source of the workers is used.
-    ensures sample { IfSome settings.now.sample (λ pages.
-        UsesTheSample result (input.new ≡ input.old) workers.old workers.new) }
-
-    ensures counts { NoCountFalls (I.faults input.old) (I.faults input.new)
-        (O.faults out.old) (O.faults out.new) (N.faults notes.old) (N.faults notes.new) }
+    // No count of faults falls.
+    ensures counts { NoCountFalls (record {
+      input = change_of I.left I.faults input.old input.new;
+      output = change_of O.written O.faults out.old out.new;
+      notes = change_of N.written N.faults notes.old notes.new;
+    }) }
 {
     // Bytes that have a fault are no document, and a document's pages have one value each.
     runs();
@@ -169,71 +137,34 @@ pub fn dvipbm_run<R: Threads + Wait + Sync, I: Input, F: FontSource + Send, O: O
     ensures usage { result ≡ 1
         → settings_of (length workers.old) (map string_bytes words.now) ≡ None }
     ensures refused { settings_of (length workers.old) (map string_bytes words.now) ≡ None
-        → WasRefused result (input.new ≡ input.old) (out.new ≡ out.old) (workers.new ≡ workers.old)
-        (history.new ≡ history.old) (N.written notes.old) (N.written notes.new) (N.faults notes.old)
-        (N.faults notes.new) }
+        → WasRefused (record {
+          input = change_of I.left I.faults input.old input.new;
+          output = change_of O.written O.faults out.old out.new;
+          notes = change_of N.written N.faults notes.old notes.new;
+        })
+        (workers.new ≡ workers.old) (history.new ≡ history.old) result }
 
-    // Why it ended so: the causes of each status, both ways.
-    ensures caused { (s : Settings)
-        → settings_of (length workers.old) (map string_bytes words.now) ≡ Some s
-        → IsCaused (setup_to told s) result (document_to s (I.left input.old))
-        (FailedTo s (Rose (I.faults input.old) (I.faults input.new)))
-        (FailedTo s (SomeUsed s.workers workers.old workers.new (SourceRose F.faults)))
-        (Rose (O.faults out.old) (O.faults out.new))
-        (Rose (N.faults notes.old) (N.faults notes.new)) }
+    // Else what `run_with` promises for the settings that they give.
+    ensures promises { ForSettings (settings_of (length workers.old) (map string_bytes words.now))
+        (λ s. KeepsPromises (record {
+          task = record { settings = s; told = told };
+          streams = record {
+            input = change_of I.left I.faults input.old input.new;
+            output = change_of O.written O.faults out.old out.new;
+            notes = change_of N.written N.faults notes.old notes.new;
+          };
+          sources = record { library = F.library; faults = F.faults; loads = F.loads };
+          before = workers.old;
+          after = workers.new;
+          history = calls_of history.new.items;
+        }) result) }
 
-    // The bytes written where it ended well.
-    ensures written { (s : Settings)
-        → settings_of (length workers.old) (map string_bytes words.now) ≡ Some s
-        → IsWritten (setup_to told s) result (document_to s (I.left input.old))
-        (rest_to s (I.left input.new)) (O.written out.old) (O.written out.new) }
-
-    // The report in the notes, what was written whole, the worker whose source failed, and the
-    // pages drawn, with what each look-up found and the calls that it made, of one and the same
-    // end.
-    ensures ended { (s : Settings)
-        → settings_of (length workers.old) (map string_bytes words.now) ≡ Some s
-        → (ending : EndingSeen) × (tally : Option Tally) × (result ≡ status_of ending)
-        × HasEnded F.faults told s result ending tally (document_to s (I.left input.old))
-        (O.written out.old) (O.written out.new) (N.written notes.old) (N.written notes.new)
-        (N.faults notes.old)
-        (N.faults notes.new) (calls_of history.new.items) workers.old workers.new }
-
-    // The history, one legal list.
-    ensures history { (s : Settings)
-        → settings_of (length workers.old) (map string_bytes words.now) ≡ Some s
-        → IsOneHistory s.cache s.workers result (calls_of history.new.items) }
-
-    // Each call of each used worker, once, and its loads.
-    ensures called { (s : Settings)
-        → settings_of (length workers.old) (map string_bytes words.now) ≡ Some s
-        → (k : ℕ) (d : _) → k < s.workers
-        → Worked F.library F.faults F.loads told s.sample s.workers result
-        (calls_of history.new.items) k (slice_index_or workers.old k d)
-        (slice_index_or workers.new k d) }
-
-    // What was written where it was refused: pages from the first on, and a prefix of one at most.
-    ensures cut_short { (s : Settings)
-        → settings_of (length workers.old) (map string_bytes words.now) ≡ Some s
-        → IsCutShort (setup_to told s) result (document_to s (I.left input.old)) (O.written out.old)
-        (O.written out.new) (out.new ≡ out.old) }
-
-    // The pages that were drawn, the first n, each once and by one worker.
-    ensures shares { (s : Settings)
-        → settings_of (length workers.old) (map string_bytes words.now) ≡ Some s
-        → (total : ℕ) × AreShares total s.workers workers.new }
-    ensures rest { (s : Settings)
-        → settings_of (length workers.old) (map string_bytes words.now) ≡ Some s
-        → RestIsKept s.workers workers.old workers.new }
-
-    // With the sample neither the input nor a source of the workers is used.
-    ensures sample { (s : Settings)
-        → settings_of (length workers.old) (map string_bytes words.now) ≡ Some s
-        → IfSome s.sample (λ pages.
-        UsesTheSample result (input.new ≡ input.old) workers.old workers.new) }
-
-    ensures counts { NoCountFalls (I.faults input.old) (I.faults input.new)
-        (O.faults out.old) (O.faults out.new) (N.faults notes.old) (N.faults notes.new) }
+    // No count of faults falls.
+    ensures counts { NoCountFalls (record {
+      input = change_of I.left I.faults input.old input.new;
+      output = change_of O.written O.faults out.old out.new;
+      notes = change_of N.written N.faults notes.old notes.new;
+    }) }
 {
     // Settings that words give are within their limits.
     given_settings();

@@ -12,6 +12,7 @@ ghost use Rattle.dvi_run.specs.Reading.{OfRead};
 ghost use Rattle.dvi_run.specs.Pages.{setup_by};
 ghost use Rattle.dvi_run.specs.Endings.{IsEnding, seen_ending, status_of};
 ghost use Rattle.dvi_run.specs.Sampled.{FailedTo, UsesTheSample, document_to, setup_to, rest_to};
+ghost use Rattle.dvi_run.specs.Outside.{change_of, task_for_sample};
 ghost use Rattle.dvi_run.specs.Together.{AreDone, DrewTogether, IsReady, SomeUsed, SourceRose};
 
 use crate::ending::Ending;
@@ -58,15 +59,23 @@ fn draw_by_own<R: Threads + Wait + Sync, F: FontSource + Send, O: Output, G: Fon
         (Rose (O.faults out.old) (O.faults out.new))
         ⊥ (out.new ≡ out.old) ⊥ (setup_by (Some sample_files) settings.now) (Some document.now)
         (Some []) (seen_ending result.0) }
-    ensures done { (pages : ℕ) → AreDone F.library F.faults F.loads told (Some pages)
-        settings.now.cache settings.now.workers (status_of (seen_ending result.0))
-        (seen_ending result.0) result.1
-        (calls_of history.new.items) workers.old workers.new }
-    ensures drew { OfRead (Some document.now)
-        (DrewTogether (setup_by (Some sample_files) settings.now)
-        settings.now.summary (O.written out.old) (O.written out.new) settings.now.cache
-        settings.now.workers (status_of (seen_ending result.0)) (seen_ending result.0) result.1
-        (calls_of history.new.items) workers.old workers.new) }
+    ensures done { (pages : ℕ) → AreDone (task_for_sample (Some pages) told settings.now) (record {
+      sources = record { library = F.library; faults = F.faults; loads = F.loads };
+      output = change_of O.written O.faults out.old out.new;
+      before = workers.old;
+      after = workers.new;
+      history = calls_of history.new.items;
+    })
+        (seen_ending result.0) result.1 }
+    ensures drew { (pages : ℕ) → OfRead (Some document.now)
+        (DrewTogether (task_for_sample (Some pages) told settings.now) (record {
+          sources = record { library = F.library; faults = F.faults; loads = F.loads };
+          output = change_of O.written O.faults out.old out.new;
+          before = workers.old;
+          after = workers.new;
+          history = calls_of history.new.items;
+        })
+        (status_of (seen_ending result.0)) (seen_ending result.0) result.1) }
     ensures sample { UsesTheSample (status_of (seen_ending result.0)) (Unit {0})
         workers.old workers.new }
     ensures output { O.faults out.old ≤ O.faults out.new }
@@ -99,14 +108,23 @@ fn draw_sample<R: Threads + Wait + Sync, F: FontSource + Send, O: Output>(
         (Rose (O.faults out.old) (O.faults out.new))
         ⊥ (out.new ≡ out.old) ⊥ (setup_by (Some sample_files) settings.now)
         (Some (sample_document pages)) (Some []) (seen_ending result.0) }
-    ensures done { AreDone F.library F.faults F.loads told (Some pages) settings.now.cache
-        settings.now.workers (status_of (seen_ending result.0)) (seen_ending result.0) result.1
-        (calls_of history.new.items) workers.old workers.new }
+    ensures done { AreDone (task_for_sample (Some pages) told settings.now) (record {
+      sources = record { library = F.library; faults = F.faults; loads = F.loads };
+      output = change_of O.written O.faults out.old out.new;
+      before = workers.old;
+      after = workers.new;
+      history = calls_of history.new.items;
+    })
+        (seen_ending result.0) result.1 }
     ensures drew { OfRead (Some (sample_document pages))
-        (DrewTogether (setup_by (Some sample_files) settings.now)
-        settings.now.summary (O.written out.old) (O.written out.new) settings.now.cache
-        settings.now.workers (status_of (seen_ending result.0)) (seen_ending result.0) result.1
-        (calls_of history.new.items) workers.old workers.new) }
+        (DrewTogether (task_for_sample (Some pages) told settings.now) (record {
+          sources = record { library = F.library; faults = F.faults; loads = F.loads };
+          output = change_of O.written O.faults out.old out.new;
+          before = workers.old;
+          after = workers.new;
+          history = calls_of history.new.items;
+        })
+        (status_of (seen_ending result.0)) (seen_ending result.0) result.1) }
     ensures sample { UsesTheSample (status_of (seen_ending result.0)) (Unit {0})
         workers.old workers.new }
     ensures output { O.faults out.old ≤ O.faults out.new }
@@ -149,14 +167,23 @@ pub fn draw_asked<R: Threads + Wait + Sync, I: Input, F: FontSource + Send, O: O
         (out.new ≡ out.old) (FailedTo settings.now (Rose (I.faults input.old) (I.faults input.new)))
         (setup_to told settings.now) (document_to settings.now (I.left input.old))
         (rest_to settings.now (I.left input.new)) (seen_ending result.0) }
-    ensures done { AreDone F.library F.faults F.loads told settings.now.sample settings.now.cache
-        settings.now.workers (status_of (seen_ending result.0)) (seen_ending result.0) result.1
-        (calls_of history.new.items) workers.old workers.new }
+    ensures done { AreDone (record { settings = settings.now; told = told }) (record {
+      sources = record { library = F.library; faults = F.faults; loads = F.loads };
+      output = change_of O.written O.faults out.old out.new;
+      before = workers.old;
+      after = workers.new;
+      history = calls_of history.new.items;
+    })
+        (seen_ending result.0) result.1 }
     ensures drew { OfRead (document_to settings.now (I.left input.old))
-        (DrewTogether (setup_to told settings.now)
-        settings.now.summary (O.written out.old) (O.written out.new) settings.now.cache
-        settings.now.workers (status_of (seen_ending result.0)) (seen_ending result.0) result.1
-        (calls_of history.new.items) workers.old workers.new) }
+        (DrewTogether (record { settings = settings.now; told = told }) (record {
+          sources = record { library = F.library; faults = F.faults; loads = F.loads };
+          output = change_of O.written O.faults out.old out.new;
+          before = workers.old;
+          after = workers.new;
+          history = calls_of history.new.items;
+        })
+        (status_of (seen_ending result.0)) (seen_ending result.0) result.1) }
     ensures sample { IfSome settings.now.sample (λ pages.
         UsesTheSample (status_of (seen_ending result.0)) (input.new ≡ input.old) workers.old
         workers.new) }

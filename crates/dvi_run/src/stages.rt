@@ -7,6 +7,7 @@ ghost use Rattle.command_line.specs.Settings.{AreSettings};
 ghost use Rattle.dvi_run.specs.Reading.{OfRead};
 ghost use Rattle.dvi_run.specs.Pages.{setup_by};
 ghost use Rattle.dvi_run.specs.Endings.{EndsBytes, IsEnding, seen_ending, status_of};
+ghost use Rattle.dvi_run.specs.Outside.{change_of, task_for_sample};
 ghost use Rattle.dvi_run.specs.Together.{AreDone, DrewPages, DrewTogether, IsReady, RestIsKept, SomeUsed, SourceRose};
 
 use crate::at_once::draw_at_once;
@@ -42,12 +43,14 @@ fn draw_pages<R: Threads + Wait + Sync, F: FontSource + Send, O: Output>(
         → IsReady F.library told (slice_index_or workers.old k d) }
     requires empty { history.old.items ≡ [] }
     requires resolution { index.now.res ≡ settings.now.res }
-    ensures drew { DrewPages F.library F.faults F.loads (setup_by told settings.now)
-        settings.now.summary index.now.reading
-        settings.now.cache settings.now.workers (O.written out.old) (O.written out.new)
-        (Rose (O.faults out.old) (O.faults out.new)) (seen_ending result.0) result.1
-        (calls_of history.new.items)
-        workers.old workers.new }
+    ensures drew { DrewPages (task_for_sample None told settings.now) index.now.reading (record {
+      sources = record { library = F.library; faults = F.faults; loads = F.loads };
+      output = change_of O.written O.faults out.old out.new;
+      before = workers.old;
+      after = workers.new;
+      history = calls_of history.new.items;
+    })
+        (seen_ending result.0) result.1 }
     ensures rest { RestIsKept settings.now.workers workers.old workers.new }
     ensures output { O.faults out.old ≤ O.faults out.new }
 {
@@ -85,15 +88,22 @@ pub fn draw_document<R: Threads + Wait + Sync, F: FontSource + Send, O: Output>(
         (SomeUsed settings.now.workers workers.old workers.new (SourceRose F.faults))
         (out.new ≡ out.old)
         (setup_by told settings.now) bytes.now (seen_ending result.0) }
-    ensures done { AreDone F.library F.faults F.loads told None settings.now.cache
-        settings.now.workers (status_of (seen_ending result.0)) (seen_ending result.0) result.1
-        (calls_of history.new.items)
-        workers.old workers.new }
-    ensures drew { DrewTogether (setup_by told settings.now) settings.now.summary
-        (O.written out.old) (O.written out.new)
-        settings.now.cache settings.now.workers (status_of (seen_ending result.0))
-        (seen_ending result.0) result.1
-        (calls_of history.new.items) workers.old workers.new bytes.now }
+    ensures done { AreDone (task_for_sample None told settings.now) (record {
+      sources = record { library = F.library; faults = F.faults; loads = F.loads };
+      output = change_of O.written O.faults out.old out.new;
+      before = workers.old;
+      after = workers.new;
+      history = calls_of history.new.items;
+    })
+        (seen_ending result.0) result.1 }
+    ensures drew { DrewTogether (task_for_sample None told settings.now) (record {
+      sources = record { library = F.library; faults = F.faults; loads = F.loads };
+      output = change_of O.written O.faults out.old out.new;
+      before = workers.old;
+      after = workers.new;
+      history = calls_of history.new.items;
+    })
+        (status_of (seen_ending result.0)) (seen_ending result.0) result.1 bytes.now }
     ensures output { O.faults out.old ≤ O.faults out.new }
 {
     // Where one worker is used its calls are the history, and the keys that it asked for tell them.
@@ -128,15 +138,23 @@ pub fn draw_input<R: Threads + Wait + Sync, I: Input, F: FontSource + Send, O: O
         (out.new ≡ out.old)
         (Rose (I.faults input.old) (I.faults input.new)) (setup_by told settings.now)
         (I.left input.old) (I.left input.new) (seen_ending result.0) }
-    ensures done { AreDone F.library F.faults F.loads told None settings.now.cache
-        settings.now.workers (status_of (seen_ending result.0)) (seen_ending result.0) result.1
-        (calls_of history.new.items)
-        workers.old workers.new }
-    ensures drew { OfRead (I.left input.old)
-        (DrewTogether (setup_by told settings.now) settings.now.summary (O.written out.old)
-        (O.written out.new) settings.now.cache settings.now.workers
-        (status_of (seen_ending result.0))
-        (seen_ending result.0) result.1 (calls_of history.new.items) workers.old workers.new) }
+    ensures done { AreDone (task_for_sample None told settings.now) (record {
+      sources = record { library = F.library; faults = F.faults; loads = F.loads };
+      output = change_of O.written O.faults out.old out.new;
+      before = workers.old;
+      after = workers.new;
+      history = calls_of history.new.items;
+    })
+        (seen_ending result.0) result.1 }
+    ensures drew { OfRead (I.left input.old) (DrewTogether (task_for_sample None told settings.now)
+        (record {
+          sources = record { library = F.library; faults = F.faults; loads = F.loads };
+          output = change_of O.written O.faults out.old out.new;
+          before = workers.old;
+          after = workers.new;
+          history = calls_of history.new.items;
+        })
+        (status_of (seen_ending result.0)) (seen_ending result.0) result.1) }
     ensures input { I.faults input.old ≤ I.faults input.new }
     ensures output { O.faults out.old ≤ O.faults out.new }
 {

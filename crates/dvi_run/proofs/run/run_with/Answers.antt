@@ -1,12 +1,15 @@
-use Rattle.std.proofs.Common.{◌≡◌, ◌∙◌, ℕ, Bool, List, get_or, ap, ap₂, subst, sym, rules}
-use Rattle.std.specs.Prelude.{is_ok}
+use Rattle.std.proofs.Common.{◌≡◌, ◌∙◌, ℕ, ◌+◌, Bool, List, get_or, ap, ap₂, subst, sym, rules}
+use Rattle.std.specs.Prelude.{IfSome, is_ok}
+use Rattle.cache_core.specs.Histories.{own}
 use Rattle.cache_core.specs.Views.{calls_of}
 use Rattle.cache_core.specs.declared.calls.Call.{Call}
 use Rattle.dvi_run.specs.Endings.{TellsBy, seen_ending, status_of, with_notes}
 use Rattle.dvi_run.specs.Report.{loads_of, report_text}
+use Rattle.dvi_run.specs.Sampled.{UsesTheSample}
+use Rattle.dvi_run.specs.Outside.{Run, Sources, Streams, Task, change_of, drawing_of}
 use Rattle.dvi_run.specs.Together.{IsOneHistory, Worked}
 use Rattle.dvi_run.proofs.Promised.{caused_at, cut_short_at, noted_at, written_at}
-use Rattle.dvi_run.proofs.Reported.{done_on, drew_on, ends_on, failed_on, report_on, tells_on}
+use Rattle.dvi_run.proofs.Reported.{done_on, drew_on, ends_on, failed_on, report_on, sample_on, tells_on}
 use Rattle.dvi_run.proofs.Together.{ended_at}
 use Rattle.dvi_run.proofs.run.run_with.Goals as goal
 
@@ -15,68 +18,44 @@ draw_asked-ending-requires g c κs within =
     let q = c.requires.1.1.1.1.1.1.1 in
     (search rules fits 100000 depth 60, (search rules fits 100000 depth 60, (search rules fits 100000 depth 60, (search rules fits 100000 depth 60, (search rules fits 100000 depth 60, (search rules fits 100000 depth 60, (q.0, (q.1.0, (q.1.1.0, q.1.1.1)))))))))
 
-pub returns-clause-caused : goal.returns-clause-caused
-returns-clause-caused g c =
+pub returns-clause-promises : goal.returns-clause-promises
+returns-clause-promises g c =
     let runs = c.runs.ensures in
     let x = c.draw_asked-ending.result.0 in
-    let is = c.status.ensures ∙ ap (λ (b : Bool). status_of (with_notes (seen_ending x) b)) c.is_ok-taken.ensures.value in
-    caused_at _ _ _ _ _ _ _ _ _ runs.reading runs.values runs.no_fault _ _ (failed_on _ _ _ _ _ x c.print.result c.print.ensures) (ends_on _ _ _ _ _ _ _ _ _ x (is_ok c.print.result) c.draw_asked-ending.ensures.ends) _ is
-
-pub returns-clause-written : goal.returns-clause-written
-returns-clause-written g c =
-    let x = c.draw_asked-ending.result.0 in
-    let is = c.status.ensures ∙ ap (λ (b : Bool). status_of (with_notes (seen_ending x) b)) c.is_ok-taken.ensures.value in
-    written_at _ _ _ _ _ _ _ _ _ _ (ends_on _ _ _ _ _ _ _ _ _ x (is_ok c.print.result) c.draw_asked-ending.ensures.ends) _ is
-
-pub returns-clause-cut_short : goal.returns-clause-cut_short
-returns-clause-cut_short g c =
-    let x = c.draw_asked-ending.result.0 in
-    let is = c.status.ensures ∙ ap (λ (b : Bool). status_of (with_notes (seen_ending x) b)) c.is_ok-taken.ensures.value in
-    cut_short_at _ _ _ _ _ _ _ _ _ _ (ends_on _ _ _ _ _ _ _ _ _ x (is_ok c.print.result) c.draw_asked-ending.ensures.ends) _ is
-
-pub returns-clause-ended : goal.returns-clause-ended
-returns-clause-ended g c =
-    let end = c.draw_asked-ending.ensures in
-    let x = c.draw_asked-ending.result.0 in
     let taken = is_ok c.print.result in
-    let is = c.status.ensures ∙ ap (λ (b : Bool). status_of (with_notes (seen_ending x) b)) c.is_ok-taken.ensures.value in
-    let done = done_on _ _ _ _ _ _ _ _ _ _ _ x taken end.done in
-    let ends = ends_on _ _ _ _ _ _ _ _ _ x taken end.ends in
-    let drew = drew_on _ _ _ _ _ _ _ _ _ _ x taken _ end.drew in
+    let end = c.draw_asked-ending.ensures in
     let settings = c.args.settings.now in
     let tally = c.draw_asked-ending.result.1 in
-    let loads : c.loads_asked-loads.result ≡ loads_of settings.workers c.draw_asked-ending.new.workers = c.loads_asked-loads.ensures in
-    let calls : calls_of c.as_slice.result.now ≡ calls_of c.draw_asked-ending.new.history.items = ap calls_of c.as_slice.ensures.value in
-    let report = ap₂ (λ (l : ℕ) (h : List Call). report_text settings tally l h (seen_ending x)) loads calls ∙ report_on settings tally (loads_of settings.workers c.draw_asked-ending.new.workers) (calls_of c.draw_asked-ending.new.history.items) x taken in
-    let start = g.N.Output.written c.args.notes.now in
-    let notes = g.N.Output.written c.print.new.notes in
-    let before = g.N.Output.faults c.args.notes.now in
-    let after = g.N.Output.faults c.print.new.notes in
-    let told = subst (λ (text : List ℕ). TellsBy (with_notes (seen_ending x) taken) start notes before after text) report (tells_on start notes before after _ x c.print.result c.print.ensures) in (
-      with_notes (seen_ending x) taken,
-      c.draw_asked-ending.result.1,
-      is,
-      ended_at _ _ _ _ _ _ _ _ _ _ _ _ _ _ _ (noted_at _ _ _ _ _ _ _ _ _ _ ends start notes before after _ told) done.counts done.failed drew _ is,
-    )
-
-pub returns-clause-called : goal.returns-clause-called
-returns-clause-called g c =
-    let x = c.draw_asked-ending.result.0 in
+    let workers = c.draw_asked-ending.new.workers in
+    let history = calls_of c.draw_asked-ending.new.history.items in
+    let task : Task = record { settings = settings; told = g.told } in
+    let streams : Streams = record {
+      input = change_of g.I.Input.left g.I.Input.faults c.args.input.now c.draw_asked-ending.new.input;
+      output = change_of g.O.Output.written g.O.Output.faults c.args.out.now c.draw_asked-ending.new.out;
+      notes = change_of g.N.Output.written g.N.Output.faults c.args.notes.now c.print.new.notes;
+    } in
+    let sources : Sources _ = record { library = g.F.FontSource.library; faults = g.F.FontSource.faults; loads = g.F.FontSource.loads } in
+    let run : Run _ = record { task = task; streams = streams; sources = sources; before = c.args.workers.now; after = workers; history = history } in
     let is = c.status.ensures ∙ ap (λ (b : Bool). status_of (with_notes (seen_ending x) b)) c.is_ok-taken.ensures.value in
-    let done = done_on _ _ _ _ _ _ _ _ _ _ _ x (is_ok c.print.result) c.draw_asked-ending.ensures.done in
-    λ k d lt.
-    subst (λ (status : ℕ). Worked g.F.FontSource.library g.F.FontSource.faults g.F.FontSource.loads g.told c.args.settings.now.sample c.args.settings.now.workers status (calls_of c.draw_asked-ending.new.history.items) k
-    (get_or c.args.workers.now k d) (get_or c.draw_asked-ending.new.workers k d)) (sym is) (done.worked k d lt)
-
-pub returns-clause-history : goal.returns-clause-history
-returns-clause-history g c =
-    let x = c.draw_asked-ending.result.0 in
-    let is = c.status.ensures ∙ ap (λ (b : Bool). status_of (with_notes (seen_ending x) b)) c.is_ok-taken.ensures.value in
-    let done = done_on _ _ _ _ _ _ _ _ _ _ _ x (is_ok c.print.result) c.draw_asked-ending.ensures.done in
-    subst (λ (status : ℕ). IsOneHistory c.args.settings.now.cache c.args.settings.now.workers status (calls_of c.draw_asked-ending.new.history.items)) (sym is) done.one
-
-pub returns-clause-shares : goal.returns-clause-shares
-returns-clause-shares g c = c.draw_asked-ending.ensures.done.shares
-
-pub returns-clause-rest : goal.returns-clause-rest
-returns-clause-rest g c = c.draw_asked-ending.ensures.done.rest
+    let ends = ends_on _ _ _ _ _ _ _ _ _ x taken end.ends in
+    let done = done_on task (drawing_of run) tally x taken end.done in
+    let drew = drew_on task (drawing_of run) tally x taken _ end.drew in
+    let loads : c.loads_asked-loads.result ≡ loads_of settings.workers workers = c.loads_asked-loads.ensures in
+    let calls : calls_of c.as_slice.result.now ≡ history = ap calls_of c.as_slice.ensures.value in
+    let report = ap₂ (λ (l : ℕ) (h : List Call). report_text settings tally l h (seen_ending x)) loads calls ∙ report_on settings tally (loads_of settings.workers workers) history x taken in
+    let start = streams.notes.before in
+    let last = streams.notes.after in
+    let told = subst (λ (text : List ℕ). TellsBy (with_notes (seen_ending x) taken) start.bytes last.bytes start.faults last.faults text) report
+    (tells_on start.bytes last.bytes start.faults last.faults _ x c.print.result c.print.ensures) in
+    record {
+      caused = caused_at run runs.reading runs.values runs.no_fault (with_notes (seen_ending x) taken) (failed_on _ _ _ _ _ x c.print.result c.print.ensures) ends _ is;
+      written = written_at run (with_notes (seen_ending x) taken) ends _ is;
+      ended = (with_notes (seen_ending x) taken, tally, is, ended_at run (with_notes (seen_ending x) taken) tally (noted_at run (with_notes (seen_ending x) taken) ends _ told) done drew _ is);
+      history = subst (λ (status : ℕ). IsOneHistory settings status history) (sym is) done.one;
+      called = λ k d lt.
+          subst (λ (status : ℕ). Worked task sources status (own (k + 1) history) (get_or c.args.workers.now k d) (get_or workers k d)) (sym is) (done.worked k d lt);
+      cut_short = cut_short_at run (with_notes (seen_ending x) taken) ends _ is;
+      shares = end.done.shares;
+      rest = end.done.rest;
+      sample = subst (λ (status : ℕ). IfSome settings.sample (λ pages. UsesTheSample status streams.input.Kept c.args.workers.now workers)) (sym is) (sample_on streams.input.Kept c.args.workers.now workers settings.sample x taken end.sample);
+    }

@@ -12,6 +12,7 @@ use Rattle.sample_maker.specs.Sample.{sample_document, sample_files}
 use Rattle.dvi_run.specs.Endings.{IsEnding, seen_ending, status_of}
 use Rattle.dvi_run.specs.Pages.{setup_by}
 use Rattle.dvi_run.specs.Reading.{OfRead}
+use Rattle.dvi_run.specs.Outside.{Drawing, Sources, change_of, task_for_sample}
 use Rattle.dvi_run.specs.Together.{DrewTogether, IsReady}
 use Rattle.dvi_run.proofs.Together.{idle_done}
 use Rattle.dvi_run.proofs.sampled.draw_sample.Goals as goal
@@ -26,7 +27,7 @@ own_ready files n items now same told each k d lt =
     subst (λ (ws : List (Worker SureFonts)). IsReady Library (Some sample_files) (get_or ws k d)) (sym same) (subst (λ (fs : FileTable). IsReady Library (Some fs) (get_or items k d)) told (each k d lt))
 
 pub returns-in_default-own_workers-clause-done : goal.returns-in_default-own_workers-clause-done
-returns-in_default-own_workers-clause-done g c = let q = c.requires.1.1.1.1.1 in idle_done _ _ _ _ _ _ _ _ _ _ _ q.1.1.1.1.0 tt (ap calls_of q.1.1.1.1.1)
+returns-in_default-own_workers-clause-done g c = let q = c.requires.1.1.1.1.1 in idle_done _ _ _ _ _ _ q.1.1.1.1.0 tt (ap calls_of q.1.1.1.1.1)
 
 pub draw_by_own-requires : goal.draw_by_own-requires
 draw_by_own-requires g c κs within =
@@ -92,5 +93,7 @@ pub returns-clause-drew : goal.returns-clause-drew
 returns-clause-drew g c =
     let bytes : c.deref.result.now ≡ sample_document c.args.pages = search rules in
     let e = seen_ending c.draw_by_own.result.0 in
-    subst (λ (text : List ℕ). OfRead (Some text) (DrewTogether (setup_by (Some sample_files) c.args.settings.now) c.args.settings.now.summary (g.O.Output.written c.args.out.now) (g.O.Output.written c.draw_by_own.new.out)
-    c.args.settings.now.cache c.args.settings.now.workers (status_of e) e c.draw_by_own.result.1 (calls_of c.draw_by_own.new.history.items) c.args.workers.now c.draw_by_own.new.workers)) bytes c.draw_by_own.ensures.drew
+    let sources : Sources _ = record { library = g.F.FontSource.library; faults = g.F.FontSource.faults; loads = g.F.FontSource.loads } in
+    let output = change_of g.O.Output.written g.O.Output.faults c.args.out.now c.draw_by_own.new.out in
+    let drawing : Drawing _ = record { sources = sources; output = output; before = c.args.workers.now; after = c.draw_by_own.new.workers; history = calls_of c.draw_by_own.new.history.items } in
+    subst (λ (text : List ℕ). OfRead (Some text) (DrewTogether (task_for_sample (Some c.args.pages) g.told c.args.settings.now) drawing (status_of e) e c.draw_by_own.result.1)) bytes (c.draw_by_own.ensures.drew c.args.pages)

@@ -19,16 +19,16 @@ returns-in-Ok-clause-ends g c =
     let n = c.args.settings.now.workers in
     pages_end (g.O.Output.written c.args.out.now) (g.O.Output.written c.draw_pages.new.out) (Rose (g.O.Output.faults c.args.out.now) (g.O.Output.faults c.draw_pages.new.out))
     (SomeUsed n c.args.workers.now c.draw_pages.new.workers (SourceRose g.F.FontSource.faults)) (c.draw_pages.new.out ≡ c.args.out.now) (setup_by g.told c.args.settings.now) c.args.bytes.now
-    c.in-Ok.index.reading d.ends.0 c.in-Ok.ensures.document d.ends.1 (seen_ending c.draw_pages.result.0) (ends_used _ _ _ _ _ _ _ _ _ _ _ _ _ _ _ _ d)
+    c.in-Ok.index.reading d.ends.0 c.in-Ok.ensures.document d.ends.1 (seen_ending c.draw_pages.result.0) (ends_used g.told c.args.settings.now _ _ _ _ d)
 
 pub returns-in-Ok-clause-done : goal.returns-in-Ok-clause-done
-returns-in-Ok-clause-done g c = are_done _ _ _ _ _ _ _ _ _ _ _ _ _ _ _ _ c.draw_pages.ensures.drew c.draw_pages.ensures.rest
+returns-in-Ok-clause-done g c = are_done g.told c.args.settings.now _ _ _ _ c.draw_pages.ensures.drew c.draw_pages.ensures.rest
 
 pub returns-in-Ok-clause-drew : goal.returns-in-Ok-clause-drew
-returns-in-Ok-clause-drew g c = drew_together _ _ _ _ _ _ _ _ _ _ _ _ _ _ _ _ c.draw_pages.ensures.drew c.args.bytes.now c.in-Ok.ensures.document c.own_calls.ensures.alone c.solo.ensures.one
+returns-in-Ok-clause-drew g c = drew_together g.told c.args.settings.now _ _ _ _ c.draw_pages.ensures.drew c.args.bytes.now c.in-Ok.ensures.document c.own_calls.ensures.alone c.solo.ensures.one
 
 pub returns-in-Err-Fault-clause-done : goal.returns-in-Err-Fault-clause-done
-returns-in-Err-Fault-clause-done g c = let q = c.requires.1.1.1.1.1 in idle_done _ _ _ _ _ _ _ _ _ _ _ q.1.1.0 tt (ap calls_of q.1.1.1)
+returns-in-Err-Fault-clause-done g c = let q = c.requires.1.1.1.1.1 in idle_done _ _ _ _ _ _ q.1.1.0 tt (ap calls_of q.1.1.1)
 
 pub returns-in-Err-NoMemory-clause-done : goal.returns-in-Err-NoMemory-clause-done
-returns-in-Err-NoMemory-clause-done g c = let q = c.requires.1.1.1.1.1 in idle_done _ _ _ _ _ _ _ _ _ _ _ q.1.1.0 tt (ap calls_of q.1.1.1)
+returns-in-Err-NoMemory-clause-done g c = let q = c.requires.1.1.1.1.1 in idle_done _ _ _ _ _ _ q.1.1.0 tt (ap calls_of q.1.1.1)
