@@ -8,4 +8,5 @@ pub mod Rising
 pub mod Parts
 pub mod Shares
 pub mod Rounds
+pub mod Claims
 pub mod Papered

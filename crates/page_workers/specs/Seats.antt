@@ -61,6 +61,11 @@ abbrev pub Fits : Option FileTable → Bench → Option SeatView → Type 0
 Fits told bench None = ⊥
 Fits told bench (Some s) = IsAt told bench s
 
+-- the seat holds no claim: it has filled or released each key that it claimed
+abbrev pub HoldsNoClaim : Option SeatView → Type 0
+HoldsNoClaim None = Unit {0}
+HoldsNoClaim (Some s) = open_claim (own_calls s) ≡ None
+
 -- ---- what is told goes together
 
 pub units_told : (seat : Option SeatView) → IsSome (library_at seat) → IsSome (units_at seat)

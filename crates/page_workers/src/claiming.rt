@@ -4,17 +4,17 @@ ghost use Rattle.page_counter.specs.declared.view.SeatClaims.{SeatClaims};
 ghost use Rattle.page_counter.specs.Views.{split_view};
 ghost use Rattle.page_workers.specs.Claims.{Claimed, GaveSeat, GotSeat, HasSeat, claims_at};
 
+use crate::job::PageRange;
 use crate::worker::Worker;
 use outside::FontSource;
 use page_counter::{CounterSeat, PageCounter};
 
-/// The pages of a round: `count` of them from `first` on, counted from 0, claimed from one counter.
+/// The pages of a round, and the counter from which they are claimed.
 #[derive(Drop)]
 pub struct Round {
     pub counter: PageCounter,
-    pub first: usize,
-    pub count: usize,
-    ghost end_fits: { first + count < 2 ^ 64 },
+    pub pages: PageRange,
+    ghost end_fits: { pages.first + pages.count < 2 ^ 64 },
 }
 
 // Gives a worker a seat at the counter.
@@ -56,14 +56,14 @@ pub fn seat_at_counter<F: FontSource>(
 pub fn claim_page<F: FontSource>(worker: &mut Worker<F>, round: &Round) -> Option<usize>
     requires seated { HasSeat round.now.counter worker.old }
     requires few { length (claims_at worker.old.counter) < 64 }
-    ensures { Claimed round.now.first round.now.count result worker.old worker.new }
+    ensures { Claimed round.now.pages.first round.now.pages.count result worker.old worker.new }
 {
     let Some(seat) = &mut worker.counter else {
         unreachable!()
     };
     let claim = round.counter.claim(seat);
-    if claim < round.count as u64 {
-        Some(round.first + claim as usize)
+    if claim < round.pages.count as u64 {
+        Some(round.pages.first + claim as usize)
     } else {
         None
     }

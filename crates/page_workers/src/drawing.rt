@@ -2,24 +2,21 @@
 ghost use Rattle.std.specs.Prelude.{◌≡◌, ◌+◌, ◌^◌, ◌<◌, ◌≤◌, Some, IsErrOf};
 ghost use Rattle.outside.specs.Counts.{HasCause};
 ghost use Rattle.page_index.specs.Document.{pages_begun};
-ghost use Rattle.page_index.specs.Pages.{document_units};
 ghost use Rattle.font_decode.specs.Decoding.{IsFontOf};
 ghost use Rattle.font_decode.specs.Desks.{TrailGrew};
 ghost use Rattle.page_draw.specs.Drawn.{IsWhole};
-ghost use Rattle.page_draw.specs.Sheets.{IsDrawable};
 ghost use Rattle.page_workers.specs.Rounds.{IsOutcome, trail_of};
 ghost use Rattle.page_workers.specs.Seats.{Fits, asked_at, library_at, room_at, units_at};
 ghost use Rattle.page_workers.specs.Claims.{DrewNext, HasRoom, MayTakePart, TookPart};
 ghost use Rattle.vf_expand.specs.Course.{MOST_FLAT};
 
-use crate::Bench;
 use crate::claiming::{Round, claim_page};
+use crate::job::Job;
 use crate::paper::blank_page;
 use crate::worker::{PageResult, Worker};
 use font_decode::Desk;
 use outside::FontSource;
-use page_draw::{PageStop, Sheet, draw_on};
-use page_index::Index;
+use page_draw::{PageStop, draw_on};
 use raster_page::Page;
 use std::alloc::Global;
 use std::mem;
@@ -30,19 +27,16 @@ fn draw_on_paper<R: Wait, F: FontSource>(
     rt: &R,
     alloc: Global,
     worker: &mut Worker<F>,
-    bench: &Bench,
-    index: &Index,
-    sheet: &Sheet,
+    job: &Job,
     page: usize,
 ) -> Result<Page, PageStop>
-    requires page { page < pages_begun index.now.reading }
-    requires sheet { IsDrawable sheet.now }
-    requires units { document_units index.now.res index.now.reading ≡ Some bench.now.units }
-    requires fits { Fits (F.library worker.old.source) bench.now worker.old.seat }
+    requires page { page < pages_begun job.now.index.now.reading }
+    requires fits { Fits (F.library worker.old.source) job.now.bench.now worker.old.seat }
     requires look_ups { MOST_FLAT ≤ room_at worker.old.loads worker.old.seat }
     ensures value { IsOutcome (IsFontOf (library_at worker.old.seat) (units_at worker.old.seat))
-        index.now sheet.now page result (asked_at worker.old.seat) (asked_at worker.new.seat) }
-    ensures fits { Fits (F.library worker.new.source) bench.now worker.new.seat }
+        job.now.index.now job.now.sheet.now page result
+        (asked_at worker.old.seat) (asked_at worker.new.seat) }
+    ensures fits { Fits (F.library worker.new.source) job.now.bench.now worker.new.seat }
     ensures room { room_at worker.old.loads worker.old.seat
         ≤ room_at worker.new.loads worker.new.seat + MOST_FLAT }
     ensures same_library { library_at worker.new.seat ≡ library_at worker.old.seat }
@@ -52,8 +46,8 @@ fn draw_on_paper<R: Wait, F: FontSource>(
     ensures trail { TrailGrew (IsWhole result) (asked_at worker.old.seat)
         (asked_at worker.new.seat) (trail_of F.loads worker.old) (trail_of F.loads worker.new) }
 {
-    match blank_page(alloc, &mut worker.paper, sheet) {
-        Ok(paper) => draw_on(rt, alloc, worker, bench, index, page, sheet, paper),
+    match blank_page(alloc, &mut worker.paper, job.sheet) {
+        Ok(paper) => draw_on(rt, alloc, worker, job.bench, job.index, page, job.sheet, paper),
         Err(_) => Err(PageStop::NoMemory),
     }
 }
@@ -64,24 +58,20 @@ fn draw_page<R: Wait, F: FontSource>(
     rt: &R,
     alloc: Global,
     worker: &mut Worker<F>,
-    bench: &Bench,
-    index: &Index,
-    sheet: &Sheet,
+    job: &Job,
     page: usize,
 ) -> bool
-    requires page { page < pages_begun index.now.reading }
-    requires sheet { IsDrawable sheet.now }
-    requires units { document_units index.now.res index.now.reading ≡ Some bench.now.units }
-    requires fits { Fits (F.library worker.old.source) bench.now worker.old.seat }
+    requires page { page < pages_begun job.now.index.now.reading }
+    requires fits { Fits (F.library worker.old.source) job.now.bench.now worker.old.seat }
     requires look_ups { MOST_FLAT ≤ room_at worker.old.loads worker.old.seat }
     requires space { HasRoom 1 worker.old }
-    ensures { DrewNext F.library F.faults F.loads bench.now index.now sheet.now page result
-        worker.old worker.new }
+    ensures { DrewNext F.library F.faults F.loads job.now.bench.now job.now.index.now
+        job.now.sheet.now page result worker.old worker.new }
 {
     let counter = worker.counter.take();
     let mut results = mem::replace(&mut worker.results, Vec::new(alloc));
     let mut pages = mem::replace(&mut worker.pages, Vec::new(alloc));
-    let outcome = draw_on_paper(rt, alloc, worker, bench, index, sheet, page);
+    let outcome = draw_on_paper(rt, alloc, worker, job, page);
     let has_bitmap = outcome.is_ok();
     results.push_reserved(PageResult { page, outcome });
     pages.push_reserved(page);
@@ -97,21 +87,19 @@ pub fn take_part<R: Wait, F: FontSource>(
     rt: &R,
     alloc: Global,
     worker: &mut Worker<F>,
-    bench: &Bench,
-    index: &Index,
-    sheet: &Sheet,
+    job: &Job,
     round: &Round,
 )
-    requires inside { round.now.first + round.now.count ≤ pages_begun index.now.reading }
-    requires few { round.now.count ≤ 32 }
-    requires sheet { IsDrawable sheet.now }
-    requires units { document_units index.now.res index.now.reading ≡ Some bench.now.units }
-    requires ready { MayTakePart F.library bench.now round.now.counter round.now.count worker.old }
-    ensures { TookPart F.library F.faults F.loads bench.now index.now sheet.now round.now.counter
-        round.now.first round.now.count worker.old worker.new }
+    requires inside { round.now.pages.first + round.now.pages.count
+        ≤ pages_begun job.now.index.now.reading }
+    requires ready { MayTakePart F.library job.now.bench.now round.now.counter round.now.pages.count
+        worker.old }
+    ensures { TookPart F.library F.faults F.loads job.now.bench.now job.now.index.now
+        job.now.sheet.now round.now.counter round.now.pages.first round.now.pages.count
+        worker.old worker.new }
 {
     while let Some(page) = claim_page(worker, round) {
-        if !draw_page(rt, alloc, worker, bench, index, sheet, page) {
+        if !draw_page(rt, alloc, worker, job, page) {
             return;
         }
     }

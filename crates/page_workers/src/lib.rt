@@ -6,6 +6,7 @@ mod bench;
 mod claiming;
 mod counting;
 mod drawing;
+mod job;
 mod keeping;
 pub mod laws;
 mod loading;
@@ -15,6 +16,7 @@ mod seating;
 mod worker;
 
 pub use bench::Bench;
+pub use job::{Job, PageRange};
 pub use page_counter::{CounterSeat, PageCounter};
 pub use paper::drop_paper;
 pub use round::{MOST_WORKERS, draw_round, draw_round_on};

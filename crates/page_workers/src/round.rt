@@ -4,11 +4,13 @@ ghost use Rattle.page_index.specs.Document.{pages_begun};
 ghost use Rattle.page_index.specs.Pages.{document_units};
 ghost use Rattle.page_draw.specs.Sheets.{IsDrawable};
 ghost use Rattle.page_workers.specs.Rounds.{DrewRound, MayDraw, Rested};
+ghost use Rattle.page_workers.specs.Seats.{HoldsNoClaim};
 ghost use Rattle.page_workers.specs.Claims.{HasRoom, RestsAtCounter, MayTakePart, TookPart};
 
 use crate::Bench;
 use crate::claiming::{Round, join_at_counter, seat_at_counter};
 use crate::drawing::take_part;
+use crate::job::{Job, PageRange};
 use crate::paper::share_paper;
 use crate::worker::Worker;
 use font_decode::Desk;
@@ -54,7 +56,8 @@ fn reserve_all<F: FontSource>(workers: &mut [Worker<F>], count: usize) -> Result
 /// So each page that was drawn was drawn by one worker, once. The worker has its results in the
 /// order of their pages, and its `pages` grew by these. What stopped a page is in its result: a
 /// fault of the page or of its source, or that memory ran out. `NoMemory` of the call itself comes
-/// before any page is begun, and changes no worker but in capacity.
+/// before any page is begun, and changes no worker but in capacity. Whatever its pages came to, no
+/// worker's seat holds a claim afterwards.
 pub fn draw_round<R: Threads + Wait + Sync, F: FontSource + Send>(
     rt: &R,
     alloc: Global,
@@ -80,14 +83,20 @@ pub fn draw_round<R: Threads + Wait + Sync, F: FontSource + Send>(
         → Rested (slice_index_or workers.old k d) (slice_index_or workers.new k d)) }
     ensures no_counter { (k : ℕ) (d : _) → k < length workers.old
         → (slice_index_or workers.new k d).counter ≡ None }
+    ensures no_claim { (k : ℕ) (d : _) → k < length workers.old
+        → HoldsNoClaim (slice_index_or workers.new k d).seat }
 {
     prove!(count <= index.pages() - first);
     reserve_all(workers, count)?;
     let (counter, mut seat) = PageCounter::make(alloc)?;
+    let job = Job {
+        bench,
+        index,
+        sheet,
+    };
     let round = Round {
         counter,
-        first,
-        count,
+        pages: PageRange { first, count },
     };
     seat_at_counter(&round.counter, &mut seat, workers);
     thread::for_each_mut(
@@ -95,13 +104,12 @@ pub fn draw_round<R: Threads + Wait + Sync, F: FontSource + Send>(
         workers,
         MOST_WORKERS,
         &|_, worker: &mut Worker<F>|
-            requires { (round.first + round.count ≤ pages_begun index.now.reading)
-                × (round.count ≤ 32) × IsDrawable sheet.now
-                × (document_units index.now.res index.now.reading ≡ Some bench.now.units)
-                × MayTakePart F.library bench.now round.counter round.count worker.old }
-            ensures { TookPart F.library F.faults F.loads bench.entry.now index.entry.now
-                sheet.entry.now round.counter round.first round.count worker.old worker.new }
-        { take_part(rt, alloc, worker, bench, index, sheet, &round) },
+            requires { (round.pages.first + round.pages.count ≤ pages_begun job.index.now.reading)
+                × MayTakePart F.library job.bench.now round.counter round.pages.count worker.old }
+            ensures { TookPart F.library F.faults F.loads job.entry.bench.now job.entry.index.now
+                job.entry.sheet.now round.counter round.pages.first round.pages.count
+                worker.old worker.new }
+        { take_part(rt, alloc, worker, &job, &round) },
     );
     let Round { counter, .. } = round;
     join_at_counter(&counter, &mut seat, workers);
@@ -115,30 +123,28 @@ pub fn draw_round_on<R: Threads + Wait + Sync, F: FontSource + Send>(
     rt: &R,
     alloc: Global,
     workers: &mut [Worker<F>],
-    bench: &Bench,
-    index: &Index,
-    sheet: &Sheet,
-    first: usize,
-    count: usize,
+    job: &Job,
+    pages: PageRange,
     paper: &mut Vec<Page>,
 ) -> Result<(), NoMemory>
     requires some_worker { 1 ≤ length workers.old }
     requires few_workers { length workers.old ≤ 32 }
-    requires some_page { 1 ≤ count }
-    requires few_pages { count ≤ 32 }
-    requires inside { first + count ≤ pages_begun index.now.reading }
-    requires sheet { IsDrawable sheet.now }
-    requires units { document_units index.now.res index.now.reading ≡ Some bench.now.units }
+    requires inside { pages.first + pages.count ≤ pages_begun job.now.index.now.reading }
     requires ready { (k : ℕ) (d : _) → k < length workers.old
-        → MayDraw F.library bench.now count (slice_index_or workers.old k d) }
-    ensures drawn { OnOk result (DrewRound F.library F.faults F.loads bench.now index.now sheet.now
-        first count workers.old workers.new) }
+        → MayDraw F.library job.now.bench.now pages.count (slice_index_or workers.old k d) }
+    ensures drawn { OnOk result (DrewRound F.library F.faults F.loads job.now.bench.now
+        job.now.index.now job.now.sheet.now pages.first pages.count workers.old workers.new) }
     ensures refused { OnErr result ((k : ℕ) (d : _) → k < length workers.old
         → Rested (slice_index_or workers.old k d) (slice_index_or workers.new k d)) }
     ensures no_counter { (k : ℕ) (d : _) → k < length workers.old
         → (slice_index_or workers.new k d).counter ≡ None }
+    ensures no_claim { (k : ℕ) (d : _) → k < length workers.old
+        → HoldsNoClaim (slice_index_or workers.new k d).seat }
     ensures taken { paper.new.items ≡ [] }
 {
+    let PageRange { first, count } = pages;
     share_paper(workers, paper, count);
-    draw_round(rt, alloc, workers, bench, index, sheet, first, count)
+    draw_round(
+        rt, alloc, workers, job.bench, job.index, job.sheet, first, count,
+    )
 }

@@ -5,7 +5,7 @@ use Rattle.page_workers.proofs.drawing.take_part.Given as goal
 
 abbrev pub invariant-loop-page : goal.invariant-loop-page
 invariant-loop-page g l =
-    Midway g.F.FontSource.library g.F.FontSource.faults g.F.FontSource.loads l.bench l.index l.sheet l.round.counter l.round.first l.round.count l.initial.worker l.worker
+    Midway g.F.FontSource.library g.F.FontSource.faults g.F.FontSource.loads l.job.bench.now l.job.index.now l.job.sheet.now l.round.counter l.round.pages.first l.round.pages.count l.initial.worker l.worker
 
 abbrev pub decreases-loop-page : goal.decreases-loop-page
-decreases-loop-page g l = l.round.count - length (claims_at l.worker.counter)
+decreases-loop-page g l = l.round.pages.count - length (claims_at l.worker.counter)

@@ -4,6 +4,7 @@ use Rattle.page_counter.specs.Numbers.{EachOnce}
 use Rattle.page_counter.specs.Views.{claims_of}
 use Rattle.page_workers.specs.declared.worker.Worker.{Worker}
 use Rattle.page_workers.specs.Claims.{TookPart}
+use Rattle.page_workers.proofs.Claims.{drew_free}
 use Rattle.page_workers.proofs.Shares.{drew_round, share_of, some_of, no_claims}
 use Rattle.page_workers.proofs.round.draw_round.Goals as goal
 
@@ -43,3 +44,17 @@ returns-clause-no_counter g c =
     let seated_all : length c.seat_at_counter.new.workers ≡ length c.reserve_all.new.workers = search rules in
     let drawn_all : length c.for_each_mut.new.s ≡ length c.seat_at_counter.new.workers = search rules in
     λ k d lt. ap (λ (w : Worker _). w.counter) (c.join_at_counter.ensures.gave k d no_claims (omega arith)).is
+
+pub returns-clause-no_claim : goal.returns-clause-no_claim
+returns-clause-no_claim g c =
+    let drew = returns-clause-drawn g c in
+    let before = c.args.workers.now in
+    let after = c.join_at_counter.new.workers in
+    let reserved_all : length c.reserve_all.new.workers ≡ length before = search rules in
+    let seated_all : length c.seat_at_counter.new.workers ≡ length c.reserve_all.new.workers = search rules in
+    let drawn_all : length c.for_each_mut.new.s ≡ length c.seat_at_counter.new.workers = search rules in
+    let after_all : length after ≡ length c.for_each_mut.new.s = search rules in
+    λ k d lt.
+    let there : k < length before = omega arith in
+    drew_free g.F.FontSource.library g.F.FontSource.faults g.F.FontSource.loads c.args.bench.now c.args.index.now c.args.sheet.now (drew.drawn k) (get_or before k d) (get_or after k d)
+    (c.requires.ready k d there).fits (drew.each k d there)

@@ -10,7 +10,7 @@ draw_round-requires-clause-ready g c κs within =
     let long : length ys ≡ length xs = search rules in
     λ k d lt.
     let there : k < length xs = subst (λ (n : ℕ). k < n) long lt in
-    may_draw g.F.FontSource.library g.F.FontSource.faults g.F.FontSource.loads c.args.bench.now c.args.count (get_or xs k d) (get_or ys k d) (c.share_paper.ensures.same k d there) (c.requires.ready k d there)
+    may_draw g.F.FontSource.library g.F.FontSource.faults g.F.FontSource.loads c.args.job.now.bench.now c.args.pages.count (get_or xs k d) (get_or ys k d) (c.share_paper.ensures.same k d there) (c.requires.ready k d there)
 
 pub returns-clause-drawn : goal.returns-clause-drawn
 returns-clause-drawn g c =
@@ -18,7 +18,7 @@ returns-clause-drawn g c =
     let ys = c.share_paper.new.workers in
     let long : length ys ≡ length xs = search rules in
     on_ok_so _ _ c.draw_round.result
-    (drew_round g.F.FontSource.library g.F.FontSource.faults g.F.FontSource.loads c.args.bench.now c.args.index.now c.args.sheet.now c.args.first c.args.count xs ys c.draw_round.new.workers long c.share_paper.ensures.same)
+    (drew_round g.F.FontSource.library g.F.FontSource.faults g.F.FontSource.loads c.args.job.now.bench.now c.args.job.now.index.now c.args.job.now.sheet.now c.args.pages.first c.args.pages.count xs ys c.draw_round.new.workers long c.share_paper.ensures.same)
     c.draw_round.ensures.drawn
 
 pub returns-clause-refused : goal.returns-clause-refused
@@ -37,3 +37,10 @@ returns-clause-no_counter g c =
     let ys = c.share_paper.new.workers in
     let long : length ys ≡ length xs = search rules in
     λ k d lt. c.draw_round.ensures.no_counter k d (subst (λ (n : ℕ). k < n) (sym long) lt)
+
+pub returns-clause-no_claim : goal.returns-clause-no_claim
+returns-clause-no_claim g c =
+    let xs = c.args.workers.now in
+    let ys = c.share_paper.new.workers in
+    let long : length ys ≡ length xs = search rules in
+    λ k d lt. c.draw_round.ensures.no_claim k d (subst (λ (n : ℕ). k < n) (sym long) lt)
