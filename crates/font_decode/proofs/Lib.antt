@@ -1,3 +1,4 @@
+pub mod Loaded
 pub mod Asking
 pub mod KeyTables
 pub mod LocalKeys

@@ -9,3 +9,4 @@ pub mod Desks
 pub mod Rows
 pub mod Laws
 pub mod Asked
+pub mod Stops

@@ -10,8 +10,8 @@ ghost use Rattle.font_decode.specs.Decoding.{IsFontOf};
 ghost use Rattle.font_decode.specs.Desks.{GrewBy, GrewByAtMost, Trail, TrailGrew};
 
 use crate::Decoded;
-use outside::FontKey;
-use std::alloc::Global;
+use outside::{FontKey, LoadStop};
+use std::alloc::{AllocError, AllocFailed, Global};
 use std::sync::{Arc, Wait};
 
 /// Why a desk has no answer.
@@ -21,6 +21,42 @@ pub enum DeskStop {
     SourceFault,
     /// Out of memory.
     NoMemory,
+}
+
+impl From<AllocError> for DeskStop {
+    ghost use Rattle.std.specs.Prelude.{◌≡◌};
+    ghost use Rattle.font_decode.specs.declared.desk.DeskStop.TheVariants.{NoMemory};
+
+    ghost from_gives = { λ _ stop. stop ≡ NoMemory };
+
+    fn from(_: AllocError) -> DeskStop {
+        DeskStop::NoMemory
+    }
+}
+
+impl<T: Drop> From<AllocFailed<T>> for DeskStop {
+    ghost use Rattle.std.specs.Prelude.{◌≡◌};
+    ghost use Rattle.font_decode.specs.declared.desk.DeskStop.TheVariants.{NoMemory};
+
+    ghost from_gives = { λ _ stop. stop ≡ NoMemory };
+
+    fn from(_: AllocFailed<T>) -> DeskStop {
+        DeskStop::NoMemory
+    }
+}
+
+impl From<LoadStop> for DeskStop {
+    ghost use Rattle.std.specs.Prelude.{◌≡◌};
+    ghost use Rattle.font_decode.specs.Stops.{stop_of_load};
+
+    ghost from_gives = { λ load stop. stop ≡ stop_of_load load };
+
+    fn from(load: LoadStop) -> DeskStop {
+        match load {
+            LoadStop::Failed => DeskStop::SourceFault,
+            LoadStop::NoMemory => DeskStop::NoMemory,
+        }
+    }
 }
 
 /// Where a page asks for its fonts.

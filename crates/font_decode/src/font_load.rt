@@ -1,0 +1,38 @@
+//! The font of a key, from its files.
+ghost use Rattle.std.specs.Prelude.{◌≡◌, Some, IfOk, IsErrOf};
+ghost use Rattle.std.specs.Arc.{arc_value};
+ghost use Rattle.outside.specs.Counts.{HasCause};
+ghost use Rattle.outside.specs.FontKeys.{IsFontKey};
+ghost use Rattle.pixel_round.specs.Preamble.{AreUnits};
+ghost use Rattle.font_decode.specs.Decoding.{IsFontOf};
+ghost use Rattle.font_decode.specs.Loads.{RoseUpTo};
+
+use crate::loading::fetch;
+use crate::{Decoded, DeskStop, decode};
+use outside::{FontKey, FontSource};
+use pixel_round::Units;
+use std::alloc::Global;
+use std::sync::Arc;
+
+/// Fetches and decodes the font of a key, by five loads at most. A fault of the font is an answer.
+/// `SourceFault` comes only where the source failed in this call, and `NoMemory` where memory ran
+/// out.
+pub fn load<F: FontSource>(
+    alloc: Global,
+    source: &mut F,
+    key: &Arc<FontKey>,
+    units: &Units,
+) -> Result<Arc<Decoded>, DeskStop>
+    requires units { AreUnits units.now }
+    requires key { IsFontKey (arc_value key.now) }
+    ensures found { IfOk result (λ font.
+        IsFontOf (F.library source.old) (Some units.now) (arc_value key.now) (arc_value font)) }
+    ensures library { F.library source.new ≡ F.library source.old }
+    ensures cause { HasCause (F.faults source.old) (F.faults source.new)
+        (IsErrOf result DeskStop.SourceFault) }
+    ensures loads { RoseUpTo 5 (F.loads source.old) (F.loads source.new) }
+{
+    let files = fetch(alloc, source, key, units)?;
+    let decoded = decode(alloc, key, &files, units)?;
+    Ok(Arc::new(alloc, decoded)?)
+}
