@@ -76,6 +76,9 @@ invariant_of-self-2 c =
       marked = λ h. subst (λ (x : Current). IsSome (font_of x)) (sym has_effect.known) refl;
     }
 
+never : {A : Type 0} → true ≡ false → A
+never is = absurd cc
+
 pub returns : goal.returns
 returns c =
     let x = c.self.inside in
@@ -116,5 +119,5 @@ returns c =
           place = refl;
         }),
       ),
-      record { passes = tt; fits = subst IsNumber same_width c.in-Some-plain_character.ensures.number; none = λ h. absurd cc },
+      record { passes = tt; fits = subst IsNumber same_width c.in-Some-plain_character.ensures.number; none = never },
     )
