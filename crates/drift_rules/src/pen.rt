@@ -99,25 +99,28 @@ impl Pen {
         Ok(mark)
     }
 
-    /// Sets a character of a width, and answers with its mark: what `step` does at a character that
-    /// is set, whatever its font and its code are.
+    /// Sets or puts a character of a width, and answers with its mark: what `step` does at a
+    /// character, whatever its font and its code are.
     #[inline(always)]
-    pub fn set(&mut self, width: i64) -> Result<Mark, PenFault>
+    pub fn character(&mut self, width: i64, put: bool) -> Result<Mark, PenFault>
         requires { IsNumber width }
         ensures moved { IfOk result (λ _. (key : FontKey) (code : ℕ)
-            → after self.old.conv self.old.state (Char key code width false) ≡ Ok self.new.state) }
+            → after self.old.conv self.old.state (Char key code width put) ≡ Ok self.new.state) }
         ensures marked { IfOk result (λ mark. (key : FontKey) (code : ℕ)
-            → mark_of self.old.conv self.old.state.now (Char key code width false) ≡ Some mark) }
+            → mark_of self.old.conv self.old.state.now (Char key code width put) ≡ Some mark) }
         ensures paintable { IfOk result IsPaintable }
         ensures same_conversion { self.new.conv ≡ self.old.conv }
         ensures fault { IfErr result (λ fault. (key : FontKey) (code : ℕ)
-            → after self.old.conv self.old.state (Char key code width false) ≡ Err fault) }
+            → after self.old.conv self.old.state (Char key code width put) ≡ Err fault) }
         ensures unchanged { OnErr result (self.new ≡ self.old) }
     {
         let mark = Mark::Char {
             hh: self.registers.hh,
             vv: self.registers.vv,
         };
+        if put {
+            return Ok(mark);
+        }
         let dots = self.conv.round(width);
         let moved = over(&self.conv, self.registers, width, dots)?;
         self.registers.h = moved.h;

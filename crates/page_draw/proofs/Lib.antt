@@ -1,6 +1,5 @@
 pub mod EqualFractions
 pub mod Lists
-pub mod Found
 pub mod Inks
 pub mod Ends
 pub mod Other

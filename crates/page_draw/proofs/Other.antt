@@ -1,16 +1,22 @@
 -- A step that is no flat command leaves the same to do.
-use Rattle.std.proofs.Common.{◌≡◌, ◌≤◌, ◌<◌, ◌∙◌, ℕ, refl, sym, ap, subst, arith, Result, Err}
+use Rattle.std.proofs.Common.{◌≡◌, ◌≤◌, ◌<◌, ◌∙◌, ℕ, refl, sym, ap, subst, arith, Option, None, Result, Err}
 use Rattle.std.specs.Prelude.{IsErrOf}
-use Rattle.drift_rules.specs.Position.{State}
+use Rattle.drift_rules.specs.Position.{Char, FlatCommand, State}
 use Rattle.drift_rules.specs.declared.faults.PenFault.{PenFault}
 use Rattle.drift_rules.specs.declared.flat.Flat.{Flat}
-use Rattle.vf_expand.specs.Course.{Course, Asks}
-use Rattle.vf_expand.specs.Expansion.{Expansion, answered, asks_left, left, steps_left}
-use Rattle.vf_expand.specs.Steps.{Steps}
+use Rattle.pk_runs.specs.declared.glyph.Glyph.{Glyph}
+use Rattle.font_decode.specs.declared.decoded.Decoded.{Decoded}
+use Rattle.vf_expand.specs.Course.{Course, Asks, Gives}
+use Rattle.vf_expand.specs.Expansion.{Expansion, GivesNoPlain, answered, asks_left, left, marked_font, steps_left}
+use Rattle.vf_expand.specs.Steps.{GivesOne, HasItsGlyph, Steps}
 use Rattle.vf_expand.specs.declared.step.Step.{Step}
 use Rattle.vf_expand.specs.declared.step.Step.TheVariants as step
 use Rattle.std.specs.Arc.{arc_value}
-use Rattle.page_draw.specs.Drawn.{IsPenStop}
+use Rattle.outside.specs.Counts.{HasCause}
+use Rattle.font_decode.specs.declared.desk.DeskStop.{DeskStop}
+use Rattle.font_decode.specs.declared.desk.DeskStop.TheVariants as desk
+use Rattle.page_draw.specs.Drawn.{IsOwnStop, IsPenStop}
+use Rattle.page_draw.specs.Stops.{stop_of_desk}
 use Rattle.page_draw.specs.SoFar.{HasFewerAtLook}
 use Rattle.page_draw.specs.declared.stop.PageStop.{PageStop}
 use Rattle.page_draw.specs.declared.stop.PageStop.TheVariants as stop
@@ -61,3 +67,25 @@ pub handed_on : {T U : Type 0} (e x : PageStop) → IsErrOf {T = T} (Err e) x �
 handed_on e x h =
     let same : e ≡ x = cc in
     ap Err same
+
+-- ---- a flat command that is no character has no glyph
+
+no_glyph : (font : Option Decoded) (f : FlatCommand) (glyph : Option Glyph) (at : ℕ) (rest : Course) → GivesNoPlain (Gives f glyph at rest) → HasItsGlyph font f glyph → glyph ≡ None
+no_glyph font (Char k c width put) glyph at rest none has = absurd none
+no_glyph font _ glyph at rest none has = has.1
+
+pub comes_alone : (old new : Expansion) (f : FlatCommand) (glyph : Option Glyph) → GivesNoPlain (left old) → GivesOne old new f glyph → GivesOne old new f None
+comes_alone old new f glyph none one =
+    let is = no_glyph (marked_font new) f glyph new.at (left new) (subst GivesNoPlain one.given none) one.has in
+    subst (GivesOne old new f) is one
+
+-- ---- a page that its desk broke off
+
+pub broken_off : (why : DeskStop) → IsOwnStop (stop_of_desk why) → ⊥
+broken_off desk.SourceFault own = own
+broken_off desk.NoMemory own = own
+
+pub desk_failed : {T U : Type 0} (why : DeskStop) (before now : ℕ) → HasCause before now (IsErrOf {T = T} (Err why) desk.SourceFault)
+    → HasCause before now (IsErrOf {T = U} (Err (stop_of_desk why)) stop.SourceFault)
+desk_failed desk.SourceFault before now h = record { never_falls = h.never_falls; rose = λ e. h.rose refl }
+desk_failed desk.NoMemory before now h = record { never_falls = h.never_falls; rose = λ e. absurd cc }

@@ -1,5 +1,5 @@
 -- One flat command on a page: the pen's next state, and the mark that it sets.
-use Rattle.std.specs.Prelude.{◌≡◌, false, List, ◌++◌, Option, Result, Ok}
+use Rattle.std.specs.Prelude.{◌≡◌, List, ◌++◌, Option, Result, Ok}
 use Rattle.outside.specs.declared.keys.FontKey.{FontKey}
 use Rattle.drift_rules.specs.Position.{Char, FlatCommand, PenView, State, after}
 use Rattle.drift_rules.specs.Marks.{mark_of}
@@ -25,6 +25,6 @@ Inks sheet pen f glyph old new = (done : List Inked) → old ≡ page_of sheet.w
     → new ≡ page_of sheet.width sheet.height (done ++ inks_of sheet
     (mark_of pen.conv pen.state.now f) glyph)
 
--- the flat command of a character that is set, of some font
+-- the flat command of a character, of some font
 abbrev pub set_in : FontKey → PlainStep → FlatCommand
-set_in key plain = Char key plain.code plain.width false
+set_in key plain = Char key plain.code plain.width plain.put

@@ -2,6 +2,7 @@ pub mod Sheets
 pub mod Members
 pub mod Values
 pub mod Drawn
+pub mod Stops
 pub mod PlainDesks
 pub mod Laws
 pub mod SoloDesks

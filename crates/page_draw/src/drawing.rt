@@ -18,10 +18,11 @@ ghost use Rattle.page_draw.specs.Drawn.{IsDrawn, IsFaultOf, IsLeft, IsOwnStop, I
 ghost use Rattle.vf_expand.specs.Course.{MOST_FLAT};
 
 use crate::flats::draw_flats;
+use crate::indexed_page::IndexedPage;
 use crate::sheet::Sheet;
 use crate::stop::PageStop;
 use drift_rules::Pen;
-use font_decode::{Desk, DeskStop};
+use font_decode::Desk;
 use outside::FontKey;
 use page_index::Index;
 use raster_page::Page;
@@ -97,18 +98,13 @@ fn look_up<R: Wait, D: Desk>(
     ensures trail { TrailGrew (IsOk result) (D.asked desk.old) (D.asked desk.new)
         (D.trail desk.old) (D.trail desk.new) }
 {
-    match desk.font(rt, alloc, shared, key) {
-        Ok(font) => {
-            expander.answer(font);
-            Ok(())
-        }
-        Err(DeskStop::SourceFault) => Err(PageStop::SourceFault),
-        Err(DeskStop::NoMemory) => Err(PageStop::NoMemory),
-    }
+    let font = desk.font(rt, alloc, shared, key)?;
+    expander.answer(font);
+    Ok(())
 }
 
-/// Draws the page of a document with a number, from 0, on a blank page that has the sheet's sides,
-/// with the fonts of a desk. It is that page, or its fault, that `draw` answers.
+/// Draws a page of a document on a blank page that has the sheet's sides, with the fonts of a desk.
+/// It is that page, or its fault, that `draw` answers.
 ///
 /// A page's fault is the first of its list: a fault of the page's commands or fonts where it
 /// stands, or a command that the pen can't take, or registers that are still saved at the page's
@@ -121,16 +117,15 @@ pub fn draw_on<R: Wait, D: Desk>(
     alloc: Global,
     desk: &mut D,
     shared: &D::Shared,
-    index: &Index,
-    i: usize,
+    wanted: IndexedPage,
     sheet: &Sheet,
     mut page: Page,
 ) -> Result<Page, PageStop>
-    requires page { i < pages_begun index.now.reading }
+    requires page { wanted.number < pages_begun wanted.index.now.reading }
     requires sheet { IsDrawable sheet.now }
     requires fits { D.fits desk.old shared.now }
-    requires units { IfSome (D.units desk.old) (λ u. document_units index.now.res index.now.reading
-        ≡ Some u) }
+    requires units { IfSome (D.units desk.old) (λ u.
+        document_units wanted.index.now.res wanted.index.now.reading ≡ Some u) }
     requires room { MOST_FLAT ≤ D.room desk.old }
     requires blank { page ≡ page_of sheet.now.width sheet.now.height [] }
 
@@ -144,20 +139,18 @@ pub fn draw_on<R: Wait, D: Desk>(
 
     // The bitmap or the first fault is the page's, and the keys asked for are its look-ups.
     ensures drawn { IfOk result (λ page. IsDrawn (IsFontOf (D.library desk.old) (D.units desk.old))
-        index.now sheet.now i
+        wanted.entry.index.now sheet.now wanted.entry.number
         (Ok page) (D.asked desk.old) (D.asked desk.new)) }
     ensures stop { IfErr result (λ stop. IsStop (IsFontOf (D.library desk.old) (D.units desk.old))
-        index.now sheet.now i
+        wanted.entry.index.now sheet.now wanted.entry.number
         stop (D.asked desk.old) (D.asked desk.new)) }
 
     // What the desk's seat did for these keys.
     ensures trail { TrailGrew (IsWhole result) (D.asked desk.old) (D.asked desk.new)
         (D.trail desk.old) (D.trail desk.new) }
 {
-    let mut pen = Pen::new(alloc, index.conv());
-    let Ok(mut expander) = Expander::new(alloc, index, i) else {
-        return Err(PageStop::NoMemory);
-    };
+    let mut pen = Pen::new(alloc, wanted.index.conv());
+    let mut expander = Expander::new(alloc, wanted.index, wanted.number)?;
     'steps: loop {
         match draw_flats(&mut page, &mut pen, sheet, &mut expander)? {
             Step::Ask(key) => look_up(rt, alloc, desk, shared, &mut expander, &key)?,
@@ -213,8 +206,7 @@ pub fn draw<R: Wait, D: Desk>(
     // A document has units, so where memory runs out its page was broken off before its first
     // command.
     let _conv = index.conv();
-    let Ok(page) = Page::blank(alloc, sheet.width, sheet.height) else {
-        return Err(PageStop::NoMemory);
-    };
-    draw_on(rt, alloc, desk, shared, index, i, sheet, page)
+    let page = Page::blank(alloc, sheet.width, sheet.height)?;
+    let wanted = IndexedPage { index, number: i };
+    draw_on(rt, alloc, desk, shared, wanted, sheet, page)
 }

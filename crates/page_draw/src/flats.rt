@@ -1,12 +1,12 @@
 //! Draws the flat commands of a page.
 ghost use Rattle.std.specs.Prelude.{◌≡◌, ◌≤◌, ◌<ℤ◌, ◌≤ℤ◌, ◌+ℤ◌, ◌-ℤ◌, ◌++◌, neg_ℤ, pos};
-ghost use Rattle.std.specs.Prelude.{List, Some, IfOk, IfErr, IfSome, IsErrOf, OnOk};
+ghost use Rattle.std.specs.Prelude.{List, None, Some, IfOk, IfErr, IfSome, IsErrOf, OnOk};
 ghost use Rattle.std.specs.Option.{option_map};
 ghost use Rattle.outside.specs.declared.keys.FontKey.{FontKey};
 ghost use Rattle.drift_rules.specs.Position.{seen_flat};
 ghost use Rattle.drift_rules.specs.Bounds.{IsInReach, IsNumber, IsPaintable, IsPlaceable};
 ghost use Rattle.raster_page.specs.Ink.{Inked, page_of};
-ghost use Rattle.vf_expand.specs.Expansion.{asks_left, glyph_for, left};
+ghost use Rattle.vf_expand.specs.Expansion.{asks_left, left};
 ghost use Rattle.vf_expand.specs.Steps.{Fits, Steps};
 ghost use Rattle.packed_rows.specs.declared.offset.TheConstants.{MAX_COORDINATE};
 ghost use Rattle.page_draw.specs.Inking.{Inks, Moves, step_of, set_in};
@@ -18,25 +18,10 @@ ghost use Rattle.raster_page.specs.Limits.{LONGEST_PAGE_SIDE};
 use crate::sheet::Sheet;
 use crate::stop::PageStop;
 use drift_rules::{Flat, Mark, Pen, PenStop};
-use font_decode::Decoded;
 use glyph_paint::paint;
 use pk_runs::Glyph;
 use raster_page::Page;
 use vf_expand::{Expander, PageFault, PlainStep, Step};
-
-// The glyph of a character that the expander gave.
-#[inline(always)]
-fn glyph_of<'e>(expander: &'e Expander, flat: &Flat) -> Option<&'e Glyph>
-    ensures { option_map (λ glyph. glyph.now) result ≡ glyph_for expander.now (seen_flat flat.now) }
-{
-    let Flat::Char { code, .. } = flat else {
-        return None;
-    };
-    match &**expander.font()? {
-        Decoded::Font(font) => font.glyph(u32::from(*code)),
-        Decoded::Fault(_) => None,
-    }
-}
 
 // Where a glyph's upper left pixel stands on the sheet, across or down, whose reference pixel
 // stands at this place.
@@ -75,7 +60,7 @@ fn ink(page: &mut Page, sheet: &Sheet, mark: Option<Mark>, glyph: Option<&Glyph>
     }
 }
 
-// Draws the flat command that the expander gave.
+// Draws a flat command that is no character; a character has its glyph with it.
 #[inline(always)]
 fn draw_one(
     page: &mut Page,
@@ -88,13 +73,13 @@ fn draw_one(
     requires reach { IsInReach (seen_flat flat.now) }
     ensures moved { IfOk result (λ _. Moves pen.old (seen_flat flat.now) pen.new) }
     ensures inked { IfOk result (λ _. Inks sheet.now pen.old (seen_flat flat.now)
-        (glyph_for expander.now (seen_flat flat.now)) page.old page.new) }
+        None page.old page.new) }
     ensures conv { pen.new.conv ≡ pen.old.conv }
     ensures stop { IfErr result (IsPenStop (step_of pen.old (seen_flat flat.now)) expander.now.at) }
 {
     match pen.step(flat) {
         Ok(mark) => {
-            ink(page, sheet, mark, glyph_of(expander, flat));
+            ink(page, sheet, mark, None);
             Ok(())
         }
         Err(PenStop::Fault(fault)) => Err(PageStop::Fault {
@@ -105,7 +90,7 @@ fn draw_one(
     }
 }
 
-// Sets a character that the expander gave with its glyph.
+// Draws a character that the expander gave with its glyph.
 #[inline(always)]
 fn draw_plain(
     page: &mut Page,
@@ -124,7 +109,7 @@ fn draw_plain(
     ensures stop { IfErr result (λ stop. (key : FontKey)
         → IsPenStop (step_of pen.old (set_in key plain.entry)) plain.entry.at stop) }
 {
-    match pen.set(plain.width) {
+    match pen.character(plain.width, plain.put) {
         Ok(mark) => {
             ink(page, sheet, Some(mark), Some(plain.glyph));
             Ok(())
@@ -155,7 +140,7 @@ pub fn draw_flats(
 
     // The step that stands next is no flat command: it leaves the same to do.
     ensures next { IfOk result (λ step. Steps expander.new step expander.new) }
-    ensures fits { IfOk result (λ step. Fits step expander.new) }
+    ensures fits { IfOk result Fits }
     ensures source { IsErrOf result PageStop.SourceFault → ⊥ }
     ensures stop { IfErr result (StopsSo pen.old.conv sheet.now
         (left expander.old) pen.old.state page.old) }
@@ -165,10 +150,7 @@ pub fn draw_flats(
             draw_plain(page, pen, sheet, plain)?;
             continue;
         }
-        let Ok(step) = expander.next() else {
-            return Err(PageStop::NoMemory);
-        };
-        match step {
+        match expander.next()? {
             Step::Flat(flat) => draw_one(page, pen, sheet, expander, &flat)?,
             other => return Ok(other),
         }

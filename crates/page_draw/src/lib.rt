@@ -5,15 +5,16 @@
 
 mod drawing;
 mod flats;
+mod indexed_page;
 mod keeping;
 pub mod laws;
-mod loading;
 mod plain_desk;
 mod sheet;
 mod solo_desk;
 mod stop;
 
 pub use drawing::{draw, draw_on};
+pub use indexed_page::IndexedPage;
 pub use plain_desk::PlainDesk;
 pub use sheet::Sheet;
 pub use solo_desk::SoloDesk;

@@ -2,8 +2,7 @@
 ghost use Rattle.std.specs.Prelude.{◌≡◌, ◌^◌, Some, refl};
 ghost use Rattle.pixel_round.specs.Preamble.{AreUnits};
 
-use crate::loading::load;
-use font_decode::{Decoded, Desk, DeskStop};
+use font_decode::{Decoded, Desk, DeskStop, load};
 use outside::{FontKey, FontSource};
 use pixel_round::Units;
 use std::alloc::Global;

@@ -12,9 +12,8 @@ ghost use Rattle.font_decode.specs.Desks.{GrewBy, GrewByAtMost, TrailGrew};
 ghost use Rattle.page_draw.specs.SoloDesks.{IsAlone, asked_by, room_by, trail_by};
 
 use crate::keeping::keep;
-use crate::loading::load;
 use cache_core::{CacheState, Entry, Look, laws};
-use font_decode::{Decoded, Desk, DeskStop};
+use font_decode::{Decoded, Desk, DeskStop, load};
 use outside::{FontKey, FontSource};
 use pixel_round::Units;
 use std::alloc::{AllocError as NoMemory, Global};
@@ -143,10 +142,7 @@ fn ask<F: FontSource>(
 {
     // No look of the only seat is busy.
     laws::solo();
-    let Ok(look) = cache.look(1, key) else {
-        return Err(DeskStop::NoMemory);
-    };
-    match look {
+    match cache.look(1, key)? {
         Look::Hit(font) => Ok(font),
         Look::Busy => unreachable!(),
         Look::Claimed => match load(alloc, source, key, units) {

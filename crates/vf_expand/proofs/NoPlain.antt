@@ -1,4 +1,4 @@
--- Where no character that is set stands next.
+-- Where no character stands next.
 use Rattle.std.proofs.Common.{◌≡◌, ◌∙◌, ℕ, zero, suc, ◌+◌, ◌-◌, ℤ, Bool, true, false, List, [], ◌∷◌, length, drop, refl, sym, ap, subst, Option, Some, None}
 use Rattle.std.specs.Prelude.{is_some}
 use Rattle.outside.specs.declared.keys.FontKey.{FontKey}
@@ -19,6 +19,7 @@ use Rattle.vf_expand.specs.Course.{Asks, Course, Current, Deeper, Ends, Gives, M
 use Rattle.vf_expand.specs.Course as course
 use Rattle.vf_expand.specs.Expansion.{Expansion, GivesNoPlain, course_left, depth, due_left, left, place_in, stack_left}
 use Rattle.vf_expand.specs.Effects.{SetsNoPlain, seen_current}
+use Rattle.vf_expand.specs.Sets.{character_command}
 use Rattle.vf_expand.specs.Levels.{AreLevels, context_of, stack_of, text_in, text_of}
 use Rattle.vf_expand.specs.declared.current.Current as code
 use Rattle.vf_expand.specs.declared.current.Current.TheVariants as variant
@@ -86,32 +87,11 @@ none_packet : (inner : FontKey → FontSeen → List DviCommand → Course → C
 none_packet inner at k f c gap None rest = tt
 none_packet inner at k f c gap (Some text) rest = tt
 
-none_virtual : (deep : Deeper) (at : ℕ) (k : FontKey) (f : FontSeen) (c : ℤ) (gap : Option ℤ) (rest : Course) → GivesNoPlain (virtual deep at k f c gap rest)
+pub none_virtual : (deep : Deeper) (at : ℕ) (k : FontKey) (f : FontSeen) (c : ℤ) (gap : Option ℤ) (rest : Course) → GivesNoPlain (virtual deep at k f c gap rest)
 none_virtual None at k f c gap rest = tt
 none_virtual (Some inner) at k f c gap rest = none_packet inner at k f c gap (packet_of f (number_of c)) rest
 
 -- ---- any other command
-
-put_glyph : (at : ℕ) (k : FontKey) (c width : ℤ) (glyph : Option Glyph) (rest : Course) → GivesNoPlain (with_glyph at k c width true glyph rest)
-put_glyph at k c width None rest = tt
-put_glyph at k c width (Some g) rest = tt
-
-put_kind : (deep : Deeper) (at : ℕ) (k : FontKey) (f : FontSeen) (c width : ℤ) (is : Bool) (rest : Course) → GivesNoPlain (by_kind deep at k f c width true is rest)
-put_kind deep at k f c width false rest = put_glyph at k c width (glyph_at f (number_of c)) rest
-put_kind deep at k f c width true rest = none_virtual deep at k f c None rest
-
-put_width : (deep : Deeper) (at : ℕ) (k : FontKey) (f : FontSeen) (c : ℤ) (width : Option ℤ) (rest : Course) → GivesNoPlain (with_width deep at k f c true width rest)
-put_width deep at k f c None rest = tt
-put_width deep at k f c (Some width) rest = put_kind deep at k f c width (is_virtual_of f) rest
-
-put_found : (deep : Deeper) (at : ℕ) (k : FontKey) (d : Decoded) (c : ℤ) (rest : Course) → GivesNoPlain (found deep at k d c true rest)
-put_found deep at k (decoded.Fault f) c rest = tt
-put_found deep at k (decoded.Font f) c rest = put_width deep at k f c (scaled_width_of f c) rest
-
-none_put : (deep : Deeper) (place : Place) (at : ℕ) (current : Current) (c : ℤ) (others : Current → Course) → GivesNoPlain (character deep place at current c true others)
-none_put deep place at course.NoFont c others = tt
-none_put deep place at (course.Chosen k) c others = tt
-none_put deep place at (course.Known k d) c others = put_found deep at k d c (others (course.Known k d))
 
 none_changed : (k : Option FontKey) (f : PageFaultSeen) (at : ℕ) (others : Current → Course) → GivesNoPlain (changed_to k f at others)
 none_changed None f at others = tt
@@ -122,10 +102,10 @@ none_font (OnPage reading) at n others = none_changed (font_table reading n) (fa
 none_font (InPacket k f) at n others = none_changed (local_of f n) (no_local k (first_local_of f) n) at others
 
 module _ (n at : ℕ) (place : Place) (current : Current) where
-  none_one : (c : DviCommand) (others : Current → Course) → ((code : ℤ) → c ≡ Set code → SetsNoPlain current code)
+  none_one : (c : DviCommand) (others : Current → Course) → ((code : ℤ) (put : Bool) → c ≡ character_command code put → SetsNoPlain current code)
       → GivesNoPlain (expand_one (deeper n at) place at current c others)
-  none_one (Set c) others h = h c refl place n at others
-  none_one (Put c) others h = none_put (deeper n at) place at current c others
+  none_one (Set c) others h = h c false refl false place n at others
+  none_one (Put c) others h = h c true refl true place n at others
   none_one (Font k) others h = none_font place at k others
   none_one (SetRule a b) others h = tt
   none_one (PutRule a b) others h = tt
@@ -145,10 +125,9 @@ module _ (n at : ℕ) (place : Place) (current : Current) where
 
 -- ---- what is read of a level
 
--- a character that is set at the head of the bytes is none of a packed font that was found and has
--- its glyph
+-- a character at the head of the bytes is none of a packed font that was found and has its glyph
 abbrev pub AtHead : Context → Current → List ℕ → Type 0
-AtHead place current bytes = (code : ℤ) (first rest : List ℕ) → Begins place (Set code) first rest bytes → SetsNoPlain current code
+AtHead place current bytes = (code : ℤ) (put : Bool) (first rest : List ℕ) → Begins place (character_command code put) first rest bytes → SetsNoPlain current code
 
 on_page : (reading : Reading) (eop start : ℕ) (current : Current) (commands : List DviCommand) (bytes : List ℕ) → AreCommands context.Page commands bytes → AtHead context.Page current bytes
     → GivesNoPlain (page_from reading eop current (placed_from start bytes))
@@ -160,7 +139,7 @@ on_page reading eop start current (c ∷ commands) bytes are none =
     let is : placed_from start bytes ≡ placed start c are.0 ∷ after = ap (placed_from start) are.2.whole ∙ placed_first start c are.0 are.1 are.2.spelled in
     subst (λ (p : List Placed). GivesNoPlain (page_from reading eop current p)) (sym is)
     (none_one MOST_DEEP start (OnPage reading) current c (λ next. page_from reading eop next after)
-    (λ code same. none code are.0 are.1 (subst (λ (d : DviCommand). Begins context.Page d are.0 are.1 bytes) same are.2)))
+    (λ code put same. none code put are.0 are.1 (subst (λ (d : DviCommand). Begins context.Page d are.0 are.1 bytes) same are.2)))
 
 in_packet : (n at : ℕ) (place : Place) (current : Current) (gap : Option ℤ) (rest : Course) (commands : List DviCommand) (bytes : List ℕ) → AreCommands context.Packet commands bytes
     → AtHead context.Packet current bytes → GivesNoPlain (expand_list (expand_one (deeper n at) place at) current (commands_of bytes) (leave gap at rest))
@@ -173,7 +152,7 @@ in_packet n at place current gap rest (c ∷ commands) bytes are none =
     let is : commands_of bytes ≡ c ∷ commands_of are.1 = ap commands_of are.2.whole ∙ commands_first c are.0 are.1 are.2.spelled in
     subst (λ (l : List DviCommand). GivesNoPlain (expand_list one current l (leave gap at rest))) (sym is)
     (none_one n at place current c (λ next. expand_list one next (commands_of are.1) (leave gap at rest))
-    (λ code same. none code are.0 are.1 (subst (λ (d : DviCommand). Begins context.Packet d are.0 are.1 bytes) same are.2)))
+    (λ code put same. none code put are.0 are.1 (subst (λ (d : DviCommand). Begins context.Packet d are.0 are.1 bytes) same are.2)))
 
 pub none_stack : (reading : Reading) (eop start at : ℕ) (bytes : List ℕ) (level : Frame) (outer : List Frame) → AreLevels bytes level outer
     → AtHead (context_of outer) (seen_current level.current) (drop level.pos (text_of bytes level outer))

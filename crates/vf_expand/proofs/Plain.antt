@@ -1,4 +1,4 @@
--- A character that is set in a packed font that was found.
+-- A character in a packed font that was found.
 use Rattle.std.proofs.Common.{◌≡◌, ◌∙◌, ℕ, ℤ, pos, Bool, false, refl, sym, ap, Option, Some}
 use Rattle.outside.specs.declared.keys.FontKey.{FontKey}
 use Rattle.drift_rules.specs.Position.{Char}
@@ -10,23 +10,23 @@ use Rattle.vf_expand.specs.Effects.{SetsPlain}
 
 module _ (current : Current) (k : FontKey) (f : FontSeen) (n : ℕ) (c w : ℤ) (g : Glyph) (known : current ≡ Known k (decoded.Font f)) (is : c ≡ pos n)
     (width : scaled_width_of f c ≡ Some w) (packed : is_virtual_of f ≡ false) (glyph : glyph_at f n ≡ Some g) where
-  sets_at : (place : Place) (m at : ℕ) (after : Course) → with_width (deeper m at) at k f (pos n) false (scaled_width_of f (pos n)) after ≡ Gives (Char k n w false) (Some g) at after
-  sets_at place m at after =
-      ap (λ (o : Option ℤ). with_width (deeper m at) at k f (pos n) false o after) (sym (ap (scaled_width_of f) is) ∙ width)
-      ∙ ap (λ (b : Bool). by_kind (deeper m at) at k f (pos n) w false b after) packed
-      ∙ ap (λ (o : Option Glyph). with_glyph at k (pos n) w false o after) glyph
+  sets_at : (put : Bool) (place : Place) (m at : ℕ) (after : Course) → with_width (deeper m at) at k f (pos n) put (scaled_width_of f (pos n)) after ≡ Gives (Char k n w put) (Some g) at after
+  sets_at put place m at after =
+      ap (λ (o : Option ℤ). with_width (deeper m at) at k f (pos n) put o after) (sym (ap (scaled_width_of f) is) ∙ width)
+      ∙ ap (λ (b : Bool). by_kind (deeper m at) at k f (pos n) w put b after) packed
+      ∙ ap (λ (o : Option Glyph). with_glyph at k (pos n) w put o after) glyph
 
   pub sets_plain : SetsPlain current (pos n) k w
-  sets_plain = λ place m. record {
+  sets_plain = λ put place m. record {
     key = k;
     font = decoded.Font f;
     code = n;
     width = w;
-    put = false;
+    put = put;
     glyph = g;
     known = known;
     char = refl;
     has = glyph;
-    gives = λ at others. ap (λ (x : Current). character (deeper m at) place at x (pos n) false others) known ∙ sets_at place m at (others (Known k (decoded.Font f)))
-        ∙ ap (λ (x : Current). Gives (Char k n w false) (Some g) at (others x)) (sym known);
+    gives = λ at others. ap (λ (x : Current). character (deeper m at) place at x (pos n) put others) known ∙ sets_at put place m at (others (Known k (decoded.Font f)))
+        ∙ ap (λ (x : Current). Gives (Char k n w put) (Some g) at (others x)) (sym known);
   }

@@ -1,6 +1,6 @@
 -- The steps of a page that is being expanded.
 use Rattle.std.proofs.Common.{◌≡◌, ℕ, suc, ◌+◌, ◌-◌, ◌<◌, ◌≤◌, ℤ, Bool, true, false, List, [], drop, refl, sym, ap, subst, ◌∙◌, arith, Some, None, Option}
-use Rattle.std.specs.Prelude.{IsSome, unwrap_or}
+use Rattle.std.specs.Prelude.{unwrap_or}
 use Rattle.std.specs.Arc.{arc_value}
 use Rattle.dvi_commands.specs.Spelling.{DviCommand}
 use Rattle.dvi_commands.specs.Reading.{Placed, commands_of}
@@ -11,11 +11,12 @@ use Rattle.drift_rules.specs.declared.flat.Flat.{Flat}
 use Rattle.pk_runs.specs.declared.glyph.Glyph.{Glyph}
 use Rattle.font_decode.specs.declared.decoded.Decoded.{Decoded}
 use Rattle.vf_expand.specs.Faults.{seen_fault, TooLong}
-use Rattle.vf_expand.specs.Course.{Course, Gives, Asks, Ends, Stops, plain, Place, InPacket, Current, NoFont, Chosen, Known, MOST_DEEP, deeper, expand_one, expand_list, first_font, leave, page_from, cut}
-use Rattle.vf_expand.specs.Effects.{HasEffect, IsEntry, IsMark, Meaning, seen_current}
-use Rattle.vf_expand.specs.Expansion.{Expansion, IsAtLook, Packet, Stack, Page, Within, answered, asks_from, course_left, depth, due_left, font_of, glyph_for, glyph_in, left, marked_font, place_in, stack_left}
+use Rattle.vf_expand.specs.Course.{Course, Gives, Asks, Ends, Stops, plain, Place, InPacket, Current, NoFont, Chosen, Known, MOST_DEEP, character, deeper, expand_one, expand_list, first_font, leave, page_from, cut}
+use Rattle.vf_expand.specs.Effects.{HasEffect, IsEntry, IsMark, IsPlain, Meaning, seen_current}
+use Rattle.vf_expand.specs.Expansion.{Expansion, IsAtLook, Packet, Stack, Page, Within, answered, asks_from, course_left, depth, due_left, font_of, glyph_in, left, place_in, stack_left}
 use Rattle.vf_expand.specs.Levels.{seen_packet, text_in}
-use Rattle.vf_expand.specs.Steps.{AsksOne, GivesOne, Stays}
+use Rattle.vf_expand.specs.Steps.{AsksOne, GivesOne, HasItsGlyph, Stays}
+use Rattle.vf_expand.specs.Sets.{character_command}
 use Rattle.vf_expand.specs.declared.effect.Effect.TheVariants as effect
 use Rattle.vf_expand.specs.declared.frames.Frame.{Frame}
 use Rattle.vf_expand.proofs.Late.{ask_cut, end_cut, give_cut, late_list, stop_cut}
@@ -41,18 +42,33 @@ fewer b old new h = omega (arith, falls b old new, h)
 asks_again : (x : Course) (k : FontKey) (at : ℕ) (rest : Decoded → Course) → x ≡ Asks k at rest → x ≡ Asks k at (answered x)
 asks_again x k at rest e = e ∙ ap (λ (y : Course). Asks k at (answered y)) (sym e)
 
--- where the last step gave no character no flat command has a glyph
-no_glyph : (v : Expansion) (f : FlatCommand) → v.marked ≡ false → glyph_for v f ≡ None
-no_glyph v (flat.Char k c width put) e = ap (λ (b : Bool). glyph_in (marked_font (record v { marked = b })) c) e
-no_glyph v _ e = refl
+-- a flat command that is no character comes with no font and no glyph
+without : (f : FlatCommand) → IsPlain f → HasItsGlyph None f None
+without (flat.Char k c width put) h = absurd (h k c width put refl)
+without _ h = (refl, refl)
 
--- where it gave one, its font has the glyph
-pub has_glyph : (part : Meaning) (v : Expansion) (k : FontKey) (c : ℕ) (width : ℤ) (put : Bool) → IsMark part v.current (flat.Char k c width put) → v.marked ≡ true
-    → IsSome (glyph_for v (flat.Char k c width put))
-has_glyph part v k c width put has_effect marked = subst IsSome (sym (
-    ap (glyph_for v) has_effect.char ∙ ap (λ (b : Bool). glyph_in (marked_font (record v { marked = b })) has_effect.code) marked
-    ∙ ap (λ (x : Current). glyph_in (font_of x) has_effect.code) has_effect.known ∙ has_effect.has
-    )) refl
+glyph_of_flat : Option Decoded → FlatCommand → Option Glyph
+glyph_of_flat font (flat.Char k c width put) = glyph_in font c
+glyph_of_flat font _ = None
+
+module _ (meaning : Meaning) (current : Current) (f : FlatCommand) (mark : IsMark meaning current f) where
+  here_is : Some mark.glyph ≡ glyph_in (font_of current) mark.code
+  here_is = sym (ap (λ (x : Current). glyph_in (font_of x) mark.code) mark.known ∙ mark.has)
+
+  with_glyph : HasItsGlyph (font_of current) f (Some mark.glyph)
+  with_glyph = subst (λ (g : FlatCommand). HasItsGlyph (font_of current) g (Some mark.glyph)) (sym mark.char) (refl, here_is)
+
+  -- its glyph is the one of its code in the font that is current
+  pub only_glyph : (key : FontKey) (code : ℕ) (width : ℤ) (put : Bool) (glyph : Glyph) → f ≡ flat.Char key code width put → glyph_in (font_of current) code ≡ Some glyph → Some mark.glyph ≡ Some glyph
+  unfolding glyph_of_flat
+  only_glyph key code width put glyph is has =
+      here_is ∙ ap (glyph_of_flat (font_of current)) (sym mark.char ∙ is) ∙ has
+
+-- a character that a command sets or puts
+pub mark_command : (place : Place) (n : ℕ) (current : Current) (f : FlatCommand) (code : ℤ) (put : Bool) → IsMark (λ now at others. character (deeper n at) place at now code put others) current f
+    → IsMark (λ now at others. expand_one (deeper n at) place at now (character_command code put) others) current f
+mark_command place n current f code false h = h
+mark_command place n current f code true h = h
 
 -- ---- after a command of the page or of a packet
 
@@ -83,31 +99,28 @@ module _ (v : Expansion) (undue : v.due ≡ None) (room : 0 < v.budget) (n at : 
       ∙ ap (cut v.budget) same
       ∙ ap (λ (due : Option ℤ). cut v.budget (due_left due v.at (stack_left v.reading v.eop v.at v.current v.stack))) (sym undue)
 
-  pub flat_step : (f : Flat) → HasEffect place n v.current c (effect.Flat f) → GivesOne v (given false) (seen_flat f)
-  flat_step f has_effect = record {
-    given = here ∙ give_cut v.budget _ (others v.current) (seen_flat f) None at room (has_effect at others) ∙ ap (plain (seen_flat f) at) (after v.current rest)
-        ∙ ap (λ (o : Option Glyph). Gives (seen_flat f) o at (left (given false))) (sym (no_glyph (given false) (seen_flat f) refl));
+  pub flat_step : (f : Flat) → HasEffect place n v.current c (effect.Flat f) → IsPlain (seen_flat f) → GivesOne v (given false) (seen_flat f) None
+  flat_step f has_effect no_character = record {
+    given = here ∙ give_cut v.budget _ (others v.current) (seen_flat f) None at room (has_effect at others) ∙ ap (plain (seen_flat f) at) (after v.current rest);
+    has = without (seen_flat f) no_character;
     asks = falls v.budget v.current v.current;
     fewer = fewer v.budget v.current v.current room;
   }
 
-  pub mark_step : (f : FlatCommand) → IsMark (λ now at others. expand_one (deeper n at) place at now c others) v.current f → GivesOne v (given true) f
-  mark_step f has_effect =
-      let glyph : glyph_for (given true) f ≡ Some has_effect.glyph =
-      ap (glyph_for (given true)) has_effect.char ∙ ap (λ (x : Current). glyph_in (font_of x) has_effect.code) has_effect.known ∙ has_effect.has in
-      record {
-        given = here ∙ give_cut v.budget _ (others v.current) f (Some has_effect.glyph) at room (has_effect.gives at others)
-            ∙ ap (Gives f (Some has_effect.glyph) at) (after v.current rest)
-            ∙ ap (λ (o : Option Glyph). Gives f o at (left (given true))) (sym glyph);
-        asks = falls v.budget v.current v.current;
-        fewer = fewer v.budget v.current v.current room;
-      }
+  pub mark_step : (f : FlatCommand) (mark : IsMark (λ now at others. expand_one (deeper n at) place at now c others) v.current f) → GivesOne v (given true) f (Some mark.glyph)
+  mark_step f mark = record {
+    given = here ∙ give_cut v.budget _ (others v.current) f (Some mark.glyph) at room (mark.gives at others) ∙ ap (Gives f (Some mark.glyph) at) (after v.current rest);
+    has = with_glyph _ v.current f mark;
+    asks = falls v.budget v.current v.current;
+    fewer = fewer v.budget v.current v.current room;
+  }
 
-  pub change_step : (key : _) → HasEffect place n v.current c (effect.Change key) → GivesOne v (record (given false) { current = Chosen (arc_value key) }) flat.Skip
+  pub change_step : (key : _) → HasEffect place n v.current c (effect.Change key) → GivesOne v (record (given false) { current = Chosen (arc_value key) }) flat.Skip None
   change_step key has_effect =
       let now = Chosen (arc_value key) in
       record {
         given = here ∙ give_cut v.budget _ (others now) flat.Skip None at room (has_effect at others) ∙ ap (plain flat.Skip at) (after now rest);
+        has = (refl, refl);
         asks = falls v.budget v.current now;
         fewer = fewer v.budget v.current now room;
       }
@@ -152,9 +165,10 @@ module _ (v : Expansion) (undue : v.due ≡ None) (room : 0 < v.budget) (n at : 
         ∙ ap (λ (x : Current). expand_list (expand_one (deeper (MOST_DEEP - suc (depth rest)) at) (place_in v.reading v.current) at) x (commands_of has_effect.text) later) (sym has_effect.first)
         ∙ ap (λ (text : List ℕ). expand_list (expand_one (deeper (MOST_DEEP - suc (depth rest)) at) (place_in v.reading v.current) at) (seen_current level.current) (commands_of text) later) text_is
 
-    pub enter_step : GivesOne v (record v { at = at; budget = v.budget - 1; marked = false; current = seen_current level.current; stack = entered }) flat.Enter
+    pub enter_step : GivesOne v (record v { at = at; budget = v.budget - 1; marked = false; current = seen_current level.current; stack = entered }) flat.Enter None
     enter_step = record {
       given = here ∙ give_cut v.budget _ _ flat.Enter None at room (has_effect.gives at others ∙ ap (plain flat.Enter at) inside) ∙ ap (plain flat.Enter at) (after (seen_current level.current) entered);
+      has = (refl, refl);
       asks = falls v.budget v.current (seen_current level.current);
       fewer = fewer v.budget v.current (seen_current level.current) room;
     }
@@ -179,9 +193,10 @@ module _ (v : Expansion) (undue : v.due ≡ None) (p : Packet) (outer : Stack) (
       give_cut v.budget _ (due_left p.gap v.at later) flat.Leave None v.at room
       (ap (λ (commands : List DviCommand). expand_list one v.current commands (leave p.gap v.at later)) ended ∙ leave_is p.gap v.at later)
 
-  pub leave_step : 0 < v.budget → p.commands ≡ [] → GivesOne v (record v { budget = v.budget - 1; marked = false; due = p.gap; current = p.outside; stack = outer }) flat.Leave
+  pub leave_step : 0 < v.budget → p.commands ≡ [] → GivesOne v (record v { budget = v.budget - 1; marked = false; due = p.gap; current = p.outside; stack = outer }) flat.Leave None
   leave_step room ended = record {
     given = packet_here ∙ leaves room ended;
+    has = (refl, refl);
     asks = falls v.budget v.current p.outside;
     fewer = fewer v.budget v.current p.outside room;
   }
@@ -205,9 +220,10 @@ module _ (v : Expansion) (width : ℤ) (due : v.due ≡ Some width) where
   unfolding course_left
   advances room = give_cut v.budget _ (stack_left v.reading v.eop v.at v.current v.stack) (flat.Advance width) None v.at room refl
 
-  pub advance_step : 0 < v.budget → GivesOne v (record v { budget = v.budget - 1; marked = false; due = None }) (flat.Advance width)
+  pub advance_step : 0 < v.budget → GivesOne v (record v { budget = v.budget - 1; marked = false; due = None }) (flat.Advance width) None
   advance_step room = record {
     given = due_here ∙ advances room;
+    has = (refl, refl);
     asks = falls v.budget v.current v.current;
     fewer = fewer v.budget v.current v.current room;
   }

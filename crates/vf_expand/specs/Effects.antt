@@ -1,5 +1,5 @@
 -- What one command gives, by the definition.
-use Rattle.std.specs.Prelude.{◌≡◌, ◌<◌, ℕ, ◌-◌, ℤ, pos, unsigned_abs, Bool, false, List, Option, Some, IfSome}
+use Rattle.std.specs.Prelude.{◌≡◌, ◌<◌, ℕ, ◌-◌, ℤ, pos, unsigned_abs, Bool, List, Option, Some, IfSome}
 use Rattle.std.specs.Arc.{arc_value}
 use Rattle.outside.specs.declared.keys.FontKey.{FontKey}
 use Rattle.dvi_commands.specs.Spelling.{DviCommand, SetRule, PutRule, Right, W, X, Down, Y, Z}
@@ -133,18 +133,19 @@ abbrev pub FoundHasEffect : ℕ → FontKey → Decoded → ℤ → Bool → Eff
 FoundHasEffect n k d c put effect =
     (place : Place) → CharacterHasEffect place n (course.Known k d) c put effect
 
--- a character that is set, wherever it stands, is one of a packed font with this key and this width
+-- a character that is set or put, wherever it stands, is one of a packed font with this key and
+-- this width
 abbrev pub SetsPlain : course.Current → ℤ → FontKey → ℤ → Type 0
 SetsPlain current c key width =
-    (place : Place) (n : ℕ) → IsMark (λ now at others. character (deeper n at)
-    place at now c false others) current (Char key (unsigned_abs c) width false)
+    (put : Bool) (place : Place) (n : ℕ) → IsMark (λ now at others. character (deeper n at)
+    place at now c put others) current (Char key (unsigned_abs c) width put)
 
--- a character that is set, wherever it stands, is none of a packed font that was found and has its
--- glyph
+-- a character that is set or put, wherever it stands, is none of a packed font that was found and
+-- has its glyph
 abbrev pub SetsNoPlain : course.Current → ℤ → Type 0
 SetsNoPlain current c =
-    (place : Place) (n at : ℕ) (others : course.Current → Course)
-    → GivesNoPlain (character (deeper n at) place at current c false others)
+    (put : Bool) (place : Place) (n at : ℕ) (others : course.Current → Course)
+    → GivesNoPlain (character (deeper n at) place at current c put others)
 
 abbrev pub ChangeHasEffect : Place → ℕ → course.Current → ℤ → Effect → Type 0
 ChangeHasEffect place n current number effect =

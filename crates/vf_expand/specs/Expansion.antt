@@ -94,14 +94,12 @@ IsAtLook (Asks k at rest) = Unit {0}
 IsAtLook (Ends at) = ⊥
 IsAtLook (Stops fault at) = ⊥
 
--- the flat command is no character that is set
+-- the flat command sets and puts no character
 abbrev pub SetsNoCharacter : FlatCommand → Type 0
-SetsNoCharacter (Char k c width false) = ⊥
-SetsNoCharacter (Char k c width true) = Unit {0}
+SetsNoCharacter (Char k c width put) = ⊥
 SetsNoCharacter f = Unit {0}
 
--- no character that is set stands next; the next step gives none, since one of a virtual font is
--- given as its packet
+-- the next step gives no character; one of a virtual font is given as its packet
 abbrev pub GivesNoPlain : Course → Type 0
 GivesNoPlain (Gives f g at rest) = SetsNoCharacter f
 GivesNoPlain (Asks k at rest) = Unit {0}
@@ -134,11 +132,6 @@ abbrev pub glyph_in : Option Decoded → ℕ → Option Glyph
 glyph_in None c = None
 glyph_in (Some (decoded.Fault f)) c = None
 glyph_in (Some (decoded.Font f)) c = glyph_at f c
-
--- the glyph of a flat command that the last step gave
-abbrev pub glyph_for : Expansion → FlatCommand → Option Glyph
-glyph_for v (Char k c width put) = glyph_in (marked_font v) c
-glyph_for v f = None
 
 -- how many look-ups may still come: after one, a flat command changes the font before the next
 abbrev pub asks_from : ℕ → Current → ℕ

@@ -135,7 +135,7 @@ pub struct PlainCharacter<'a> {
     pub glyph: &'a Glyph,
 }
 
-/// A character that is set in a packed font that was found. `None` where no font was found or it
+/// A character that is set or put in a packed font that was found. `None` where no font was found or it
 /// has a fault, in a virtual font, and where the font has no width or no glyph for the code.
 #[inline(always)]
 pub fn plain_character(current: &Current, code: i32) -> Option<PlainCharacter>

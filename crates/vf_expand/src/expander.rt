@@ -15,7 +15,7 @@ use crate::frames::{Frame, Frames, MOST_DEEP};
 use crate::keys::PageKeys;
 use crate::last_step::LastStep;
 use crate::opened::opened;
-use crate::sets::set_at;
+use crate::sets::character_at;
 use crate::step::{PlainStep, Step};
 use drift_rules::Flat;
 use dvi_commands::command_at;
@@ -87,7 +87,7 @@ impl<'a> Expander<'a> {
     fn advance(&mut self, width: i64) -> Step
         requires { self.old.due ≡ Some width }
         ensures step { Steps self.old result self.new }
-        ensures fits { Fits result self.new }
+        ensures fits { Fits result }
     {
         if self.last_step.budget == 0 {
             self.last_step = self.last_step.stopped(self.last_step.at);
@@ -104,7 +104,7 @@ impl<'a> Expander<'a> {
         requires undue { self.old.due ≡ None }
         requires ended { IsEnded self.old.stack }
         ensures step { Steps self.old result self.new }
-        ensures fits { Fits result self.new }
+        ensures fits { Fits result }
     {
         if self.outer.top().is_none() {
             self.last_step = self.last_step.stopped(self.start + self.bytes.len());
@@ -128,16 +128,16 @@ impl<'a> Expander<'a> {
     fn expand(&mut self) -> Result<Step, NoMemory>
         requires undue { self.old.due ≡ None }
         ensures step { IfOk result (λ step. Steps self.old step self.new) }
-        ensures fits { IfOk result (λ step. Fits step self.new) }
+        ensures fits { IfOk result Fits }
         ensures err { OnErr result (self.new ≡ self.old) }
     {
         let reading = opened(
             self.index,
             self.bytes,
             self.start,
-            self.last_step.at,
             &self.level,
             &self.outer,
+            self.last_step.at,
         );
         let at = reading.at;
         if self.level.pos == reading.text.len() {
@@ -209,7 +209,7 @@ impl<'a> Expander<'a> {
     #[inline(always)]
     pub fn next(&mut self) -> Result<Step, NoMemory>
         ensures step { IfOk result (λ step. Steps self.old step self.new) }
-        ensures fits { IfOk result (λ step. Fits step self.new) }
+        ensures fits { IfOk result Fits }
         ensures err { OnErr result (self.new ≡ self.old) }
     {
         match self.due {
@@ -218,9 +218,9 @@ impl<'a> Expander<'a> {
         }
     }
 
-    /// The next step, where it is a character that is set in a packed font, as most steps are: it
-    /// is given with its glyph and without its key. `None` where any other step stands next, which
-    /// `next` gives: then nothing has changed.
+    /// The next step, where it is a character, as most steps are: it is given with its glyph and
+    /// without its key. `None` where any other step stands next, which `next` gives: then nothing
+    /// has changed.
     #[inline(always)]
     pub fn next_plain(&mut self) -> Option<PlainStep<'_>>
         ensures* passes { sem 𝓛 (PassesPlain self.entry result) }
@@ -234,12 +234,13 @@ impl<'a> Expander<'a> {
             self.index,
             self.bytes,
             self.start,
-            self.last_step.at,
             &self.level,
             &self.outer,
+            self.last_step.at,
         );
         let place = reading.at;
-        let Some((code, end)) = set_at(reading.text, self.level.pos, reading.context) else {
+        let Some((code, put, end)) = character_at(reading.text, self.level.pos, reading.context)
+        else {
             return None;
         };
         let Some(found) = plain_character(&self.level.current, code) else {
@@ -250,6 +251,7 @@ impl<'a> Expander<'a> {
         Some(PlainStep {
             code: code as u8,
             width: found.width,
+            put,
             glyph: found.glyph,
             at: place,
         })
@@ -272,7 +274,7 @@ impl<'a> Expander<'a> {
         };
     }
 
-    /// Where the last step gave a character, its font.
+    /// The font of the character that the last step gave. `None` after any other step.
     #[inline(always)]
     pub fn font(&self) -> Option<&Arc<Decoded>>
         ensures { MatchOption result (marked_font self.now ≡ None)

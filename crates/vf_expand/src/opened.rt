@@ -65,9 +65,9 @@ pub fn opened<'a>(
     index: &'a Index<'a>,
     bytes: &'a [u8],
     start: usize,
-    at: usize,
     level: &Frame,
     outer: &'a Frames,
+    at: usize,
 ) -> OpenLevel<'a>
     requires levels { AreLevels bytes.now level.now outer.now }
     requires room { start + length bytes.now ≤ LONGEST }

@@ -18,12 +18,14 @@ pub enum Step {
     Stop(PageFault),
 }
 
-/// A character that is set in a packed font: its code, its width in DVI units, its glyph in that
-/// font, and the position, in the document, of the page's command that it comes from.
+/// A character that is set or put in a packed font: its code, its width in DVI units, whether it is
+/// put, its glyph in that font, and the position, in the document, of the page's command that it
+/// comes from.
 #[derive(Clone, Copy)]
 pub struct PlainStep<'e> {
     pub code: u8,
     pub width: i64,
+    pub put: bool,
     pub glyph: &'e Glyph,
     pub at: usize,
 }

@@ -13,23 +13,25 @@ use Rattle.page_draw.proofs.Ends.{broken_at_first, broken_at_look, broken_stop, 
 use Rattle.page_draw.proofs.Other.{handed_on}
 use Rattle.page_draw.proofs.drawing.draw_on.Goals as goal
 
-pub returns-in_default-clause-stop : goal.returns-in_default-clause-stop
-returns-in_default-clause-stop g c = broken_at_first _ c.args.index.now c.args.i c.conv.result _ c.conv.ensures
+pub returns-in_err-expander-clause-stop : goal.returns-in_err-expander-clause-stop
+returns-in_err-expander-clause-stop g c =
+    let p = err_from_is_err_and c.from_residual.result c.from_residual.ensures.1 in
+    rw (p.1, p.2) (broken_at_first _ c.args.wanted.index.now c.args.wanted.number c.conv.result _ c.conv.ensures)
 
 pub steps-init : goal.steps-init
 steps-init g c =
     let desk = g.D.Desk in
     let conv : c.new-pen.result.conv ≡ c.conv.result = ap (λ p. p.conv) c.new-pen.ensures in
     record {
-      conv = subst (λ (x : Fraction). IsConversionOf (document_units c.args.index.now.res c.args.index.now.reading) x) (sym conv) c.conv.ensures;
+      conv = subst (λ (x : Fraction). IsConversionOf (document_units c.args.wanted.index.now.res c.args.wanted.index.now.reading) x) (sym conv) c.conv.ensures;
       fits = c.requires.fits;
-      room = omega (arith, c.in-Ok.ensures.asks);
+      room = omega (arith, c.in_ok-expander.ensures.asks);
       library = refl;
       units = refl;
       faults = omega arith;
       trail = trail_none (Unit {0}) (desk.asked c.args.desk.now) (desk.trail c.args.desk.now);
-      so_far = so_far_none _ c.new-pen.result.conv c.args.sheet.now (course_of c.args.index.now.reading c.args.i) (left c.in-Ok.expander) c.new-pen.result.state
-          c.args.page (desk.asked c.args.desk.now) c.in-Ok.ensures.page (ap (λ p. p.state) c.new-pen.ensures) c.requires.blank;
+      so_far = so_far_none _ c.new-pen.result.conv c.args.sheet.now (course_of c.args.wanted.index.now.reading c.args.wanted.number) (left c.in_ok-expander.expander) c.new-pen.result.state
+          c.args.page (desk.asked c.args.desk.now) c.in_ok-expander.ensures.page (ap (λ p. p.state) c.new-pen.ensures) c.requires.blank;
     }
 
 pub returns-in_err-step-clause-stop : goal.returns-in_err-step-clause-stop
@@ -37,7 +39,7 @@ returns-in_err-step-clause-stop g c =
     let desk = g.D.Desk in
     let i = c.steps.invariant in
     let p = err_from_is_err_and c.from_residual.result c.from_residual.ensures.1 in
-    rw (p.1, p.2) (c.in_err-step.ensures.stop (desk.library c.args.desk.now) (desk.units c.args.desk.now) c.args.index.now c.args.i _ _ i.conv i.so_far)
+    rw (p.1, p.2) (c.in_err-step.ensures.stop (desk.library c.args.desk.now) (desk.units c.args.desk.now) c.args.wanted.index.now c.args.wanted.number _ _ i.conv i.so_far)
 
 pub returns-in_err-look_up-in-Ask-clause-stop : goal.returns-in_err-look_up-in-Ask-clause-stop
 returns-in_err-look_up-in-Ask-clause-stop g c =
@@ -49,8 +51,8 @@ returns-in_err-look_up-in-Ask-clause-stop g c =
     let failed = c.in_err-look_up-in-Ask.ensures in
     let r = c.from_residual-in_err-look_up-in-Ask in
     let p = err_from_is_err_and r.result r.ensures.1 in
-    rw (p.1, p.2) (broken_stop _ c.args.index.now c.args.sheet.now c.args.i _ _ _ failed.broken
-    (broken_at_look _ c.steps.pen.conv c.args.sheet.now c.args.index.now c.args.i (left new.expander) new.pen.state new.page _ _ far i.conv
+    rw (p.1, p.2) (broken_stop _ c.args.wanted.index.now c.args.sheet.now c.args.wanted.number _ _ _ failed.broken
+    (broken_at_look _ c.steps.pen.conv c.args.sheet.now c.args.wanted.index.now c.args.wanted.number (left new.expander) new.pen.state new.page _ _ far i.conv
     _ _ _ _ step.asked failed.refused))
 
 pub steps-preserved : goal.steps-preserved
@@ -65,7 +67,7 @@ steps-preserved g c =
     let answer = font.answered in
     let found = rw (i.library, i.units) at answer.1 in
     record {
-      conv = subst (λ (x : Fraction). IsConversionOf (document_units c.args.index.now.res c.args.index.now.reading) x) (sym conv) i.conv;
+      conv = subst (λ (x : Fraction). IsConversionOf (document_units c.args.wanted.index.now.res c.args.wanted.index.now.reading) x) (sym conv) i.conv;
       fits = font.fits;
       room = omega (arith, i.room, font.room, font.asks, c.in_ok-step.ensures.asks);
       library = font.library ∙ i.library;
@@ -75,7 +77,7 @@ steps-preserved g c =
           (desk.trail c.args.desk.now) (desk.trail c.steps.desk) (desk.trail c.look_up.new.desk) i.trail
           (trail_as (Unit {0}) _ (desk.asked c.steps.desk) (desk.asked c.look_up.new.desk) (desk.trail c.steps.desk) (desk.trail c.look_up.new.desk) (λ w. refl) font.trail);
       so_far = subst (λ (x : Fraction). IsSoFar (IsFontOf (desk.library c.args.desk.now) (desk.units c.args.desk.now)) x c.args.sheet.now
-          (course_of c.args.index.now.reading c.args.i) (left c.look_up.new.expander) new.pen.state new.page (desk.asked c.args.desk.now) (desk.asked c.look_up.new.desk)) (sym conv)
+          (course_of c.args.wanted.index.now.reading c.args.wanted.number) (left c.look_up.new.expander) new.pen.state new.page (desk.asked c.args.desk.now) (desk.asked c.look_up.new.desk)) (sym conv)
           (so_far_same _ _ _ _ _ _ _ _ _
           (so_far_look _ c.steps.pen.conv c.args.sheet.now _ (left new.expander) new.pen.state new.page _ _ far _ _ _ answer.0 _ step.asked found font.asked)
           (left c.look_up.new.expander) answer.2);
@@ -86,22 +88,22 @@ steps-smaller g c =
     let fewer = rw c.in-Ask.is at c.in_ok-step.ensures.steps in
     omega (arith, c.in_ok-look_up-in-Ask.ensures.fewer, fewer)
 
-pub returns-in_default-2-clause-drawn : goal.returns-in_default-2-clause-drawn
-returns-in_default-2-clause-drawn g c =
+pub returns-in_default-clause-drawn : goal.returns-in_default-clause-drawn
+returns-in_default-clause-drawn g c =
     let desk = g.D.Desk in
     let i = c.steps.invariant in
     let new = c.draw_flats.new in
     let far = c.in_ok-step.ensures.drawn (desk.library c.args.desk.now) (desk.units c.args.desk.now) _ _ _ i.so_far in
-    ended_drawn _ c.steps.pen.conv c.args.sheet.now c.args.index.now c.args.i (left new.expander) new.pen.state new.page _ _ far i.conv _
+    ended_drawn _ c.steps.pen.conv c.args.sheet.now c.args.wanted.index.now c.args.wanted.number (left new.expander) new.pen.state new.page _ _ far i.conv _
     (subst (λ (x : Fraction). IfOk c.ended.result (λ done. EndsIn x new.pen.state new.page (left new.expander) (Ok done))) c.in_ok-step.ensures.conv c.ended.ensures.whole)
 
-pub returns-in_default-2-clause-stop : goal.returns-in_default-2-clause-stop
-returns-in_default-2-clause-stop g c =
+pub returns-in_default-clause-stop : goal.returns-in_default-clause-stop
+returns-in_default-clause-stop g c =
     let desk = g.D.Desk in
     let i = c.steps.invariant in
     let new = c.draw_flats.new in
     let far = c.in_ok-step.ensures.drawn (desk.library c.args.desk.now) (desk.units c.args.desk.now) _ _ _ i.so_far in
-    ended_stop _ c.steps.pen.conv c.args.sheet.now c.args.index.now c.args.i (left new.expander) new.pen.state new.page _ _ far i.conv _
+    ended_stop _ c.steps.pen.conv c.args.sheet.now c.args.wanted.index.now c.args.wanted.number (left new.expander) new.pen.state new.page _ _ far i.conv _
     (subst (λ (x : Fraction). IfErr c.ended.result (λ why. IsFaultOf why (EndsIn x new.pen.state new.page (left new.expander)))) c.in_ok-step.ensures.conv c.ended.ensures.stop)
 
 pub returns-in_err-step-clause-cause : goal.returns-in_err-step-clause-cause
@@ -114,11 +116,11 @@ returns-in_err-step-clause-trail g c =
     let desk = g.D.Desk in
     trail_as _ (Unit {0}) (desk.asked c.args.desk.now) (desk.asked c.steps.desk) (desk.trail c.args.desk.now) (desk.trail c.steps.desk) (λ w. tt) c.steps.invariant.trail
 
-pub returns-in_default-clause-trail : goal.returns-in_default-clause-trail
-returns-in_default-clause-trail g c = trail_none _ (g.D.Desk.asked c.args.desk.now) (g.D.Desk.trail c.args.desk.now)
+pub returns-in_err-expander-clause-trail : goal.returns-in_err-expander-clause-trail
+returns-in_err-expander-clause-trail g c = trail_none _ (g.D.Desk.asked c.args.desk.now) (g.D.Desk.trail c.args.desk.now)
 
-pub returns-in_default-2-clause-trail : goal.returns-in_default-2-clause-trail
-returns-in_default-2-clause-trail g c =
+pub returns-in_default-clause-trail : goal.returns-in_default-clause-trail
+returns-in_default-clause-trail g c =
     let desk = g.D.Desk in
     trail_as _ (Unit {0}) (desk.asked c.args.desk.now) (desk.asked c.steps.desk) (desk.trail c.args.desk.now) (desk.trail c.steps.desk) (λ w. tt) c.steps.invariant.trail
 

@@ -12,14 +12,14 @@ abbrev pub invariant-steps : goal.invariant-steps
 invariant-steps g l =
     let desk = g.D.Desk in
     record {
-      conv : IsConversionOf (document_units l.fn.index.res l.fn.index.reading) l.pen.conv;
+      conv : IsConversionOf (document_units l.fn.wanted.index.now.res l.fn.wanted.index.now.reading) l.pen.conv;
       fits : desk.fits l.desk l.shared;
       room : desk.room l.fn.desk + asks_left l.expander ≤ desk.room l.desk + 2 ^ 24;
       library : desk.library l.desk ≡ desk.library l.fn.desk;
       units : desk.units l.desk ≡ desk.units l.fn.desk;
       faults : desk.faults l.fn.desk ≤ desk.faults l.desk;
       trail : TrailGrew (Unit {0}) (desk.asked l.fn.desk) (desk.asked l.desk) (desk.trail l.fn.desk) (desk.trail l.desk);
-      so_far : IsSoFar (IsFontOf (desk.library l.fn.desk) (desk.units l.fn.desk)) l.pen.conv l.sheet (course_of l.fn.index.reading l.fn.i) (left l.expander)
+      so_far : IsSoFar (IsFontOf (desk.library l.fn.desk) (desk.units l.fn.desk)) l.pen.conv l.sheet (course_of l.fn.wanted.index.now.reading l.fn.wanted.number) (left l.expander)
           l.pen.state l.page (desk.asked l.fn.desk) (desk.asked l.desk);
     }
 

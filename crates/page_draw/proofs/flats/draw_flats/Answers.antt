@@ -1,14 +1,13 @@
-use Rattle.std.proofs.Common.{◌∙◌, arith, refl, sym, subst, Option}
+use Rattle.std.proofs.Common.{◌∙◌, arith, refl, None, Some}
 use Rattle.std.proofs.lemmas.Result.{err_from_is_err_and}
 use Rattle.drift_rules.specs.Position.{seen_flat}
 use Rattle.font_decode.specs.Decoding.{IsFontOf}
 use Rattle.vf_expand.specs.Course.{course_of}
-use Rattle.vf_expand.specs.Expansion.{glyph_for, left}
-use Rattle.pk_runs.specs.declared.glyph.Glyph.{Glyph}
-use Rattle.page_draw.specs.Inking.{Inks, set_in}
+use Rattle.vf_expand.specs.Expansion.{left}
+use Rattle.page_draw.specs.Inking.{set_in}
 use Rattle.page_draw.proofs.Lists.{so_far_flat, so_far_same}
 use Rattle.page_draw.proofs.Ends.{broken_so_far, pen_stop}
-use Rattle.page_draw.proofs.Other.{fewer_still, no_source, other_stays}
+use Rattle.page_draw.proofs.Other.{comes_alone, fewer_still, no_source, other_stays}
 use Rattle.page_draw.proofs.flats.draw_flats.Goals as goal
 
 pub returns-in_err-draw_plain-clause-stop : goal.returns-in_err-draw_plain-clause-stop
@@ -24,7 +23,7 @@ returns-in_err-draw_plain-clause-stop c =
     (λ told units indexed i old now conv so_far.
     pen_stop (IsFontOf told units) c.args.pen.now.conv c.args.sheet.now indexed i (left c.flats.expander) c.flats.pen.state c.flats.page old now
     (c.flats.invariant.drawn told units (course_of indexed.reading i) old now so_far) conv
-    flat (glyph_for new flat) new.at (left new) given.one.given _ stops)
+    flat (Some plain.glyph.now) new.at (left new) given.one.given _ stops)
 
 pub returns-in_err-draw_plain-clause-source : goal.returns-in_err-draw_plain-clause-source
 returns-in_err-draw_plain-clause-source c =
@@ -40,28 +39,31 @@ flats-preserved-in-Some c =
     let given = rw c.in-Some.is at c.next_plain.follows.holds-at-none in
     let flat = set_in given.key plain in
     let moved = c.in_ok-draw_plain.ensures.moved given.key in
-    let inked = subst (λ (g : Option Glyph). Inks c.args.sheet.now c.flats.pen flat g c.flats.page c.draw_plain.new.page) (sym given.glyph)
-    (c.in_ok-draw_plain.ensures.inked given.key) in
+    let inked = c.in_ok-draw_plain.ensures.inked given.key in
     record {
       conv = c.draw_plain.ensures.conv ∙ i.conv;
       asks = omega (arith, i.asks, given.one.asks);
       steps = omega (arith, i.steps, given.one.fewer);
       drawn = λ told units from old new so_far.
           so_far_flat (IsFontOf told units) c.args.pen.now.conv c.args.sheet.now from (left c.flats.expander) c.flats.pen.state c.flats.page old new
-          (i.drawn told units from old new so_far) flat (glyph_for next flat) next.at (left next)
+          (i.drawn told units from old new so_far) flat (Some plain.glyph.now) next.at (left next)
           c.draw_plain.new.pen.state c.draw_plain.new.page given.one.given (rw i.conv at moved) inked;
     }
 
-pub returns-in_default-next-clause-stop : goal.returns-in_default-next-clause-stop
-returns-in_default-next-clause-stop c = λ told units indexed i old new conv so_far.
+pub returns-in_err-next-clause-stop : goal.returns-in_err-next-clause-stop
+returns-in_err-next-clause-stop c =
+    let r = c.from_residual-in_err-next in
+    let p = err_from_is_err_and r.result r.ensures.1 in
+    rw (p.1, p.2) (λ told units indexed i old new conv so_far.
     broken_so_far (IsFontOf told units) c.args.pen.now.conv c.args.sheet.now indexed i (left c.flats.expander) c.flats.pen.state c.flats.page old new
-    (c.flats.invariant.drawn told units (course_of indexed.reading i) old new so_far) conv
+    (c.flats.invariant.drawn told units (course_of indexed.reading i) old new so_far) conv)
 
 pub returns-in_err-draw_one-in-Flat-clause-stop : goal.returns-in_err-draw_one-in-Flat-clause-stop
 returns-in_err-draw_one-in-Flat-clause-stop c =
     let same = rw c.in_default.is at c.next_plain.follows.holds-at-none in
-    let step = rw (c.in-Flat.is, same) at c.in-Ok.ensures.step in
+    let given = rw (c.in-Flat.is, same) at c.in_ok-next.ensures.step in
     let flat = seen_flat c.in-Flat.flat in
+    let step = comes_alone c.flats.expander c.next.new.self flat given.0 (rw c.in_default.is at c.next_plain.ensures.none refl) given.1 in
     let r = c.from_residual-in_err-draw_one-in-Flat in
     let p = err_from_is_err_and r.result r.ensures.1 in
     let stops = rw c.flats.invariant.conv at c.in_err-draw_one-in-Flat.ensures.stop in
@@ -69,7 +71,7 @@ returns-in_err-draw_one-in-Flat-clause-stop c =
     (λ told units indexed i old new conv so_far.
     pen_stop (IsFontOf told units) c.args.pen.now.conv c.args.sheet.now indexed i (left c.flats.expander) c.flats.pen.state c.flats.page old new
     (c.flats.invariant.drawn told units (course_of indexed.reading i) old new so_far) conv
-    flat (glyph_for c.next.new.self flat) c.next.new.self.at (left c.next.new.self) step.given _ stops)
+    flat None c.next.new.self.at (left c.next.new.self) step.given _ stops)
 
 pub returns-in_err-draw_one-in-Flat-clause-source : goal.returns-in_err-draw_one-in-Flat-clause-source
 returns-in_err-draw_one-in-Flat-clause-source c =
@@ -81,8 +83,9 @@ pub flats-preserved-in_ok-draw_one-in-Flat : goal.flats-preserved-in_ok-draw_one
 flats-preserved-in_ok-draw_one-in-Flat c =
     let i = c.flats.invariant in
     let same = rw c.in_default.is at c.next_plain.follows.holds-at-none in
-    let step = rw (c.in-Flat.is, same) at c.in-Ok.ensures.step in
+    let given = rw (c.in-Flat.is, same) at c.in_ok-next.ensures.step in
     let flat = seen_flat c.in-Flat.flat in
+    let step = comes_alone c.flats.expander c.next.new.self flat given.0 (rw c.in_default.is at c.next_plain.ensures.none refl) given.1 in
     let moved = rw i.conv at c.in_ok-draw_one-in-Flat.ensures.moved in
     let inked = rw i.conv at c.in_ok-draw_one-in-Flat.ensures.inked in
     record {
@@ -91,7 +94,7 @@ flats-preserved-in_ok-draw_one-in-Flat c =
       steps = omega (arith, i.steps, step.fewer);
       drawn = λ told units from old new so_far.
           so_far_flat (IsFontOf told units) c.args.pen.now.conv c.args.sheet.now from (left c.flats.expander) c.flats.pen.state c.flats.page old new
-          (i.drawn told units from old new so_far) flat (glyph_for c.next.new.self flat) c.next.new.self.at (left c.next.new.self)
+          (i.drawn told units from old new so_far) flat None c.next.new.self.at (left c.next.new.self)
           c.draw_one.new.pen.state c.draw_one.new.page step.given moved inked;
     }
 
@@ -99,8 +102,9 @@ pub flats-preserved : goal.flats-preserved
 flats-preserved c =
     let i = c.flats.invariant in
     let same = rw c.in_default.is at c.next_plain.follows.holds-at-none in
-    let step = rw (c.in-Flat.is, same) at c.in-Ok.ensures.step in
+    let given = rw (c.in-Flat.is, same) at c.in_ok-next.ensures.step in
     let flat = seen_flat c.in-Flat.flat in
+    let step = comes_alone c.flats.expander c.next.new.self flat given.0 (rw c.in_default.is at c.next_plain.ensures.none refl) given.1 in
     let moved = rw i.conv at c.in_ok-draw_one-in-Flat.ensures.moved in
     let inked = rw i.conv at c.in_ok-draw_one-in-Flat.ensures.inked in
     record {
@@ -109,7 +113,7 @@ flats-preserved c =
       steps = omega (arith, i.steps, step.fewer);
       drawn = λ told units from old new so_far.
           so_far_flat (IsFontOf told units) c.args.pen.now.conv c.args.sheet.now from (left c.flats.expander) c.flats.pen.state c.flats.page old new
-          (i.drawn told units from old new so_far) flat (glyph_for c.next.new.self flat) c.next.new.self.at (left c.next.new.self)
+          (i.drawn told units from old new so_far) flat None c.next.new.self.at (left c.next.new.self)
           c.draw_one.new.pen.state c.draw_one.new.page step.given moved inked;
     }
 
@@ -117,17 +121,17 @@ pub returns-in_default-step : goal.returns-in_default-step
 returns-in_default-step c =
     let i = c.flats.invariant in
     let none = rw c.in_default.is at c.next_plain.follows.holds-at-none in
-    let step = rw none at c.in-Ok.ensures.step in
-    let same = other_stays c.flats.expander c.next.new.self c.in-Ok.step c.in_default-step.not-Flat step in
+    let step = rw none at c.in_ok-next.ensures.step in
+    let same = other_stays c.flats.expander c.next.new.self c.in_ok-next.step c.in_default-step.not-Flat step in
     record {
       drawn = λ told units from old new so_far.
           so_far_same (IsFontOf told units) c.args.pen.now.conv c.args.sheet.now from (left c.flats.expander) c.flats.pen.state c.flats.page old new
           (i.drawn told units from old new so_far) (left c.next.new.self) same.left;
       conv = i.conv;
       asks = omega (arith, i.asks, same.asks);
-      steps = fewer_still c.args.expander.now c.flats.expander c.next.new.self c.in-Ok.step i.steps same.fewer;
+      steps = fewer_still c.args.expander.now c.flats.expander c.next.new.self c.in_ok-next.step i.steps same.fewer;
       next = same.next;
-      fits = c.in-Ok.ensures.fits;
+      fits = c.in_ok-next.ensures.fits;
       source = λ h. absurd cc;
       stop = tt;
     }

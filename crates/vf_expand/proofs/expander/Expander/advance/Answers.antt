@@ -1,4 +1,4 @@
-use Rattle.std.proofs.Common.{◌≡◌, ◌∙◌, ◌<◌, ap, to_z, of_z, w64, arith, Some}
+use Rattle.std.proofs.Common.{◌≡◌, ◌∙◌, ◌<◌, ap, to_z, of_z, w64, arith, None, Some}
 use Rattle.std.proofs.lemmas.Int.{ints}
 use Rattle.vf_expand.specs.View.{seen_expander}
 use Rattle.vf_expand.proofs.Steps.{advance_step, late_due_step}
@@ -16,4 +16,4 @@ returns-clause-step c =
     let due = rw (← c.self.view_is) at c.requires in
     let room : 0 < x.last_step.budget = omega (arith, c.if-self-eq0.false) in
     let same : c.args.width ≡ to_z w64 (of_z w64 c.args.width) = omega (arith, ints) in
-    rw c.given-self-inside.ensures (rw (← c.self.view_is) (advance_step (seen_expander x) _ (due ∙ ap (λ w. Some w) same) room))
+    rw c.given-self-inside.ensures (rw (← c.self.view_is) (None, advance_step (seen_expander x) _ (due ∙ ap (λ w. Some w) same) room))

@@ -43,4 +43,4 @@ returns-clause-step c =
     let none = subst IsEnded stack ended in
     let room : 0 < x.last_step.budget = omega (arith, c.if-self-eq0.false) in
     rw c.given-self-inside.ensures (rw (← c.self.view_is)
-    (leave_step (seen_expander x) undue (seen_packet (seen_current c.in-Some.outside.current) x.level) (stack_of x.bytes.now x.start c.in-Some.outside c.pop.new.self) stack room none))
+    (None, leave_step (seen_expander x) undue (seen_packet (seen_current c.in-Some.outside.current) x.level) (stack_of x.bytes.now x.start c.in-Some.outside c.pop.new.self) stack room none))

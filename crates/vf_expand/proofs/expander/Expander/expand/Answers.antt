@@ -1,4 +1,4 @@
-use Rattle.std.proofs.Common.{◌≡◌, ◌∙◌, ◌<◌, ◌+◌, ◌-◌, ℕ, false, List, refl, sym, ap, subst, arith, length}
+use Rattle.std.proofs.Common.{◌≡◌, ◌∙◌, ◌<◌, ◌+◌, ◌-◌, ℕ, false, List, refl, sym, ap, subst, arith, length, None, Some}
 use Rattle.std.specs.Prelude.{IsSome}
 use Rattle.dvi_commands.specs.Spelling.{seen}
 use Rattle.vf_expand.specs.Course.{Current, MOST_DEEP, Stops}
@@ -100,7 +100,9 @@ returns-in-Flat-clause-step c =
     let next = head_at x.index.now.reading eop x.start x.last_step.at x.bytes.now x.level x.outer read.result.1 (seen read.result.0) c.opened-reading.result.text.now place here
     (MOST_DEEP - c.len-room.result) e.text e.place e.at few read.ensures.place.0 read.ensures.place.1 read.ensures.spelled in
     let same = still_at x.index.now.reading eop x.start x.last_step.at x.bytes.now x.level x.outer here e.at (seen_current x.level.current) in
-    rw c.given-self-inside.ensures (rw (← c.self.view_is) (flat_step (seen_expander x) undue room (MOST_DEEP - c.len-room.result) here place (seen read.result.0) (stack_of x.bytes.now x.start (record x.level { pos = read.result.1 }) x.outer) next same c.in-Flat.flat has_effect))
+    let fits = rw c.in-Flat.is at c.in_ok-flat.ensures.fits in
+    rw c.given-self-inside.ensures (rw (← c.self.view_is)
+    (None, flat_step (seen_expander x) undue room (MOST_DEEP - c.len-room.result) here place (seen read.result.0) (stack_of x.bytes.now x.start (record x.level { pos = read.result.1 }) x.outer) next same c.in-Flat.flat has_effect fits.1))
 
 pub returns-in-Mark-clause-step : goal.returns-in-Mark-clause-step
 returns-in-Mark-clause-step c =
@@ -117,7 +119,7 @@ returns-in-Mark-clause-step c =
     let next = head_at x.index.now.reading eop x.start x.last_step.at x.bytes.now x.level x.outer read.result.1 (seen read.result.0) c.opened-reading.result.text.now place here
     (MOST_DEEP - c.len-room.result) e.text e.place e.at few read.ensures.place.0 read.ensures.place.1 read.ensures.spelled in
     let same = still_at x.index.now.reading eop x.start x.last_step.at x.bytes.now x.level x.outer here e.at (seen_current x.level.current) in
-    rw c.given-self-inside-in-Mark.ensures (rw (← c.self.view_is) (mark_step (seen_expander x) undue room (MOST_DEEP - c.len-room.result) here place (seen read.result.0) (stack_of x.bytes.now x.start (record x.level { pos = read.result.1 }) x.outer) next same (seen_flat c.in-Mark.flat) has_effect))
+    rw c.given-self-inside-in-Mark.ensures (rw (← c.self.view_is) (Some has_effect.glyph, mark_step (seen_expander x) undue room (MOST_DEEP - c.len-room.result) here place (seen read.result.0) (stack_of x.bytes.now x.start (record x.level { pos = read.result.1 }) x.outer) next same (seen_flat c.in-Mark.flat) has_effect))
 
 pub returns-in-Change-clause-step : goal.returns-in-Change-clause-step
 returns-in-Change-clause-step c =
@@ -138,7 +140,7 @@ returns-in-Change-clause-step c =
     let stack = stack_same x.bytes.now x.start (record x.level { pos = read.result.1 }) (code.Chosen c.in-Change.key) x.outer in
     let given : Stack → Expansion = λ s. record (seen_expander x) { at = here; budget = x.last_step.budget - 1; marked = false; current = now; stack = s } in
     rw c.given-self-inside-in-Change.ensures (rw (← c.self.view_is)
-    (subst (λ (s : Stack). GivesOne (seen_expander x) (given s) Skip) (sym stack)
+    (None, subst (λ (s : Stack). GivesOne (seen_expander x) (given s) Skip None) (sym stack)
     (change_step (seen_expander x) undue room (MOST_DEEP - c.len-room.result) here place (seen read.result.0) (stack_of x.bytes.now x.start (record x.level { pos = read.result.1 }) x.outer) next same c.in-Change.key has_effect)))
 
 pub returns-in-Ask-clause-step : goal.returns-in-Ask-clause-step
@@ -216,4 +218,4 @@ returns-in_ok-enter-in-Enter-clause-step c =
     let rest = stack_of x.bytes.now x.start outside x.outer in
     let deep : MOST_DEEP - c.len-room.result ≡ MOST_DEEP - depth rest = few ∙ ap (λ (n : ℕ). MOST_DEEP - n) (sym (depth_is x.bytes.now x.start outside x.outer)) in
     rw (c.given-self-inside-in-Enter.ensures, c.in_ok-enter-in-Enter.ensures.level, c.in_ok-enter-in-Enter.ensures.outer) (rw (← c.self.view_is)
-    (enter_step (seen_expander x) undue room (MOST_DEEP - c.len-room.result) here place (seen read.result.0) rest next same deep c.in-Enter.level has_effect))
+    (None, enter_step (seen_expander x) undue room (MOST_DEEP - c.len-room.result) here place (seen read.result.0) rest next same deep c.in-Enter.level has_effect))

@@ -3,7 +3,6 @@ use Rattle.std.specs.Prelude.{IsSome, unsigned_abs}
 use Rattle.std.proofs.lemmas.Int.{ints}
 use Rattle.std.specs.Arc.{arc_value}
 use Rattle.dvi_commands.specs.declared.command.Context.{Context}
-use Rattle.dvi_commands.specs.Spelling.{Set}
 use Rattle.drift_rules.specs.Position.{Char, FlatCommand}
 use Rattle.drift_rules.specs.Bounds.{IsNumber}
 use Rattle.pk_runs.specs.declared.glyph.Glyph.{Glyph}
@@ -11,13 +10,14 @@ use Rattle.vf_expand.specs.Course.{Current, MOST_DEEP, character, deeper}
 use Rattle.vf_expand.specs.Expansion.{Expansion, GivesNoPlain, font_of, glyph_in, left}
 use Rattle.vf_expand.specs.Levels.{context_of, stack_of, text_of}
 use Rattle.vf_expand.specs.Effects.{IsMark, SetsNoPlain, seen_current, seen_place}
-use Rattle.vf_expand.specs.Sets.{SetsNothing}
+use Rattle.vf_expand.specs.Sets.{SetsNothing, character_command}
+use Rattle.vf_expand.specs.Steps.{GivesOne}
 use Rattle.vf_expand.specs.View.{seen_expander}
 use Rattle.vf_expand.proofs.Heads.{head_at, still_at}
 use Rattle.vf_expand.proofs.Levels.{has_key, read_on_at}
 use Rattle.vf_expand.proofs.NoPlain.{AtHead, is_undue, none_due, none_late, none_stack, none_undue}
 use Rattle.vf_expand.proofs.SetNext.{set_alone}
-use Rattle.vf_expand.proofs.Steps.{mark_step}
+use Rattle.vf_expand.proofs.Steps.{mark_command, mark_step, only_glyph}
 use Rattle.vf_expand.proofs.expander.Expander.next_plain.Goals as goal
 use Rattle.vf_expand.proofs.expander.Expander.next_plain.Goals.{then-is_some-via-then-is_some, then-is_some-via-else-is_some+then-self-eq0}
 
@@ -41,8 +41,8 @@ returns-in_default c =
     let v = seen_expander x in
     let undue = is_undue x.due (sym c.is_some.ensures ∙ c.if-is_some.false) in
     let nothing : SetsNothing c.opened-reading.result.context (drop x.level.pos c.opened-reading.result.text.now) = c.in_default.ensures.none refl in
-    let head : AtHead (context_of x.outer) (seen_current x.level.current) (drop x.level.pos (text_of x.bytes.now x.level x.outer)) = λ code first rest begins.
-    absurd (rw (e.context, e.text) at nothing code first rest begins) in
+    let head : AtHead (context_of x.outer) (seen_current x.level.current) (drop x.level.pos (text_of x.bytes.now x.level x.outer)) = λ code put first rest begins.
+    absurd (rw (e.context, e.text) at nothing code put first rest begins) in
     let none = none_undue v undue (none_stack x.index.now.reading v.eop x.start x.last_step.at x.bytes.now x.level x.outer c.self.invariant.levels head) in
     ((refl, λ _. tt, c.self.view_is), record { passes = tt; fits = tt; none = λ is. subst (λ (w : Expansion). GivesNoPlain (left w)) c.self.view_is none })
 
@@ -54,10 +54,10 @@ returns-in_default-plain_character c =
     let undue = is_undue x.due (sym c.is_some.ensures ∙ c.if-is_some.false) in
     let same_code : to_z w32 (of_z w32 c.in-Some.code) ≡ c.in-Some.code = omega (arith, ints) in
     let here = subst (SetsNoPlain (seen_current x.level.current)) same_code (c.in_default-plain_character.ensures.none refl) in
-    let there = set_alone c.opened-reading.result.context c.opened-reading.result.text.now x.level.pos c.in-Some.code c.in-Some.end c.in-Some.ensures.set in
+    let there = set_alone c.opened-reading.result.context c.opened-reading.result.text.now x.level.pos c.in-Some.code c.in-Some.put c.in-Some.end c.in-Some.ensures.set in
     let alone = rw (e.context, e.text) at there in
-    let head : AtHead (context_of x.outer) (seen_current x.level.current) (drop x.level.pos (text_of x.bytes.now x.level x.outer)) = λ code first rest begins.
-    subst (SetsNoPlain (seen_current x.level.current)) (sym (alone code first rest begins)) here in
+    let head : AtHead (context_of x.outer) (seen_current x.level.current) (drop x.level.pos (text_of x.bytes.now x.level x.outer)) = λ code put first rest begins.
+    subst (SetsNoPlain (seen_current x.level.current)) (sym (alone code put first rest begins)) here in
     let none = none_undue v undue (none_stack x.index.now.reading v.eop x.start x.last_step.at x.bytes.now x.level x.outer c.self.invariant.levels head) in
     ((refl, λ _. tt, c.self.view_is), record { passes = tt; fits = tt; none = λ is. subst (λ (w : Expansion). GivesNoPlain (left w)) c.self.view_is none })
 
@@ -66,15 +66,18 @@ invariant_of-self-2 c =
     let x = c.self.inside in
     let e = c.opened-reading.ensures in
     let set = c.in-Some.ensures.set in
-    let has_effect = c.in-Some-plain_character.ensures.sets (seen_place c.opened-reading.result.source) 0 in
+    let has_effect = c.in-Some-plain_character.ensures.sets c.in-Some.put (seen_place c.opened-reading.result.source) 0 in
     rw c.given-self-inside.ensures record {
       room = c.self.invariant.room;
       deep = c.self.invariant.deep;
-      levels = read_on_at x.bytes.now x.level x.outer c.in-Some.end (Set c.in-Some.code) c.opened-reading.result.text.now e.text set.after set.inside
+      levels = read_on_at x.bytes.now x.level x.outer c.in-Some.end (character_command c.in-Some.code c.in-Some.put) c.opened-reading.result.text.now e.text set.after set.inside
           set.spelled c.self.invariant.levels x.level.current c.opened-reading.result.context e.context c.in-Some.ensures.readable (has_key x.bytes.now x.level x.outer c.self.invariant.levels);
       due = c.self.invariant.due;
       marked = λ h. subst (λ (x : Current). IsSome (font_of x)) (sym has_effect.known) refl;
     }
+
+never : {A : Type 0} → true ≡ false → A
+never is = absurd cc
 
 pub returns : goal.returns
 returns c =
@@ -89,7 +92,7 @@ returns c =
     let room_left = MOST_DEEP - length x.outer in
     let undue = is_undue x.due (sym c.is_some.ensures ∙ c.if-is_some.false) in
     let room : 0 < x.last_step.budget = omega (arith, c.if-self-eq0.false) in
-    let next = head_at x.index.now.reading eop x.start x.last_step.at x.bytes.now x.level x.outer c.in-Some.end (Set c.in-Some.code) c.opened-reading.result.text.now place here
+    let next = head_at x.index.now.reading eop x.start x.last_step.at x.bytes.now x.level x.outer c.in-Some.end (character_command c.in-Some.code c.in-Some.put) c.opened-reading.result.text.now place here
     room_left e.text e.place e.at refl set.after set.inside set.spelled in
     let same = still_at x.index.now.reading eop x.start x.last_step.at x.bytes.now x.level x.outer here e.at current in
     let level = record x.level { pos = c.in-Some.end } in
@@ -98,20 +101,23 @@ returns c =
     let width = to_z w64 (of_z w64 found.width) in
     let same_code : code ≡ c.in-Some.code = omega (arith, ints) in
     let same_width : found.width ≡ width = omega (arith, ints) in
-    let flat = Char key (unsigned_abs code) width false in
-    let is_flat : Char key (unsigned_abs code) found.width false ≡ flat = ap (λ (w : ℤ). Char key (unsigned_abs code) w false) same_width in
-    let has_effect = subst (λ (z : ℤ). IsMark (λ now at others. character (deeper room_left at) place at now z false others) current flat) same_code
-    (subst (λ (f : FlatCommand). IsMark (λ now at others. character (deeper room_left at) place at now code false others) current f) is_flat
-    (c.in-Some-plain_character.ensures.sets place room_left)) in (
+    let put = c.in-Some.put in
+    let flat = Char key (unsigned_abs code) width put in
+    let is_flat : Char key (unsigned_abs code) found.width put ≡ flat = ap (λ (w : ℤ). Char key (unsigned_abs code) w put) same_width in
+    let has_effect = subst (λ (z : ℤ). IsMark (λ now at others. character (deeper room_left at) place at now z put others) current flat) same_code
+    (subst (λ (f : FlatCommand). IsMark (λ now at others. character (deeper room_left at) place at now code put others) current f) is_flat
+    (c.in-Some-plain_character.ensures.sets put place room_left)) in
+    let mark = mark_command place room_left current flat c.in-Some.code put has_effect in
+    let glyph = only_glyph _ current flat mark key (unsigned_abs code) width put found.glyph.now refl c.in-Some-plain_character.ensures.glyph in (
       (
         refl,
         λ _. tt,
         rw c.given-self-inside.ensures (rw (← c.self.view_is) record {
           key = key;
-          one = mark_step (seen_expander x) undue room room_left here place (Set c.in-Some.code) (stack_of x.bytes.now x.start level x.outer) next same flat has_effect;
-          glyph = c.in-Some-plain_character.ensures.glyph;
+          one = subst (GivesOne (seen_expander x) _ flat) glyph
+              (mark_step (seen_expander x) undue room room_left here place (character_command c.in-Some.code put) (stack_of x.bytes.now x.start level x.outer) next same flat mark);
           place = refl;
         }),
       ),
-      record { passes = tt; fits = subst IsNumber same_width c.in-Some-plain_character.ensures.number; none = λ h. absurd cc },
+      record { passes = tt; fits = subst IsNumber same_width c.in-Some-plain_character.ensures.number; none = never },
     )

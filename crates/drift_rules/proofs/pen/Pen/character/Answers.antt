@@ -2,7 +2,7 @@ use Rattle.std.proofs.Common.{◌≡◌, ◌+ℤ◌, IsTrue, arith}
 use Rattle.pixel_round.specs.Pixels.{round}
 use Rattle.drift_rules.specs.Position.{is_held, moved_over}
 use Rattle.drift_rules.proofs.Held.{kept, set_kept}
-use Rattle.drift_rules.proofs.pen.Pen.set.Goals as goal
+use Rattle.drift_rules.proofs.pen.Pen.character.Goals as goal
 
 pub returns-clause-moved : goal.returns-clause-moved
 returns-clause-moved c = λ key code.
@@ -14,4 +14,4 @@ returns-clause-moved c = λ key code.
     let value = rw width at c.round-dots.ensures.value in
     let moved : IsTrue (is_held (x.registers.h +ℤ c.args.width)) × (m ≡ moved_over x.conv x.registers c.args.width (round x.conv c.args.width)) =
     rw (width, dots, value) at c.in_ok-moved.ensures.moved in
-    rw (← c.self.view_is) (set_kept x.conv x.registers m x.saved c.args.width moved c.in_ok-moved.ensures.held)
+    rw (c.if-put.false, ← c.self.view_is) (set_kept x.conv x.registers m x.saved c.args.width moved c.in_ok-moved.ensures.held)
