@@ -72,6 +72,14 @@ class MoreBugs(Made):
         status, text = self.said_by('try-more-bugs')
         self.assertEqual((status, text.splitlines()[0]), (1, 'one is not proved, so its bugs were not tried:'))
 
+    def test_a_crate_is_tried_over_those_below_it_as_they_are(self):
+        self.write('bin/rt', RT.replace('src/lib.rt &&', '../*/src/lib.rt &&'))
+        self.write('crates/two/src/lib.rt', 'right\n')
+        self.edit('a_bug', 'wrong')
+        self.write('crates/two/more-bugs/a_bug.edit', 'file: src/lib.rt\nold: right\nnew: wrong\n')
+        status, text = self.said_by('try-more-bugs')
+        self.assertEqual((status, text.count('refused, as it must be')), (0, 2), text)
+
     def test_leaves_nothing_behind_where_it_is_interrupted(self):
         self.edit('a_bug', 'slow')
         for number in signal.SIGINT, signal.SIGTERM:
