@@ -4,13 +4,13 @@ use Rattle.std.specs.Int.{div_ceil}
 use Rattle.std.proofs.lemmas.Bool.{cases_Bool, eqb-false, le-leb, lt-leb, ne_eqb, or_parts}
 use Rattle.packed_rows.specs.Bitmap.{Bitmap}
 use Rattle.pk_runs.specs.Raster.{IsRaster, is_empty}
-use Rattle.pk_packer.specs.Choice.{AreFewest, IsChosen, IsShortest, length_of, plain_bytes, plain_size, run_bytes, raster_by_pixels}
+use Rattle.pk_packer.specs.Choice.{AreFewest, IsChosen, IsShortest, length_of, plain_bytes, plain_size, run_bytes}
 use Rattle.pk_packer.specs.Spelling.{HoldNybbles, items_text, text_length}
 use Rattle.pk_packer.specs.Written.{first_colour, pixel_rows, written_runs}
 use Rattle.pk_packer.proofs.Begun.{rows_wide}
 use Rattle.pk_packer.proofs.HeldBytes.{bytes_long}
 use Rattle.pk_packer.proofs.Pixels.{rows_high}
-use Rattle.pk_packer.proofs.PlainBits.{empty_seen, length_of_bytes}
+use Rattle.pk_packer.proofs.PlainBits.{empty_seen, length_of_bytes, raster_by_pixels}
 use Rattle.pk_packer.proofs.ReadAgain.{read_again}
 
 -- ---- read again

@@ -11,7 +11,7 @@ use Rattle.packed_rows.specs.Bitmap.{Bitmap, from_fn, is_black}
 use Rattle.packed_rows.specs.Packing.{IsPadded, bits_value, pixel, row_text}
 use Rattle.packed_rows.proofs.Lists.{from_fn_past, from_fn_same, get_or-from_fn, length-from_fn}
 use Rattle.pk_runs.specs.Raster.{IsRaster, is_empty, plain_rows}
-use Rattle.pk_packer.specs.Choice.{plain_bytes, plain_pixels, raster_by_pixels}
+use Rattle.pk_packer.specs.Choice.{plain_bytes, plain_pixels}
 use Rattle.pk_packer.specs.Written.{pixel_rows}
 
 -- ---- the bits of a byte
@@ -96,6 +96,10 @@ module _ (ps : List Bool) where
       ∙ ap (λ i. get_or ps i false) place
 
 -- ---- a raster
+
+-- by its pixels
+abbrev pub raster_by_pixels : Bitmap → Bitmap
+raster_by_pixels r = record { width = r.width; height = r.height; rows = pixel_rows r }
 
 module _ (r : Bitmap) where
   abbrev dot : ℕ → Bool

@@ -7,10 +7,6 @@ use Rattle.packed_rows.specs.Packing.{row_text}
 use Rattle.pk_packer.specs.Spelling.{HoldNybbles, items_text, text_length}
 use Rattle.pk_packer.specs.Written.{first_colour, pixel_rows, written_runs}
 
--- the raster, by its pixels
-abbrev pub raster_by_pixels : Bitmap → Bitmap
-raster_by_pixels r = record { width = r.width; height = r.height; rows = pixel_rows r }
-
 -- the pixels, row after row without padding between them
 unfoldable pub plain_pixels : Bitmap → List Bool
 plain_pixels r = from_fn (r.width * r.height) (λ i. is_black r (i % r.width) (i / r.width))

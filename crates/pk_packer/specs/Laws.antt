@@ -5,9 +5,9 @@ use Rattle.packed_rows.specs.Bitmap.{Bitmap, IsShaped, is_black}
 use Rattle.packed_rows.specs.Packing.{IsPadded, pixel}
 use Rattle.pk_runs.specs.Numbers.{Item, Run, Repeat, SpellsNumber}
 use Rattle.pk_runs.specs.Raster.{copies, pixels}
-use Rattle.pk_packer.specs.Choice.{plain_bytes, raster_by_pixels}
+use Rattle.pk_packer.specs.Choice.{plain_bytes}
 use Rattle.pk_packer.specs.Spelling.{items_text, number_text, text_length}
-use Rattle.pk_packer.specs.Written.{Group, first_colour, written_rows, written_runs}
+use Rattle.pk_packer.specs.Written.{Group, first_colour, pixel_rows, written_rows, written_runs}
 
 -- ---- runs
 
@@ -94,9 +94,9 @@ NothingIsWritten =
 
 -- ---- plain bitmaps
 
--- a raster whose rows have its size is told by its pixels
+-- the rows of a raster that have its size are its pixels
 abbrev pub ShapedRastersAreTheirPixels : Type 0
-ShapedRastersAreTheirPixels = (r : Bitmap) → IsShaped r → raster_by_pixels r ≡ r
+ShapedRastersAreTheirPixels = (r : Bitmap) → IsShaped r → pixel_rows r ≡ r.rows
 
 -- a plain bitmap has as few bytes as its pixels take, and no bit after the last; the pixels of a
 -- row stand after those of the rows above it

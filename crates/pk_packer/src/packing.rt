@@ -2,7 +2,7 @@
 
 ghost use Rattle.std.specs.Prelude.{◌≡◌, ◌<◌, ℕ, IfOk, length, slice_index};
 ghost use Rattle.pk_runs.specs.Raster.{IsRaster};
-ghost use Rattle.pk_packer.specs.Choice.{AreFewest, IsChosen, length_of, raster_by_pixels};
+ghost use Rattle.pk_packer.specs.Choice.{AreFewest, IsChosen, length_of};
 ghost use Rattle.pk_packer.specs.Written.{first_colour, pixel_rows};
 
 use crate::lengths::Lengths;
@@ -26,7 +26,7 @@ pub struct Packed {
 /// are shortest, or the plain bitmap where that takes fewer. Read again, the bytes give the raster.
 pub fn pack(alloc: Global, raster: &Raster) -> Result<Packed, NoMemory>
     ensures raster { IfOk result (λ p. IsRaster p.bytes.items p.dyn_f p.black raster.now.width
-        raster.now.height (raster_by_pixels raster.now)) }
+        raster.now.height raster.now) }
     ensures lengths { IfOk result (λ p. (f : ℕ) → f < 14
         → slice_index p.lengths f ≡ length_of raster.now f) }
     ensures choice { IfOk result (λ p. IsChosen raster.now p.dyn_f p.black p.bytes.items) }

@@ -1,18 +1,20 @@
 use Rattle.std.proofs.Common.{◌≡◌, ◌∙◌, ℕ, ◌<◌, ◌≤◌, false, ap, subst, arith}
-use Rattle.packed_rows.specs.Bitmap.{Bitmap}
+use Rattle.packed_rows.specs.Bitmap.{Bitmap, IsShaped}
 use Rattle.pk_packer.specs.Choice.{IsShortest, length_of, plain_bytes, plain_size, run_bytes}
 use Rattle.pk_packer.specs.Spelling.{HoldNybbles, items_text}
 use Rattle.pk_packer.specs.Written.{first_colour, pixel_rows, written_runs}
 use Rattle.pk_packer.proofs.Chosen.{chosen_runs, fewest_plain, fewest_runs, runs_again, shortest_same}
 use Rattle.pk_packer.proofs.PlainBits.{raster_again}
+use Rattle.pk_packer.proofs.PlainLaws.{by_pixels}
 use Rattle.pk_packer.proofs.packing.pack.Goals as goal
 
 pub returns-then-size-plain_size-clause-raster : goal.returns-then-size-plain_size-clause-raster
 returns-then-size-plain_size-clause-raster c =
     let r : Bitmap = c.args.raster.now in
     let same : c.bits-bits.result.now ≡ r = c.bits-bits.ensures.value in
-    runs_again r c.shortest-dyn_f.result c.is_first_black.result c.in_ok-bytes.bytes.items c.shortest-dyn_f.ensures.form (c.is_first_black.ensures ∙ ap (λ (b : Bitmap). first_colour (pixel_rows b)) same)
-    (subst (λ (b : Bitmap). HoldNybbles c.in_ok-bytes.bytes.items (items_text c.shortest-dyn_f.result (written_runs (pixel_rows b)))) same c.in_ok-bytes.ensures)
+    by_pixels c.in_ok-bytes.bytes.items c.shortest-dyn_f.result c.is_first_black.result r (subst IsShaped same c.bits-bits.ensures.shaped)
+    (runs_again r c.shortest-dyn_f.result c.is_first_black.result c.in_ok-bytes.bytes.items c.shortest-dyn_f.ensures.form (c.is_first_black.ensures ∙ ap (λ (b : Bitmap). first_colour (pixel_rows b)) same)
+    (subst (λ (b : Bitmap). HoldNybbles c.in_ok-bytes.bytes.items (items_text c.shortest-dyn_f.result (written_runs (pixel_rows b)))) same c.in_ok-bytes.ensures))
 
 pub returns-then-size-plain_size-clause-choice : goal.returns-then-size-plain_size-clause-choice
 returns-then-size-plain_size-clause-choice c =
@@ -40,7 +42,7 @@ pub returns-clause-raster : goal.returns-clause-raster
 returns-clause-raster c =
     let r : Bitmap = c.args.raster.now in
     let same : c.bits-bits.result.now ≡ r = c.bits-bits.ensures.value in
-    rw (c.in_ok-plain_bytes.ensures, same) (raster_again r false)
+    rw (c.in_ok-plain_bytes.ensures, same) (by_pixels (plain_bytes r) 14 false r (subst IsShaped same c.bits-bits.ensures.shaped) (raster_again r false))
 
 pub returns-clause-fewest : goal.returns-clause-fewest
 returns-clause-fewest c =
