@@ -6,6 +6,7 @@ use Rattle.std.proofs.lemmas.List.{length-append}
 use Rattle.std.proofs.lemmas.Nat.{mul-le}
 use Rattle.big_endian.specs.Numbers.{IsSigned, number_bytes}
 use Rattle.big_endian.proofs.Bytes.{length-number_bytes}
+use Rattle.packed_rows.specs.Bitmap.{IsShaped}
 use Rattle.pk_runs.specs.Raster.{IsRaster}
 use Rattle.pk_runs.specs.declared.glyph.Glyph.{Glyph}
 use Rattle.pk_packets.specs.Items.{IsItem, head_size, is_packet, opcode, told_size}
@@ -13,9 +14,10 @@ use Rattle.pk_packets.specs.Packets.{code_of, dyn_f_of, fixed_size, raster_heigh
 use Rattle.pk_packets.specs.Fonts.{HasRaster, IsGlyphOf}
 use Rattle.pk_packets.specs.Written.{Fields, Fit, IsReadAs, extended_packet, flag_with, long_packet, packet_bytes, short_packet}
 use Rattle.pk_packets.proofs.Forms.{extended_packets_are_read_again, long_packets_are_read_again, short_packets_are_read_again}
-use Rattle.pk_packer.specs.Choice.{plain_bytes, raster_by_pixels}
-use Rattle.sample_maker.specs.PkFile.{IsMeasured, fields, has_form, is_signed, packet_item, seen_glyph}
+use Rattle.pk_packer.specs.Choice.{plain_bytes}
+use Rattle.sample_maker.specs.PkFile.{IsMeasured, fields, has_form, is_signed, packet_item}
 use Rattle.pk_packer.proofs.PlainBits.{length_of_bytes, raster_again}
+use Rattle.pk_packer.proofs.PlainLaws.{by_pixels}
 
 -- ---- the numbers that a form holds
 
@@ -92,17 +94,17 @@ pub record IsPacketFor (p : ℕ × Glyph) (bytes : List ℕ) : Type 0 where
   pub long : fixed_size (opcode bytes) ≤ told_size bytes
   pub width : raster_width bytes ≡ p.1.raster.width
   pub height : raster_height bytes ≡ p.1.raster.height
-  pub raster : HasRaster bytes (raster_by_pixels p.1.raster)
-  pub glyph : IsGlyphOf bytes (seen_glyph p.1)
+  pub raster : HasRaster bytes p.1.raster
+  pub glyph : IsGlyphOf bytes p.1
 
-says : (p : ℕ × Glyph) (e : ℕ) (bytes : List ℕ) → IsReadAs bytes (fields e p) → fixed_size (opcode bytes) ≤ told_size bytes → IsPacketFor p bytes
-says p e bytes is long =
+says : (p : ℕ × Glyph) (e : ℕ) (bytes : List ℕ) → IsShaped p.1.raster → IsReadAs bytes (fields e p) → fixed_size (opcode bytes) ≤ told_size bytes → IsPacketFor p bytes
+says p e bytes shaped is long =
     let r = p.1.raster in
-    let whole : HasRaster bytes (raster_by_pixels r) =
-    subst (λ (b : List ℕ). IsRaster b (dyn_f_of bytes) (is_first_black bytes) (raster_width bytes) (raster_height bytes) (raster_by_pixels r)) (sym is.raster)
-    (subst (λ (d : ℕ). IsRaster (plain_bytes r) d (is_first_black bytes) (raster_width bytes) (raster_height bytes) (raster_by_pixels r)) (sym is.dyn_f)
-    (subst (λ (w : ℕ). IsRaster (plain_bytes r) 14 (is_first_black bytes) w (raster_height bytes) (raster_by_pixels r)) (sym is.width)
-    (subst (λ (h : ℕ). IsRaster (plain_bytes r) 14 (is_first_black bytes) r.width h (raster_by_pixels r)) (sym is.height) (raster_again r (is_first_black bytes))))) in
+    let whole : HasRaster bytes r =
+    subst (λ (b : List ℕ). IsRaster b (dyn_f_of bytes) (is_first_black bytes) (raster_width bytes) (raster_height bytes) r) (sym is.raster)
+    (subst (λ (d : ℕ). IsRaster (plain_bytes r) d (is_first_black bytes) (raster_width bytes) (raster_height bytes) r) (sym is.dyn_f)
+    (subst (λ (w : ℕ). IsRaster (plain_bytes r) 14 (is_first_black bytes) w (raster_height bytes) r) (sym is.width)
+    (subst (λ (h : ℕ). IsRaster (plain_bytes r) 14 (is_first_black bytes) r.width h r) (sym is.height) (by_pixels (plain_bytes r) 14 (is_first_black bytes) r shaped (raster_again r (is_first_black bytes)))))) in
     record {
       item = is.item;
       kind = is.kind;
@@ -126,8 +128,8 @@ short_fits p code h = record { dyn_f = omega arith; code = omega arith; escapeme
 pub extended_fits : (p : ℕ × Glyph) → p.0 < 256 → IsHeld 2 13 196608 p.1 → Fit (fields 5 p) 1 5 2 196608
 extended_fits p code h = record { dyn_f = omega arith; code = omega arith; escapements = refl; width = h.width; height = h.height; hoff = h.hoff; voff = h.voff; raster = omega (arith, h.raster) }
 
-short_says : (p : ℕ × Glyph) → p.0 < 256 → IsHeld 1 8 1024 p.1 → IsPacketFor p (short_packet (fields 4 p))
-short_says p code h =
+short_says : (p : ℕ × Glyph) → IsShaped p.1.raster → p.0 < 256 → IsHeld 1 8 1024 p.1 → IsPacketFor p (short_packet (fields 4 p))
+short_says p shaped code h =
     let f = fields 4 p in
     let is = short_packets_are_read_again f (short_fits p code h) in
     let pl = 8 + length (plain_bytes p.1.raster) in
@@ -135,10 +137,10 @@ short_says p code h =
     let form : flag_with f (pl / 256) % 8 ≤ 3 = omega (arith, h.raster) in
     let count = number_bytes 1 (pos (pl % 256)) in
     let len = length_of_packet f (flag_with f (pl / 256)) count (number_bytes 1 (pos p.0)) 1 (omega arith) (omega arith) in
-    says p 4 (short_packet f) is (long_enough (short_packet f) 11 is.item (short_head (flag_with f (pl / 256)) low form) (omega (arith, len)))
+    says p 4 (short_packet f) shaped is (long_enough (short_packet f) 11 is.item (short_head (flag_with f (pl / 256)) low form) (omega (arith, len)))
 
-extended_says : (p : ℕ × Glyph) → p.0 < 256 → IsHeld 2 13 196608 p.1 → IsPacketFor p (extended_packet (fields 5 p))
-extended_says p code h =
+extended_says : (p : ℕ × Glyph) → IsShaped p.1.raster → p.0 < 256 → IsHeld 2 13 196608 p.1 → IsPacketFor p (extended_packet (fields 5 p))
+extended_says p shaped code h =
     let f = fields 5 p in
     let is = extended_packets_are_read_again f (extended_fits p code h) in
     let pl = 13 + length (plain_bytes p.1.raster) in
@@ -147,7 +149,7 @@ extended_says p code h =
     let form : flag_with f (4 + pl / 65536) % 8 ≤ 6 = omega (arith, h.raster) in
     let count = number_bytes 2 (pos (pl % 65536)) in
     let len = length_of_packet f (flag_with f (4 + pl / 65536)) count (number_bytes 1 (pos p.0)) 2 (omega arith) (omega arith) in
-    says p 5 (extended_packet f) is (long_enough (extended_packet f) 17 is.item (extended_head (flag_with f (4 + pl / 65536)) low above form) (omega (arith, len)))
+    says p 5 (extended_packet f) shaped is (long_enough (extended_packet f) 17 is.item (extended_head (flag_with f (4 + pl / 65536)) low above form) (omega (arith, len)))
 
 long_says : (p : ℕ × Glyph) → IsMeasured p → IsPacketFor p (long_packet (fields 12 p))
 long_says p m =
@@ -158,14 +160,14 @@ long_says p m =
     let is = long_packets_are_read_again f fit in
     let count = number_bytes 4 (pos (28 + length (plain_bytes p.1.raster))) in
     let len = length_of_packet f (flag_with f 7) count (number_bytes 4 (pos p.0)) 4 (omega arith) (omega arith) in
-    says p 12 (long_packet f) is (long_enough (long_packet f) 37 is.item refl (omega (arith, len)))
+    says p 12 (long_packet f) m.glyph.shaped is (long_enough (long_packet f) 37 is.item refl (omega (arith, len)))
 
 pub packet_says : (p : ℕ × Glyph) → IsMeasured p → IsPacketFor p (packet_item p)
 unfolding packet_item
 packet_says p m = elim (cases_Bool (has_form 1 8 1024 p.1)) [
-  | inl short ↦ rw short (short_says p m.code (held 1 8 1024 p.1 short))
+  | inl short ↦ rw short (short_says p m.glyph.shaped m.code (held 1 8 1024 p.1 short))
   | inr other ↦ elim (cases_Bool (has_form 2 13 196608 p.1)) [
-    | inl extended ↦ rw (other, extended) (extended_says p m.code (held 2 13 196608 p.1 extended))
+    | inl extended ↦ rw (other, extended) (extended_says p m.glyph.shaped m.code (held 2 13 196608 p.1 extended))
     | inr far ↦ rw (other, far) (long_says p m)
   ]
 ]

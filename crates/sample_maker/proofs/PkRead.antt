@@ -5,6 +5,7 @@ use Rattle.std.specs.Int.{div_ceil}
 use Rattle.std.specs.List.{AllByRecursion, flat_map, list_any}
 use Rattle.std.proofs.lemmas.Bool.{and_parts, cases_Bool, cond-true, cond-false, eqb-true, le-ltb, not-true, or_parts}
 use Rattle.std.proofs.lemmas.List.{length-append}
+use Rattle.pk_runs.specs.Limits.{LONGEST_SIDE, MAX_RASTER_BYTES}
 use Rattle.pk_runs.specs.declared.glyph.Glyph.{Glyph}
 use Rattle.pk_packets.specs.Preamble.{preamble_fault}
 use Rattle.pk_packets.specs.Items.{text_of}
@@ -12,8 +13,7 @@ use Rattle.pk_packets.specs.Packets.{raster_height, raster_size, raster_sum, ras
 use Rattle.pk_packets.specs.Fonts.{AreSound, IsAnswer, IsPkFile}
 use Rattle.pk_packets.proofs.Added.{answered, within_limits}
 use Rattle.pk_packets.proofs.OneMeaning.{files_are_read_one_way}
-use Rattle.pk_packer.specs.Choice.{raster_by_pixels}
-use Rattle.sample_maker.specs.PkFile.{IsMeasured, glyph_given, have_own_codes, no_ops_after, packet_item, pk_file, pk_items, pk_preamble, seen_glyph, size_sum}
+use Rattle.sample_maker.specs.PkFile.{IsMeasured, glyph_given, have_own_codes, no_ops_after, packet_item, pk_file, pk_items, pk_preamble, size_sum}
 use Rattle.sample_maker.proofs.PkForms.{IsPacketFor, packet_says}
 
 -- ---- packets after those before them, the last one first
@@ -44,18 +44,18 @@ size_of p bytes is = ap (λ h. h * div_ceil (raster_width bytes) 8) is.height �
 sum_after : (p : ℕ × Glyph) (bytes : List ℕ) (before : List (List ℕ)) → IsPacketFor p bytes → raster_sum (bytes ∷ before) ≡ raster_sum before + p.1.raster.height * div_ceil p.1.raster.width 8
 sum_after p bytes before is = ap (λ b. raster_sum before + (if b then raster_size bytes else 0)) is.kind ∙ ap (λ n. raster_sum before + n) (size_of p bytes is)
 
-sound_after : (glyphs : List (ℕ × Glyph)) (before : List (List ℕ)) → All IsMeasured glyphs → AreFor glyphs → AreSound before → raster_sum before + size_sum glyphs ≤ 8388608 → AreSound (after before glyphs)
+sound_after : (glyphs : List (ℕ × Glyph)) (before : List (List ℕ)) → All IsMeasured glyphs → AreFor glyphs → AreSound before → raster_sum before + size_sum glyphs ≤ MAX_RASTER_BYTES → AreSound (after before glyphs)
 sound_after [] before m are sound few = sound
 sound_after (p ∷ glyphs) before m are sound few =
     let item = packet_item p in
     let is = are.0 in
     let here : IsMeasured p = m 0 p (omega arith) in
-    let narrow : raster_width item ≤ 16384 = omega (arith, is.width, here.glyph.width) in
-    let low : raster_height item ≤ 16384 = omega (arith, is.height, here.glyph.height) in
+    let narrow : raster_width item ≤ LONGEST_SIDE = omega (arith, is.width, here.glyph.width) in
+    let low : raster_height item ≤ LONGEST_SIDE = omega (arith, is.height, here.glyph.height) in
     let size = size_of p item is in
     let within = within_limits item before is.long narrow low (omega (arith, few, size)) in
     sound_after glyphs (item ∷ before) (λ k q lt. m (suc k) q (omega (arith, lt))) are.1
-    (sound, is.item, λ _. (within, raster_by_pixels p.1.raster, is.raster))
+    (sound, is.item, λ _. (within, p.1.raster, is.raster))
     (omega (arith, few, sum_after p item before is))
 
 -- ---- the glyphs
@@ -64,21 +64,21 @@ none_given : (glyphs : List (ℕ × Glyph)) (c : ℕ) → list_any (λ (q : ℕ 
 none_given [] c h = refl
 none_given (q ∷ glyphs) c h =
     let parts = or_parts (q.0 == c) (list_any (λ (x : ℕ × Glyph). x.0 == c) glyphs) h in
-    cond-false (q.0 == c) (Some (seen_glyph q.1)) (glyph_given glyphs c) parts.0 ∙ none_given glyphs c parts.1
+    cond-false (q.0 == c) (Some q.1) (glyph_given glyphs c) parts.0 ∙ none_given glyphs c parts.1
 
 -- a packet more: its glyph for its code, and the other codes keep theirs
 one_more : (p : ℕ × Glyph) (before : List (List ℕ)) (c : ℕ) (old new : Option Glyph) → IsPacketFor p (packet_item p) → IsAnswer before c old
-    → new ≡ (if p.0 == c then Some (seen_glyph p.1) else old) → IsAnswer (packet_item p ∷ before) c new
+    → new ≡ (if p.0 == c then Some p.1 else old) → IsAnswer (packet_item p ∷ before) c new
 one_more p before c old new is answer e =
-    answered (packet_item p) before c (seen_glyph p.1) old new is.kind is.glyph answer (e ∙ ap (λ (k : ℕ). if k == c then Some (seen_glyph p.1) else old) (sym is.code))
+    answered (packet_item p) before c p.1 old new is.kind is.glyph answer (e ∙ ap (λ (k : ℕ). if k == c then Some p.1 else old) (sym is.code))
 
 not_replaced : (glyphs : List (ℕ × Glyph)) (before : List (List ℕ)) (c : ℕ) (old : Option Glyph) → AreFor glyphs → glyph_given glyphs c ≡ None → IsAnswer before c old → IsAnswer (after before glyphs) c old
 not_replaced [] before c old are none answer = answer
 not_replaced (p ∷ glyphs) before c old are none answer = elim (cases_Bool (p.0 == c)) [
-  | inl same ↦ let some : Some (seen_glyph p.1) ≡ None = sym (cond-true (p.0 == c) (Some (seen_glyph p.1)) (glyph_given glyphs c) same) ∙ none in cc
+  | inl same ↦ let some : Some p.1 ≡ None = sym (cond-true (p.0 == c) (Some p.1) (glyph_given glyphs c) same) ∙ none in cc
   | inr other ↦
-      let rest : glyph_given glyphs c ≡ None = sym (cond-false (p.0 == c) (Some (seen_glyph p.1)) (glyph_given glyphs c) other) ∙ none in
-      not_replaced glyphs (packet_item p ∷ before) c old are.1 rest (one_more p before c old old are.0 answer (sym (cond-false (p.0 == c) (Some (seen_glyph p.1)) old other)))
+      let rest : glyph_given glyphs c ≡ None = sym (cond-false (p.0 == c) (Some p.1) (glyph_given glyphs c) other) ∙ none in
+      not_replaced glyphs (packet_item p ∷ before) c old are.1 rest (one_more p before c old old are.0 answer (sym (cond-false (p.0 == c) (Some p.1) old other)))
 ]
 
 glyphs_there : (glyphs : List (ℕ × Glyph)) (before : List (List ℕ)) (c : ℕ) → AreFor glyphs → IsTrue (have_own_codes glyphs) → IsAnswer before c None → IsAnswer (after before glyphs) c (glyph_given glyphs c)
@@ -87,15 +87,15 @@ glyphs_there (p ∷ glyphs) before c are own answer = elim (cases_Bool (p.0 == c
   | inl same ↦
       let code : p.0 ≡ c = eqb-true p.0 c same in
       let alone : glyph_given glyphs c ≡ None = ap (glyph_given glyphs) (sym code) ∙ none_given glyphs p.0 (not-true _ (and_parts _ _ own).0) in
-      let found : glyph_given (p ∷ glyphs) c ≡ Some (seen_glyph p.1) = cond-true (p.0 == c) (Some (seen_glyph p.1)) (glyph_given glyphs c) same in
+      let found : glyph_given (p ∷ glyphs) c ≡ Some p.1 = cond-true (p.0 == c) (Some p.1) (glyph_given glyphs c) same in
       subst (λ (o : Option Glyph). IsAnswer (after before (p ∷ glyphs)) c o) (sym found)
-      (not_replaced glyphs (packet_item p ∷ before) c (Some (seen_glyph p.1)) are.1 alone
-      (one_more p before c None (Some (seen_glyph p.1)) are.0 answer (sym (cond-true (p.0 == c) (Some (seen_glyph p.1)) None same))))
+      (not_replaced glyphs (packet_item p ∷ before) c (Some p.1) are.1 alone
+      (one_more p before c None (Some p.1) are.0 answer (sym (cond-true (p.0 == c) (Some p.1) None same))))
   | inr other ↦
-      let passed : glyph_given (p ∷ glyphs) c ≡ glyph_given glyphs c = cond-false (p.0 == c) (Some (seen_glyph p.1)) (glyph_given glyphs c) other in
+      let passed : glyph_given (p ∷ glyphs) c ≡ glyph_given glyphs c = cond-false (p.0 == c) (Some p.1) (glyph_given glyphs c) other in
       subst (λ (o : Option Glyph). IsAnswer (after before (p ∷ glyphs)) c o) (sym passed)
       (glyphs_there glyphs (packet_item p ∷ before) c are.1 (and_parts _ _ own).1
-      (one_more p before c None None are.0 answer (sym (cond-false (p.0 == c) (Some (seen_glyph p.1)) None other))))
+      (one_more p before c None None are.0 answer (sym (cond-false (p.0 == c) (Some p.1) None other))))
 ]
 
 -- ---- the file
@@ -114,7 +114,7 @@ right_preamble rest =
       le-ltb (length (pk_preamble ++ rest)) 19 all,
     ) refl
 
-module _ (glyphs : List (ℕ × Glyph)) (m : All IsMeasured glyphs) (own : IsTrue (have_own_codes glyphs)) (few : size_sum glyphs ≤ 8388608) where
+module _ (glyphs : List (ℕ × Glyph)) (m : All IsMeasured glyphs) (own : IsTrue (have_own_codes glyphs)) (few : size_sum glyphs ≤ MAX_RASTER_BYTES) where
   abbrev packets : List (List ℕ)
   packets = after [] glyphs
 

@@ -1,12 +1,11 @@
 -- The PK file of given glyphs, each a plain bitmap: Rokicki, PKtype, "Packed file format".
-use Rattle.std.specs.Prelude.{◌≡◌, ℕ, ◌+◌, ◌-◌, ◌*◌, ◌/◌, ◌%◌, ◌^◌, ◌<◌, ◌≤◌, ℤ, pos, negsuc, Bool, true, false, not, ◌&&◌, ◌==◌, List, [], ◌∷◌, ◌++◌, length, nat_lt, replicate, if◌then◌else◌, Option, Some, None}
+use Rattle.std.specs.Prelude.{◌≡◌, ℕ, ◌+◌, ◌-◌, ◌*◌, ◌%◌, ◌^◌, ◌<◌, ◌≤◌, ℤ, pos, negsuc, Bool, true, false, not, ◌&&◌, ◌==◌, List, [], ◌∷◌, ◌++◌, length, nat_lt, replicate, if◌then◌else◌, Option, Some, None}
 use Rattle.std.specs.Int.{div_ceil}
 use Rattle.std.specs.List.{flat_map, list_any}
 use Rattle.big_endian.specs.Numbers.{IsSigned, number_bytes}
-use Rattle.packed_rows.specs.Bitmap.{Bitmap, IsShaped, from_fn, is_black}
-use Rattle.packed_rows.specs.Packing.{IsPadded, pixel, row_text}
+use Rattle.packed_rows.specs.Bitmap.{IsShaped}
 use Rattle.pk_runs.specs.declared.glyph.Glyph.{Glyph}
-use Rattle.pk_packer.specs.Choice.{plain_bytes, raster_by_pixels}
+use Rattle.pk_packer.specs.Choice.{plain_bytes}
 use Rattle.pk_packets.specs.Written.{Fields, Fit, extended_packet, long_packet, short_packet}
 use Rattle.pk_runs.specs.Limits.{LONGEST_SIDE}
 
@@ -22,19 +21,16 @@ abbrev pub size_sum : List (ℕ × Glyph) → ℕ
 size_sum [] = 0
 size_sum (p ∷ glyphs) = p.1.raster.height * div_ceil p.1.raster.width 8 + size_sum glyphs
 
--- a glyph, its raster by its pixels
-abbrev pub seen_glyph : Glyph → Glyph
-seen_glyph g = record { raster = raster_by_pixels g.raster; hoff = g.hoff; voff = g.voff }
-
 -- the glyph of a code, where one is given
 abbrev pub glyph_given : List (ℕ × Glyph) → ℕ → Option Glyph
 glyph_given [] c = None
-glyph_given (p ∷ glyphs) c = if p.0 == c then Some (seen_glyph p.1) else glyph_given glyphs c
+glyph_given (p ∷ glyphs) c = if p.0 == c then Some p.1 else glyph_given glyphs c
 
 -- what the types of a glyph and of a code hold
 pub record IsBounded (g : Glyph) : Type 0 where
   pub width : g.raster.width ≤ LONGEST_SIDE
   pub height : g.raster.height ≤ LONGEST_SIDE
+  pub shaped : IsShaped g.raster
   pub hoff : IsSigned 4 g.hoff
   pub voff : IsSigned 4 g.voff
 

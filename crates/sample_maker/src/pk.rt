@@ -2,10 +2,11 @@
 ghost use Rattle.std.specs.Prelude.{◌≡◌, ℕ, ◌*◌, ◌^◌, ◌<◌, ◌≤◌, ◌++◌, ◌∷◌, List, All, IfOk, IsTrue, OnOk, drop, false, length, pos, replicate, slice_index_or};
 ghost use Rattle.std.specs.List.{flat_map};
 ghost use Rattle.big_endian.specs.Numbers.{IsSigned, number_bytes};
+ghost use Rattle.packed_rows.specs.Bitmap.{IsShaped};
 ghost use Rattle.pk_packer.specs.Choice.{plain_bytes};
 ghost use Rattle.pk_packets.specs.Fonts.{IsAnswer, IsPkFile};
 ghost use Rattle.pk_packets.specs.Written.{extended_packet, long_packet, short_packet};
-ghost use Rattle.pk_runs.specs.Limits.{LONGEST_SIDE};
+ghost use Rattle.pk_runs.specs.Limits.{LONGEST_SIDE, MAX_RASTER_BYTES};
 ghost use Rattle.sample_maker.specs.PkFile.{IsBounded, IsMeasured, fields, glyph_given, has_form, have_own_codes, is_signed, no_ops_after, packet_item, pk_file, sides, size_sum};
 
 use pk_packer::{append_plain, plain_size};
@@ -23,6 +24,7 @@ fn byte_count(raster: &Raster) -> usize
     ensures few { result ≤ 2 ^ 25 }
     ensures narrow { raster.now.width ≤ LONGEST_SIDE }
     ensures low { raster.now.height ≤ LONGEST_SIDE }
+    ensures shaped { IsShaped raster.now }
 {
     plain_size(raster.bits())
 }
@@ -88,12 +90,14 @@ fn two_bytes_hold(number: i32) -> bool
 
 // Whether the short form holds the numbers of a glyph.
 fn is_short(glyph: &Glyph) -> bool
-    ensures { result ≡ has_form 1 8 1024 glyph.now }
+    ensures form { result ≡ has_form 1 8 1024 glyph.now }
+    ensures shaped { IsShaped glyph.now.raster }
 {
     let raster = &glyph.raster;
     let sides = raster.width() < 256 && raster.height() < 256;
     let offsets = one_byte_holds(glyph.hoff) && one_byte_holds(glyph.voff);
-    sides && offsets && 8 + byte_count(raster) < 1024
+    let length = 8 + byte_count(raster);
+    sides && offsets && length < 1024
 }
 
 // Whether the extended form does. Each side fits there.
@@ -201,7 +205,7 @@ fn append_closing(out: &mut Vec<u8>) -> Result<(), NoMemory>
 /// `NoMemory` when out of memory. Rokicki, PKtype, "Packed file format".
 pub fn pk_bytes(alloc: Global, glyphs: &[(u8, Glyph)]) -> Result<Vec<u8>, NoMemory>
     requires codes { IsTrue (have_own_codes glyphs.now) }
-    requires few { size_sum glyphs.now ≤ 8388608 }
+    requires few { size_sum glyphs.now ≤ MAX_RASTER_BYTES }
     ensures bytes { IfOk result (λ bytes. bytes.items ≡ pk_file glyphs.now) }
     ensures sound { IfOk result (λ bytes. (items : List (List ℕ)) × IsPkFile bytes.items items) }
     ensures read_again { IfOk result (λ bytes. (items : List (List ℕ)) → IsPkFile bytes.items items
