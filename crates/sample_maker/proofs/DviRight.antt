@@ -1,9 +1,9 @@
 -- Readings in which nothing is wrong with a command.
-use Rattle.std.proofs.Common.{◌≡◌, ◌∙◌, ◌⊎◌, inl, inr, ℕ, zero, suc, ◌+◌, ◌^◌, ◌<◌, ◌≤◌, ℤ, pos, negsuc, Bool, true, false, List, [], ◌∷◌, ◌++◌, length, Option, Some, None, refl, sym, ap, subst, arith}
-use Rattle.std.specs.Prelude.{All, IsTrue, not, ◌&&◌, ◌==◌, nat_eq, if◌then◌else◌, slice_index, unsigned_abs}
+use Rattle.std.proofs.Common.{◌≡◌, ◌∙◌, ◌⊎◌, inl, inr, ℕ, zero, suc, ◌+◌, ◌^◌, ◌<◌, ◌≤◌, ℤ, pos, Bool, true, false, List, [], ◌∷◌, ◌++◌, length, Option, Some, None, refl, sym, ap, subst, arith}
+use Rattle.std.specs.Prelude.{All, IsTrue, not, ◌&&◌, ◌==◌, nat_eq, if◌then◌else◌, slice_index}
 use Rattle.std.specs.List.{AllByRecursion, flat_map, list_any}
-use Rattle.std.specs.Cmp.Lexicographic.{pointwise, same_text}
-use Rattle.std.proofs.lemmas.Bool.{and_parts, and_from, cases_Bool, cond-true, cond-false, eq-eqb, eqb-true, lt-leb, lt-ltb, not-true, or_parts}
+use Rattle.std.specs.Cmp.Lexicographic.{pointwise}
+use Rattle.std.proofs.lemmas.Bool.{and_parts, and_from, cases_Bool, cond-true, cond-false, eq-eqb, lt-leb, lt-ltb, not-true, or_parts}
 use Rattle.big_endian.specs.Numbers.{IsSigned, int_eq}
 use Rattle.big_endian.proofs.Integers.{int_eq_same, int_eq_refl}
 use Rattle.outside.specs.declared.keys.FontKey.{FontKey}
@@ -16,7 +16,6 @@ use Rattle.dvi_commands.specs.declared.command.Context.TheVariants as context
 use Rattle.page_index.specs.Limits.{MOST_PAGES}
 use Rattle.page_index.specs.Judged.{agrees_with, bop_fault, define_fault, is_same_font, is_size}
 use Rattle.page_index.specs.Document.{Reading, Sound, context_after, end_of, font_table, is_eop, key_of, key_or, last_bop, whole_fault}
-use Rattle.page_index.specs.declared.faults.DocFault.TheVariants.{FontClash, FontDef}
 use Rattle.page_index.proofs.Keys.{key_is, sizes_agree}
 use Rattle.outside.specs.Limits.{SIZES}
 use Rattle.sample_maker.specs.DviFile.{DefineRightly, IsFontSpelled, IsPageText, IsRightDefinition, IsWritable, are_apart, beginning, after, after_text, definition, with_fonts, with_page, with_pages}

@@ -1,16 +1,13 @@
 -- The laws of made PK files.
-use Rattle.std.proofs.Common.{◌≡◌, ◌∙◌, ℕ, ◌+◌, ◌*◌, ◌^◌, ◌<◌, ℤ, pos, negsuc, Bool, true, false, List, [], ◌∷◌, length, get_or, replicate, sym, ap, arith}
+use Rattle.std.proofs.Common.{◌≡◌, ℕ, ◌+◌, ◌*◌, ◌^◌, ◌<◌, ℤ, pos, negsuc, true, false, ◌∷◌, length, replicate, arith}
 use Rattle.std.specs.Prelude.{nat_lt, ◌&&◌}
 use Rattle.std.proofs.lemmas.Bool.{and_from, false_from_ne_true, lt-ltb}
-use Rattle.std.proofs.lemmas.List.{ext_get_or, length-append, length-replicate}
+use Rattle.std.proofs.lemmas.List.{length-append, length-replicate}
 use Rattle.big_endian.specs.Numbers.{IsSigned}
-use Rattle.packed_rows.specs.Bitmap.{Bitmap, from_fn, is_black}
-use Rattle.packed_rows.proofs.Lists.{get_or-from_fn, length-from_fn}
 use Rattle.pk_runs.specs.declared.glyph.Glyph.{Glyph}
 use Rattle.pk_packets.specs.Written.{Fit}
 use Rattle.pk_packer.specs.Choice.{plain_bytes}
 use Rattle.sample_maker.specs.PkFile.{FilesAreMultiplesOfFour, PacketsHaveTheFirstForm, fields, has_form, is_signed, no_ops_after, pk_file, pk_items}
-use Rattle.pk_packer.proofs.PlainBits.{padded_bytes, pixel_again}
 use Rattle.sample_maker.proofs.PkForms.{extended_fits, held, short_fits}
 use Rattle.sample_maker.proofs.PkAppended.{extended_item, long_item, short_item}
 

@@ -1,10 +1,9 @@
 -- The PK file of given glyphs, each a plain bitmap: Rokicki, PKtype, "Packed file format".
-use Rattle.std.specs.Prelude.{◌≡◌, ℕ, ◌+◌, ◌-◌, ◌*◌, ◌/◌, ◌%◌, ◌^◌, ◌<◌, ◌≤◌, ℤ, pos, negsuc, Bool, true, false, not, ◌&&◌, ◌==◌, List, [], ◌∷◌, ◌++◌, length, nat_lt, replicate, if◌then◌else◌, Option, Some, None}
+use Rattle.std.specs.Prelude.{◌≡◌, ℕ, ◌+◌, ◌-◌, ◌*◌, ◌%◌, ◌^◌, ◌<◌, ◌≤◌, ℤ, pos, negsuc, Bool, true, false, not, ◌&&◌, ◌==◌, List, [], ◌∷◌, ◌++◌, length, nat_lt, replicate, if◌then◌else◌, Option, Some, None}
 use Rattle.std.specs.Int.{div_ceil}
 use Rattle.std.specs.List.{flat_map, list_any}
 use Rattle.big_endian.specs.Numbers.{IsSigned, number_bytes}
-use Rattle.packed_rows.specs.Bitmap.{Bitmap, IsShaped, from_fn, is_black}
-use Rattle.packed_rows.specs.Packing.{IsPadded, pixel, row_text}
+use Rattle.packed_rows.specs.Bitmap.{IsShaped}
 use Rattle.pk_runs.specs.declared.glyph.Glyph.{Glyph}
 use Rattle.pk_packer.specs.Choice.{plain_bytes}
 use Rattle.pk_packets.specs.Written.{Fields, Fit, extended_packet, long_packet, short_packet}

@@ -1,0 +1,10 @@
+pub mod Sides
+pub mod DotFont
+pub mod PaintedPixels
+pub mod OneItem
+pub mod OneMeaning
+pub mod CommandSums
+pub mod DrawingSteps
+pub mod ItemsRead
+pub mod BothWays
+pub mod OutsidePixels
