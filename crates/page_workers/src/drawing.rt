@@ -16,7 +16,7 @@ use crate::paper::blank_page;
 use crate::worker::{PageResult, Worker};
 use font_decode::Desk;
 use outside::FontSource;
-use page_draw::{PageStop, draw_on};
+use page_draw::{IndexedPage, PageStop, draw_on};
 use raster_page::Page;
 use std::alloc::Global;
 use std::mem;
@@ -47,7 +47,13 @@ fn draw_on_paper<R: Wait, F: FontSource>(
         (asked_at worker.new.seat) (trail_of F.loads worker.old) (trail_of F.loads worker.new) }
 {
     match blank_page(alloc, &mut worker.paper, job.sheet) {
-        Ok(paper) => draw_on(rt, alloc, worker, job.bench, job.index, page, job.sheet, paper),
+        Ok(paper) => {
+            let wanted = IndexedPage {
+                index: job.index,
+                number: page,
+            };
+            draw_on(rt, alloc, worker, job.bench, wanted, job.sheet, paper)
+        }
         Err(_) => Err(PageStop::NoMemory),
     }
 }
