@@ -1,7 +1,8 @@
 -- A step that is no flat command leaves the same to do.
 use Rattle.std.proofs.Common.{◌≡◌, ◌≤◌, ◌<◌, ◌∙◌, ℕ, refl, sym, ap, subst, arith, Option, None, Result, Err}
 use Rattle.std.specs.Prelude.{IsErrOf}
-use Rattle.drift_rules.specs.Position.{Char, FlatCommand, State}
+use Rattle.drift_rules.specs.Position.{Char, FlatCommand, State, after}
+use Rattle.pixel_round.specs.Pixels.{Fraction}
 use Rattle.drift_rules.specs.declared.faults.PenFault.{PenFault}
 use Rattle.drift_rules.specs.declared.flat.Flat.{Flat}
 use Rattle.pk_runs.specs.declared.glyph.Glyph.{Glyph}
@@ -67,6 +68,12 @@ pub handed_on : {T U : Type 0} (e x : PageStop) → IsErrOf {T = T} (Err e) x �
 handed_on e x h =
     let same : e ≡ x = cc in
     ap Err same
+
+-- ---- the pen's stop, by what is equal
+
+pub stop_as : (k c : Fraction) (s : State) (f : FlatCommand) (place at : ℕ) (why : PageStop) → k ≡ c → place ≡ at → IsPenStop (after k s f) place why → IsPenStop (after c s f) at why
+stop_as k c s f place at why conv same stop =
+    subst (λ (x : ℕ). IsPenStop (after c s f) x why) same (subst (λ (x : Fraction). IsPenStop (after x s f) place why) conv stop)
 
 -- ---- a flat command that is no character has no glyph
 

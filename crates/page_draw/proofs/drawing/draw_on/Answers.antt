@@ -38,7 +38,7 @@ pub returns-in_err-step-clause-stop : goal.returns-in_err-step-clause-stop
 returns-in_err-step-clause-stop g c =
     let desk = g.D.Desk in
     let i = c.steps.invariant in
-    let p = err_from_is_err_and c.from_residual.result c.from_residual.ensures.1 in
+    let p = err_from_is_err_and c.from_residual-in_err-step.result c.from_residual-in_err-step.ensures.1 in
     rw (p.1, p.2) (c.in_err-step.ensures.stop (desk.library c.args.desk.now) (desk.units c.args.desk.now) c.args.wanted.index.now c.args.wanted.number _ _ i.conv i.so_far)
 
 pub returns-in_err-look_up-in-Ask-clause-stop : goal.returns-in_err-look_up-in-Ask-clause-stop
@@ -108,7 +108,7 @@ returns-in_default-clause-stop g c =
 
 pub returns-in_err-step-clause-cause : goal.returns-in_err-step-clause-cause
 returns-in_err-step-clause-cause g c =
-    let p = err_from_is_err_and c.from_residual.result c.from_residual.ensures.1 in
+    let p = err_from_is_err_and c.from_residual-in_err-step.result c.from_residual-in_err-step.ensures.1 in
     rw (p.1, p.2) (record { never_falls = c.steps.invariant.faults; rose = λ h. absurd (c.in_err-step.ensures.source (handed_on _ _ h)) })
 
 pub returns-in_err-step-clause-trail : goal.returns-in_err-step-clause-trail

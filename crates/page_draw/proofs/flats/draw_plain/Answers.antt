@@ -1,4 +1,5 @@
-use Rattle.std.proofs.Common.{◌∙◌, ◌++◌, ap₂, arith, refl, sym, Option}
+use Rattle.std.proofs.Common.{◌≡◌, ◌∙◌, ◌++◌, ap₂, arith, refl, subst, sym, ℤ, Option, Ok, Err}
+use Rattle.drift_rules.specs.Position.{Char, after}
 use Rattle.drift_rules.specs.declared.flat.Mark.{Mark}
 use Rattle.drift_rules.proofs.Held.{kept}
 use Rattle.pk_runs.specs.declared.glyph.Glyph.{Glyph}
@@ -10,7 +11,7 @@ pub returns-in-Ok-clause-moved : goal.returns-in-Ok-clause-moved
 returns-in-Ok-clause-moved c = λ key.
     let same = kept c.args.plain.width (omega (arith, c.requires.reach)) in
     let moved = c.in-Ok.ensures.moved key c.args.plain.code in
-    rw same at moved
+    subst (λ (x : ℤ). after c.args.pen.now.conv c.args.pen.now.state (Char key c.args.plain.code x c.args.plain.put) ≡ Ok c.character.new.self.state) same moved
 
 pub returns-in-Ok-clause-inked : goal.returns-in-Ok-clause-inked
 returns-in-Ok-clause-inked c = λ key done has.
@@ -22,4 +23,5 @@ pub returns-in-Err-clause-stop : goal.returns-in-Err-clause-stop
 returns-in-Err-clause-stop c = λ key.
     let same = kept c.args.plain.width (omega (arith, c.requires.reach)) in
     let fault = c.in-Err.ensures.fault key c.args.plain.code in
-    (c.in-Err.fault, rw same at fault, refl, refl)
+    let found = subst (λ (x : ℤ). after c.args.pen.now.conv c.args.pen.now.state (Char key c.args.plain.code x c.args.plain.put) ≡ Err c.in-Err.fault) same fault in
+    (c.in-Err.fault, found, refl, refl)

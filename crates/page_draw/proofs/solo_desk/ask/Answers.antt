@@ -7,93 +7,93 @@ use Rattle.page_draw.specs.SoloDesks.{part_of}
 use Rattle.page_draw.proofs.Alone.{alone_later, asked_grew, refused_trail, hit_trail, released_trail, ended_asked, ended_alone, which, kept_trail, on_ok, on_err, never_busy}
 use Rattle.page_draw.proofs.solo_desk.ask.Goals as goal
 
-pub returns-in_err-look-clause-trail : goal.returns-in_err-look-clause-trail
-returns-in_err-look-clause-trail g c =
+pub returns-in_err-font-clause-trail : goal.returns-in_err-font-clause-trail
+returns-in_err-font-clause-trail g c =
     let k = arc_value c.args.key.now in
     let l = g.F.FontSource.loads c.args.source.now in
-    refused_trail _ k c.args.cache.now c.look.new.self l l c.look.ensures.capacity c.in_err-look.ensures.refused refl
+    refused_trail _ k c.args.cache.now c.look.new.self l l c.look.ensures.capacity (rw c.in_err-font.ensures.refused refl) refl
 
 pub unreachable-requires : goal.unreachable-requires
 unreachable-requires g c =
     let k = arc_value c.args.key.now in
-    let noted = rw c.in-Busy.is at c.in_ok-look.ensures.noted in
-    never_busy c.args.cache.now c.look.new.self k c.requires.alone.own noted c.in_ok-look.ensures.reached c.solo.ensures.busy
+    let noted = rw c.in-Busy.is at c.in_ok-font.ensures.noted in
+    never_busy c.args.cache.now c.look.new.self k c.requires.alone.own noted c.in_ok-font.ensures.reached c.solo.ensures.busy
 
 pub returns-in-Hit-clause-alone : goal.returns-in-Hit-clause-alone
 returns-in-Hit-clause-alone g c =
     let k = arc_value c.args.key.now in
-    let noted = rw c.in-Hit.is at c.in_ok-look.ensures.noted in
-    let taken = rw c.in-Hit.is at c.in_ok-look.ensures.taken in
+    let noted = rw c.in-Hit.is at c.in_ok-font.ensures.noted in
+    let taken = rw c.in-Hit.is at c.in_ok-font.ensures.taken in
     let l = g.F.FontSource.library c.args.source.now in
-    alone_later c.args.cache.now c.look.new.self (call 1 k Hit ∷ []) noted c.in_ok-look.ensures.capacity l l c.args.units.now c.requires.alone refl
-    (ap (λ m. claim_of 1 m.claims) taken.changed ∙ c.requires.alone.free) (refl, tt) (c.in_ok-look.ensures.stands (part_of l c.args.units.now c.args.cache.now.capacity))
+    alone_later c.args.cache.now c.look.new.self (call 1 k Hit ∷ []) noted c.in_ok-font.ensures.capacity l l c.args.units.now c.requires.alone refl
+    (ap (λ m. claim_of 1 m.claims) taken.changed ∙ c.requires.alone.free) (refl, tt) (c.in_ok-font.ensures.stands (part_of l c.args.units.now c.args.cache.now.capacity))
 
 pub returns-in-Hit-clause-asked : goal.returns-in-Hit-clause-asked
 returns-in-Hit-clause-asked g c =
     let k = arc_value c.args.key.now in
-    let noted = rw c.in-Hit.is at c.in_ok-look.ensures.noted in
-    asked_grew c.args.cache.now c.look.new.self (call 1 k Hit ∷ []) noted c.in_ok-look.ensures.capacity (k ∷ []) refl
+    let noted = rw c.in-Hit.is at c.in_ok-font.ensures.noted in
+    asked_grew c.args.cache.now c.look.new.self (call 1 k Hit ∷ []) noted c.in_ok-font.ensures.capacity (k ∷ []) refl
 
 pub returns-in-Hit-clause-trail : goal.returns-in-Hit-clause-trail
 returns-in-Hit-clause-trail g c =
     let k = arc_value c.args.key.now in
-    let noted = rw c.in-Hit.is at c.in_ok-look.ensures.noted in
+    let noted = rw c.in-Hit.is at c.in_ok-font.ensures.noted in
     let l = g.F.FontSource.loads c.args.source.now in
-    hit_trail _ k c.args.cache.now c.look.new.self l l c.in_ok-look.ensures.capacity noted refl
+    hit_trail _ k c.args.cache.now c.look.new.self l l c.in_ok-font.ensures.capacity noted refl
 
-pub returns-in-Ok-load-clause-alone : goal.returns-in-Ok-load-clause-alone
-returns-in-Ok-load-clause-alone g c =
+pub returns-in-Ok-clause-alone : goal.returns-in-Ok-clause-alone
+returns-in-Ok-clause-alone g c =
     let k = arc_value c.args.key.now in
-    let noted = rw c.in-Claimed.is at c.in_ok-look.ensures.noted in
-    let taken = rw c.in-Claimed.is at c.in_ok-look.ensures.taken in
+    let noted = rw c.in-Claimed.is at c.in_ok-font.ensures.noted in
+    let taken = rw c.in-Claimed.is at c.in_ok-font.ensures.taken in
     let l = g.F.FontSource.library c.args.source.now in
     let part = part_of l c.args.units.now c.args.cache.now.capacity in
-    let ended = which k c.args.cache.now c.look.new.self c.keep.new.cache noted (c.keep.ensures.capacity ∙ c.in_ok-look.ensures.capacity) c.keep.result c.keep.ensures.filled c.keep.ensures.released in
-    ended_alone k c.args.cache.now c.look.new.self c.keep.new.cache noted (c.keep.ensures.capacity ∙ c.in_ok-look.ensures.capacity) ended.0 l (g.F.FontSource.library c.load.new.source) c.args.units.now c.requires.alone c.load.ensures.library
+    let ended = which k c.args.cache.now c.look.new.self c.keep.new.cache noted (c.keep.ensures.capacity ∙ c.in_ok-font.ensures.capacity) c.keep.result c.keep.ensures.filled c.keep.ensures.released in
+    ended_alone k c.args.cache.now c.look.new.self c.keep.new.cache noted (c.keep.ensures.capacity ∙ c.in_ok-font.ensures.capacity) ended.0 l (g.F.FontSource.library c.load.new.source) c.args.units.now c.requires.alone c.load.ensures.library
     (ap (λ m. m.claims) taken.changed) c.keep.ensures.claims ended.2
-    (λ s. c.keep.ensures.stands part (c.in_ok-look.ensures.stands part s) c.in-Ok-load.ensures.found)
+    (λ s. c.keep.ensures.stands part (c.in_ok-font.ensures.stands part s) c.in-Ok.ensures.found)
 
-pub returns-in-Ok-load-clause-asked : goal.returns-in-Ok-load-clause-asked
-returns-in-Ok-load-clause-asked g c =
+pub returns-in-Ok-clause-asked : goal.returns-in-Ok-clause-asked
+returns-in-Ok-clause-asked g c =
     let k = arc_value c.args.key.now in
-    let noted = rw c.in-Claimed.is at c.in_ok-look.ensures.noted in
-    let ended = which k c.args.cache.now c.look.new.self c.keep.new.cache noted (c.keep.ensures.capacity ∙ c.in_ok-look.ensures.capacity) c.keep.result c.keep.ensures.filled c.keep.ensures.released in
-    on_ok _ c.keep.result (ended_asked k c.args.cache.now c.look.new.self c.keep.new.cache noted (c.keep.ensures.capacity ∙ c.in_ok-look.ensures.capacity) ended.0 ended.1 ended.2)
+    let noted = rw c.in-Claimed.is at c.in_ok-font.ensures.noted in
+    let ended = which k c.args.cache.now c.look.new.self c.keep.new.cache noted (c.keep.ensures.capacity ∙ c.in_ok-font.ensures.capacity) c.keep.result c.keep.ensures.filled c.keep.ensures.released in
+    on_ok _ c.keep.result (ended_asked k c.args.cache.now c.look.new.self c.keep.new.cache noted (c.keep.ensures.capacity ∙ c.in_ok-font.ensures.capacity) ended.0 ended.1 ended.2)
 
-pub returns-in-Ok-load-clause-refused : goal.returns-in-Ok-load-clause-refused
-returns-in-Ok-load-clause-refused g c =
+pub returns-in-Ok-clause-refused : goal.returns-in-Ok-clause-refused
+returns-in-Ok-clause-refused g c =
     let k = arc_value c.args.key.now in
-    let noted = rw c.in-Claimed.is at c.in_ok-look.ensures.noted in
-    let ended = which k c.args.cache.now c.look.new.self c.keep.new.cache noted (c.keep.ensures.capacity ∙ c.in_ok-look.ensures.capacity) c.keep.result c.keep.ensures.filled c.keep.ensures.released in
-    on_err _ c.keep.result (inr (ended_asked k c.args.cache.now c.look.new.self c.keep.new.cache noted (c.keep.ensures.capacity ∙ c.in_ok-look.ensures.capacity) ended.0 ended.1 ended.2))
+    let noted = rw c.in-Claimed.is at c.in_ok-font.ensures.noted in
+    let ended = which k c.args.cache.now c.look.new.self c.keep.new.cache noted (c.keep.ensures.capacity ∙ c.in_ok-font.ensures.capacity) c.keep.result c.keep.ensures.filled c.keep.ensures.released in
+    on_err _ c.keep.result (inr (ended_asked k c.args.cache.now c.look.new.self c.keep.new.cache noted (c.keep.ensures.capacity ∙ c.in_ok-font.ensures.capacity) ended.0 ended.1 ended.2))
 
-pub returns-in-Ok-load-clause-trail : goal.returns-in-Ok-load-clause-trail
-returns-in-Ok-load-clause-trail g c =
+pub returns-in-Ok-clause-trail : goal.returns-in-Ok-clause-trail
+returns-in-Ok-clause-trail g c =
     let k = arc_value c.args.key.now in
-    let noted = rw c.in-Claimed.is at c.in_ok-look.ensures.noted in
-    kept_trail k c.args.cache.now c.look.new.self c.keep.new.cache noted (c.keep.ensures.capacity ∙ c.in_ok-look.ensures.capacity) c.keep.result c.keep.ensures.filled c.keep.ensures.released
+    let noted = rw c.in-Claimed.is at c.in_ok-font.ensures.noted in
+    kept_trail k c.args.cache.now c.look.new.self c.keep.new.cache noted (c.keep.ensures.capacity ∙ c.in_ok-font.ensures.capacity) c.keep.result c.keep.ensures.filled c.keep.ensures.released
     (g.F.FontSource.loads c.args.source.now) (g.F.FontSource.loads c.load.new.source) c.load.ensures.loads
 
 pub returns-in-Err-clause-alone : goal.returns-in-Err-clause-alone
 returns-in-Err-clause-alone g c =
     let k = arc_value c.args.key.now in
-    let noted = rw c.in-Claimed.is at c.in_ok-look.ensures.noted in
-    let taken = rw c.in-Claimed.is at c.in_ok-look.ensures.taken in
+    let noted = rw c.in-Claimed.is at c.in_ok-font.ensures.noted in
+    let taken = rw c.in-Claimed.is at c.in_ok-font.ensures.taken in
     let l = g.F.FontSource.library c.args.source.now in
     let part = part_of l c.args.units.now c.args.cache.now.capacity in
-    ended_alone k c.args.cache.now c.look.new.self c.release.new.self noted (c.release.ensures.capacity ∙ c.in_ok-look.ensures.capacity) Released l (g.F.FontSource.library c.load.new.source) c.args.units.now c.requires.alone c.load.ensures.library
+    ended_alone k c.args.cache.now c.look.new.self c.release.new.self noted (c.release.ensures.capacity ∙ c.in_ok-font.ensures.capacity) Released l (g.F.FontSource.library c.load.new.source) c.args.units.now c.requires.alone c.load.ensures.library
     (ap (λ m. m.claims) taken.changed) (ap (λ m. m.claims) c.release.ensures.taken.changed) c.release.ensures.noted
-    (λ s. c.release.ensures.stands part (c.in_ok-look.ensures.stands part s))
+    (λ s. c.release.ensures.stands part (c.in_ok-font.ensures.stands part s))
 
 pub returns-in-Err-clause-refused : goal.returns-in-Err-clause-refused
 returns-in-Err-clause-refused g c =
     let k = arc_value c.args.key.now in
-    let noted = rw c.in-Claimed.is at c.in_ok-look.ensures.noted in
-    inr (ended_asked k c.args.cache.now c.look.new.self c.release.new.self noted (c.release.ensures.capacity ∙ c.in_ok-look.ensures.capacity) Released refl c.release.ensures.noted)
+    let noted = rw c.in-Claimed.is at c.in_ok-font.ensures.noted in
+    inr (ended_asked k c.args.cache.now c.look.new.self c.release.new.self noted (c.release.ensures.capacity ∙ c.in_ok-font.ensures.capacity) Released refl c.release.ensures.noted)
 
 pub returns-in-Err-clause-trail : goal.returns-in-Err-clause-trail
 returns-in-Err-clause-trail g c =
     let k = arc_value c.args.key.now in
-    let noted = rw c.in-Claimed.is at c.in_ok-look.ensures.noted in
-    released_trail _ k c.args.cache.now c.look.new.self c.release.new.self (g.F.FontSource.loads c.args.source.now) (g.F.FontSource.loads c.load.new.source) noted (c.release.ensures.capacity ∙ c.in_ok-look.ensures.capacity) c.load.ensures.loads
+    let noted = rw c.in-Claimed.is at c.in_ok-font.ensures.noted in
+    released_trail _ k c.args.cache.now c.look.new.self c.release.new.self (g.F.FontSource.loads c.args.source.now) (g.F.FontSource.loads c.load.new.source) noted (c.release.ensures.capacity ∙ c.in_ok-font.ensures.capacity) c.load.ensures.loads
     (λ w. cc) c.release.ensures.noted
