@@ -25,68 +25,73 @@ use crate::opening::open_cache;
 use crate::rounds::write_rounds;
 use crate::tally::Tally;
 use cache_core::Entry;
+use command_line::Settings;
 use font_cache::CacheSeat;
 use font_decode::Decoded;
 use outside::{FontSource, Output};
-use page_draw::Sheet;
 use page_index::Index;
 use page_workers::{Bench, Worker, drop_paper, join_all, seat_all};
 use std::alloc::Global;
 use std::sync::Wait;
 use std::thread::Threads;
 
-/// Draws and writes the pages with a new bench, whose seat 0 is `first`, and gives the history of
-/// its cache.
+/// Draws and writes the pages with a new bench and the first seat of its cache, and gives the
+/// history of this cache.
 pub fn draw_over<R: Threads + Wait + Sync, F: FontSource + Send, O: Output>(
     rt: &R,
     alloc: Global,
-    workers: &mut [Worker<F>],
-    bench: Bench,
-    first: CacheSeat<Decoded>,
+    settings: &Settings,
     index: &Index,
-    sheet: &Sheet,
+    workers: &mut [Worker<F>],
+    opening: (Bench, CacheSeat<Decoded>),
     out: &mut O,
-    counted: bool,
 ) -> (Ending, Tally, Vec<Entry>)
     ghost told: { Option FileTable }
     requires some { 1 ≤ length workers.old }
     requires few { length workers.old ≤ 32 }
-    requires sheet { IsDrawable sheet.now }
-    requires units { document_units index.now.res index.now.reading ≡ Some bench.units }
-    requires sound { AreUnits bench.units }
-    requires lock { first.lock ≡ bench.cache }
-    requires opening { first.view
+    requires sheet { IsDrawable settings.now.sheet }
+    requires units { document_units index.now.res index.now.reading ≡ Some opening.0.units }
+    requires sound { AreUnits opening.0.units }
+    requires lock { opening.1.lock ≡ opening.0.cache }
+    requires opening { opening.1.view
         ≡ opening_view
-        (record { capacity = first.view.part.capacity; units = bench.units; library = told }) }
+        (record {
+          capacity = opening.1.view.part.capacity;
+          units = opening.0.units;
+          library = told;
+        }) }
     requires fresh { (k : ℕ) (d : _) → k < length workers.old
         → IsFresh F.library told (slice_index_or workers.old k d) }
     ensures ends { (values : List PageValue)
-        × AreValues (record { library = told; res = index.now.res; sheet = sheet.now })
+        × AreValues (record { library = told; res = index.now.res; sheet = settings.now.sheet })
         index.now.reading values
         × EndsPages (O.written out.old) (O.written out.new)
         (Rose (O.faults out.old) (O.faults out.new))
         (Unit {0}) (seen_ending result.0) index.now.reading values
-        × IsTally counted (O.written out.old) (O.written out.new) result.1 (seen_ending result.0)
-        values }
+        × IsTally settings.now.summary (O.written out.old) (O.written out.new) result.1
+        (seen_ending result.0) values }
     ensures cause { (page : ℕ) → seen_ending result.0 ≡ Source page
         → (k : ℕ) × (k < length workers.old)
         × ((d : _) → FailedAt F.faults page (slice_index_or workers.old k d)
         (slice_index_or workers.new k d)) }
     ensures shares { DrewShares (pages_begun index.now.reading) (length workers.old)
         (seen_ending result.0) (Some result.1) workers.new }
-    ensures legal { Legal first.view.part.capacity (calls_of result.2.items) }
+    ensures legal { Legal opening.1.view.part.capacity (calls_of result.2.items) }
     ensures made { AllMade (length workers.old + 1) (calls_of result.2.items) }
     ensures first { own 0 (calls_of result.2.items) ≡ [] }
     ensures few_claims { FewClaims (calls_of result.2.items) }
     ensures workers { (k : ℕ) (d : _) → k < length workers.old
         → Ran (IsDrawnThrough (length workers.old) (seen_ending result.0))
         F.library F.faults F.loads
-        (record { library = told; res = index.now.res; sheet = sheet.now }) index.now.reading
+        (record { library = told; res = index.now.res; sheet = settings.now.sheet })
+        index.now.reading
         (calls_of result.2.items) (k + 1)
         (slice_index_or workers.old k d) (slice_index_or workers.new k d) }
     ensures output { O.faults out.old ≤ O.faults out.new }
 {
-    let mut first = first;
+    let sheet = &settings.sheet;
+    let counted = settings.summary;
+    let (bench, mut first) = opening;
     seat_all(&bench.cache, &mut first, workers);
     let (ending, tally) = write_rounds(rt, alloc, workers, &bench, index, sheet, out, counted);
     join_all(&bench.cache, &mut first, workers);
@@ -100,59 +105,56 @@ pub fn draw_over<R: Threads + Wait + Sync, F: FontSource + Send, O: Output>(
 pub fn draw_at_once<R: Threads + Wait + Sync, F: FontSource + Send, O: Output>(
     rt: &R,
     alloc: Global,
-    workers: &mut [Worker<F>],
-    capacity: usize,
+    settings: &Settings,
     index: &Index,
-    sheet: &Sheet,
+    workers: &mut [Worker<F>],
     out: &mut O,
     history: &mut Vec<Entry>,
-    counted: bool,
 ) -> (Ending, Option<Tally>)
     ghost told: { Option FileTable }
     requires some { 1 ≤ length workers.old }
     requires few { length workers.old ≤ 32 }
-    requires some_font { 1 ≤ capacity }
-    requires few_fonts { capacity ≤ 256 }
-    requires sheet { IsDrawable sheet.now }
+    requires some_font { 1 ≤ settings.now.cache }
+    requires few_fonts { settings.now.cache ≤ 256 }
+    requires sheet { IsDrawable settings.now.sheet }
     requires empty { history.old.items ≡ [] }
     requires fresh { (k : ℕ) (d : _) → k < length workers.old
         → IsFresh F.library told (slice_index_or workers.old k d) }
     requires seatless { (k : ℕ) (d : _) → k < length workers.old
         → (slice_index_or workers.old k d).seat ≡ None }
     ensures ends { (values : List PageValue)
-        × AreValues (record { library = told; res = index.now.res; sheet = sheet.now })
+        × AreValues (record { library = told; res = index.now.res; sheet = settings.now.sheet })
         index.now.reading values
         × EndsPages (O.written out.old) (O.written out.new)
         (Rose (O.faults out.old) (O.faults out.new))
         (Unit {0}) (seen_ending result.0) index.now.reading values
-        × Tallied counted (O.written out.old) (O.written out.new) result.1 (seen_ending result.0)
-        values }
+        × Tallied settings.now.summary (O.written out.old) (O.written out.new) result.1
+        (seen_ending result.0) values }
     ensures cause { (page : ℕ) → seen_ending result.0 ≡ Source page
         → (k : ℕ) × (k < length workers.old)
         × ((d : _) → FailedAt F.faults page (slice_index_or workers.old k d)
         (slice_index_or workers.new k d)) }
     ensures shares { DrewShares (pages_begun index.now.reading) (length workers.old)
         (seen_ending result.0) result.1 workers.new }
-    ensures legal { Legal capacity (calls_of history.new.items) }
+    ensures legal { Legal settings.now.cache (calls_of history.new.items) }
     ensures made { AllMade (length workers.old + 1) (calls_of history.new.items) }
     ensures first { own 0 (calls_of history.new.items) ≡ [] }
     ensures few_claims { FewClaims (calls_of history.new.items) }
     ensures workers { (k : ℕ) (d : _) → k < length workers.old
         → Ran (IsDrawnThrough (length workers.old) (seen_ending result.0))
         F.library F.faults F.loads
-        (record { library = told; res = index.now.res; sheet = sheet.now }) index.now.reading
+        (record { library = told; res = index.now.res; sheet = settings.now.sheet })
+        index.now.reading
         (calls_of history.new.items) (k + 1)
         (slice_index_or workers.old k d) (slice_index_or workers.new k d) }
     ensures output { O.faults out.old ≤ O.faults out.new }
 {
     let units = index.units();
-    let Ok((cache, first)) = open_cache(alloc, capacity, &units) else {
+    let Ok((cache, first)) = open_cache(alloc, settings.cache as usize, &units) else {
         return (Ending::Memory, None);
     };
-    let bench = Bench { cache, units };
-    let (ending, tally, calls) = draw_over(
-        rt, alloc, workers, bench, first, index, sheet, out, counted,
-    );
+    let opening = (Bench { cache, units }, first);
+    let (ending, tally, calls) = draw_over(rt, alloc, settings, index, workers, opening, out);
     *history = calls;
     (ending, Some(tally))
 }

@@ -4,9 +4,6 @@ ghost use Rattle.outside.specs.Counts.{Rose};
 ghost use Rattle.outside.specs.Library.{FileTable};
 ghost use Rattle.cache_core.specs.Views.{calls_of};
 ghost use Rattle.command_line.specs.Settings.{AreSettings};
-ghost use Rattle.page_index.specs.Faults.{IsFirstFault};
-ghost use Rattle.page_index.specs.Limits.{LONGEST};
-ghost use Rattle.page_index.specs.declared.faults.DocFault.{DocFault};
 ghost use Rattle.sample_maker.specs.Sample.{sample_document, sample_files};
 ghost use Rattle.dvi_run.specs.Reading.{OfRead};
 ghost use Rattle.dvi_run.specs.Pages.{setup_by};
@@ -29,61 +26,6 @@ use sample_maker::{Sample, sample};
 use std::alloc::Global;
 use std::sync::Wait;
 use std::thread::Threads;
-
-// Draws and writes a document without a fault by the run's own workers, whose sources never fail,
-// and answers how that ended. What each of them drew, and how often it loaded, is handed to the
-// worker in its place.
-fn draw_by_own<R: Threads + Wait + Sync, F: FontSource + Send, O: Output, G: FontSource + Send>(
-    rt: &R,
-    alloc: Global,
-    settings: &Settings,
-    document: &[u8],
-    own: &mut [Worker<G>],
-    workers: &mut [Worker<F>],
-    out: &mut O,
-    history: &mut Vec<Entry>,
-) -> (Ending, Option<Tally>)
-    ghost told: { Option FileTable }
-    requires settings { AreSettings settings.now }
-    requires fits { length document.now ≤ LONGEST }
-    requires good { (fault : DocFault) → IsFirstFault settings.now.res document.now fault → ⊥ }
-    requires own { length own.old ≡ settings.now.workers }
-    requires own_ready { (k : ℕ) (d : _) → k < settings.now.workers
-        → IsReady G.library (Some sample_files) (slice_index_or own.old k d) }
-    requires sure { (s : _) → G.faults s ≡ 0 }
-    requires there { settings.now.workers ≤ length workers.old }
-    requires ready { (k : ℕ) (d : _) → k < settings.now.workers
-        → IsReady F.library told (slice_index_or workers.old k d) }
-    requires empty { history.old.items ≡ [] }
-    ensures ends { IsEnding (O.written out.old) (O.written out.new)
-        (Rose (O.faults out.old) (O.faults out.new))
-        ⊥ (out.new ≡ out.old) ⊥ (setup_by (Some sample_files) settings.now) (Some document.now)
-        (Some []) (seen_ending result.0) }
-    ensures done { (pages : ℕ) → AreDone (task_for_sample (Some pages) told settings.now) (record {
-      sources = record { library = F.library; faults = F.faults; loads = F.loads };
-      output = change_of O.written O.faults out.old out.new;
-      before = workers.old;
-      after = workers.new;
-      history = calls_of history.new.items;
-    })
-        (seen_ending result.0) result.1 }
-    ensures drew { (pages : ℕ) → OfRead (Some document.now)
-        (DrewTogether (task_for_sample (Some pages) told settings.now) (record {
-          sources = record { library = F.library; faults = F.faults; loads = F.loads };
-          output = change_of O.written O.faults out.old out.new;
-          before = workers.old;
-          after = workers.new;
-          history = calls_of history.new.items;
-        })
-        (status_of (seen_ending result.0)) (seen_ending result.0) result.1) }
-    ensures sample { UsesTheSample (status_of (seen_ending result.0)) (Unit {0})
-        workers.old workers.new }
-    ensures output { O.faults out.old ≤ O.faults out.new }
-{
-    let drawn = draw_document(rt, alloc, settings, document, own, out, history);
-    hand_all(own, workers);
-    drawn
-}
 
 // Draws and writes the sample of n pages by as many workers of its own as the settings say,
 // and answers how that ended. The worker in the place of each is handed what it drew.
@@ -135,12 +77,13 @@ fn draw_sample<R: Threads + Wait + Sync, F: FontSource + Send, O: Output>(
     let Ok(Sample { document, library }) = sample(alloc, pages) else {
         return (Ending::Memory, None);
     };
-    let Ok(mut own) = own_workers(alloc, library, settings.workers) else {
+    let Ok(mut made) = own_workers(alloc, library, settings.workers) else {
         return (Ending::Memory, None);
     };
-    draw_by_own(
-        rt, alloc, settings, &document, &mut own, workers, out, history,
-    )
+    let own = made.as_mut_slice();
+    let drawn = draw_document(rt, alloc, settings, &document, own, out, history);
+    hand_all(own, workers);
+    drawn
 }
 
 /// Draws and writes the sample, where the settings ask for it, and else what is read, and answers

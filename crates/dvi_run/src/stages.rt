@@ -57,13 +57,11 @@ fn draw_pages<R: Threads + Wait + Sync, F: FontSource + Send, O: Output>(
     draw_at_once(
         rt,
         alloc,
-        &mut workers[..settings.workers as usize],
-        settings.cache as usize,
+        settings,
         index,
-        &settings.sheet,
+        &mut workers[..settings.workers as usize],
         out,
         history,
-        settings.summary,
     )
 }
 

@@ -23,9 +23,9 @@ pub returns-in_default-clause-workers : goal.returns-in_default-clause-workers
 returns-in_default-clause-workers g c =
     let q = c.requires.1.1.1.1.1 in
     λ k d lt.
-    subst (λ h. Ran (IsDrawnThrough (length c.args.workers.now) Memory) g.F.FontSource.library g.F.FontSource.faults g.F.FontSource.loads (record { library = g.told; res = c.args.index.now.res; sheet = c.args.sheet.now }) c.args.index.now.reading (calls_of h) (k + 1)
+    subst (λ h. Ran (IsDrawnThrough (length c.args.workers.now) Memory) g.F.FontSource.library g.F.FontSource.faults g.F.FontSource.loads (record { library = g.told; res = c.args.index.now.res; sheet = c.args.settings.now.sheet }) c.args.index.now.reading (calls_of h) (k + 1)
     (get_or c.args.workers.now k d) (get_or c.args.workers.now k d)) (sym q.1.1.1.1.1.0)
-    (unused g.F.FontSource.library g.F.FontSource.faults g.F.FontSource.loads (record { library = g.told; res = c.args.index.now.res; sheet = c.args.sheet.now }) c.args.index.now.reading (k + 1)
+    (unused g.F.FontSource.library g.F.FontSource.faults g.F.FontSource.loads (record { library = g.told; res = c.args.index.now.res; sheet = c.args.settings.now.sheet }) c.args.index.now.reading (k + 1)
     (get_or c.args.workers.now k d) (q.1.1.1.1.1.1.0 k d lt) (q.1.1.1.1.1.1.1 k d lt) _)
 
 pub draw_over-ending-requires : goal.draw_over-ending-requires
@@ -53,7 +53,7 @@ draw_over-ending-requires g c κs within =
                         search rules,
                         (
                           made.lock,
-                          (opening_is c.in-Ok.first.view c.args.capacity c.units-units.result c.units-units.result g.told made.seat refl, q.1.1.1.1.1.1.0),
+                          (opening_is c.in-Ok.first.view c.args.settings.now.cache c.units-units.result c.units-units.result g.told made.seat refl, q.1.1.1.1.1.1.0),
                         ),
                       ),
                     ),

@@ -1,6 +1,5 @@
 use denote.Param.Send.{sendable}
-use Rattle.std.proofs.Common.{◌≡◌, ◌∙◌, ◌<◌, ◌≤◌, ℕ, List, [], Option, Some, length, get_or, refl, ap, sym, subst, rules}
-use Rattle.outside.specs.Counts.{Rose}
+use Rattle.std.proofs.Common.{◌≡◌, ◌∙◌, ◌<◌, ◌≤◌, ℕ, List, [], Option, Some, length, get_or, refl, ap, sym, subst, arith, rules}
 use Rattle.outside.specs.Library.{FileTable}
 use Rattle.outside.specs.declared.mem_fonts.SureFonts.{SureFonts}
 use Rattle.outside.proofs.mem_fonts.SureFonts.TheSendSync.{the_send}
@@ -10,11 +9,15 @@ use Rattle.page_index.specs.Limits.{LONGEST}
 use Rattle.page_workers.specs.declared.worker.Worker.{Worker}
 use Rattle.sample_maker.specs.Sample.{sample_document, sample_files}
 use Rattle.dvi_run.specs.Endings.{IsEnding, seen_ending, status_of}
-use Rattle.dvi_run.specs.Pages.{setup_by}
-use Rattle.dvi_run.specs.Reading.{OfRead}
-use Rattle.dvi_run.specs.Outside.{Drawing, Sources, change_of, task_for_sample}
-use Rattle.dvi_run.specs.Together.{DrewTogether, IsReady}
+use Rattle.dvi_run.specs.Pages.{Setup, setup_by}
+use Rattle.dvi_run.specs.Sampled.{WasHanded}
+use Rattle.dvi_run.specs.Outside.{Drawing, FaultsRose, Sources, change_of, task_for_sample}
+use Rattle.dvi_run.specs.Together.{DrewTogether, IsReady, RestIsKept}
+use Rattle.dvi_run.proofs.Handed.{done_handed, drew_handed, none_rose, sources_kept}
+use Rattle.dvi_run.proofs.Outcomes.{bytes_end}
+use Rattle.dvi_run.proofs.OwnDocument.{all_taken, answers_of, ends_without}
 use Rattle.dvi_run.proofs.Together.{idle_done}
+use Rattle.dvi_run.proofs.Told.{of_read}
 use Rattle.dvi_run.proofs.sampled.draw_sample.Goals as goal
 
 abbrev Library : SureFonts → Option FileTable
@@ -29,71 +32,146 @@ own_ready files n items now same told each k d lt =
 pub returns-in_default-own_workers-clause-done : goal.returns-in_default-own_workers-clause-done
 returns-in_default-own_workers-clause-done g c = let q = c.requires.1.1.1.1.1 in idle_done _ _ _ _ _ _ q.1.1.1.1.0 tt (ap calls_of q.1.1.1.1.1)
 
-pub draw_by_own-requires : goal.draw_by_own-requires
-draw_by_own-requires g c κs within =
+pub draw_document-drawn-requires : goal.draw_document-drawn-requires
+draw_document-drawn-requires g c κs within =
     let q = c.requires.1.1.1.1.1 in
+    let settings = c.args.settings.now in
     let own = c.in-Ok-own_workers.ensures in
-    let same : c.deref_mut.result.now ≡ c.in-Ok-own_workers.own.items = c.deref_mut.ensures.value in
-    let long : length c.deref_mut.result.now ≡ c.args.settings.now.workers = ap length same ∙ own.count in
+    let first = c.as_mut_slice-own.result.now in
+    let same : first ≡ c.in-Ok-own_workers.made.items = c.as_mut_slice-own.ensures.value in
+    let long : length first ≡ settings.workers = ap length same ∙ own.count in
     let files : c.in-Ok.field-0.library ≡ sample_files = search rules in
-    let res = c.args.settings.now.res in
-    let doc = sample_document c.args.pages in
-    let bytes : c.deref.result.now ≡ doc = search rules in
-    let few = c.samples.ensures.fit c.args.pages q.1.1.0 in
-    let document = c.samples.ensures.documents c.args.pages res q.1.0 q.1.1.0 q.0.resolution.0 q.0.resolution.1 in (
+    let ready = own_ready c.in-Ok.field-0.library settings.workers c.in-Ok-own_workers.made.items first same files own.ready in (
       search rules fits 100000 depth 60,
       (
         search rules fits 100000 depth 60,
         (
           search rules fits 100000 depth 60,
-          (
-            search rules fits 100000 depth 60,
-            (
-              search rules fits 100000 depth 60,
-              (
-                search (sendable, rules, the_send) fits 100000 depth 60,
-                (
-                  search rules fits 100000 depth 60,
-                  (
-                    q.0,
-                    (
-                      subst (λ (text : List ℕ). length text ≤ LONGEST) (sym bytes) few,
-                      (
-                        λ fault is. c.documents.ensures.no_fault res doc document.0 fault document.1 (subst (λ (text : List ℕ). IsFirstFault res text fault) bytes is),
-                        (
-                          long,
-                          (
-                            own_ready c.in-Ok.field-0.library c.args.settings.now.workers c.in-Ok-own_workers.own.items c.deref_mut.result.now same files own.ready,
-                            (λ s. refl, (q.1.1.1.0, (q.1.1.1.1.0, q.1.1.1.1.1))),
-                          ),
-                        ),
-                      ),
-                    ),
-                  ),
-                ),
-              ),
-            ),
-          ),
+          (search (sendable, rules, the_send) fits 100000 depth 60, (search rules fits 100000 depth 60, (q.0, (omega (arith, long), (ready, q.1.1.1.1.1))))),
         ),
       ),
     )
 
 pub returns-clause-ends : goal.returns-clause-ends
 returns-clause-ends g c =
-    let bytes : c.deref.result.now ≡ sample_document c.args.pages = search rules in
-    let old = g.O.Output.written c.args.out.now in
-    let new = g.O.Output.written c.draw_by_own.new.out in
-    subst (λ (text : List ℕ). IsEnding old new (Rose (g.O.Output.faults c.args.out.now) (g.O.Output.faults c.draw_by_own.new.out)) ⊥ (c.draw_by_own.new.out ≡ c.args.out.now) ⊥
-    (setup_by (Some sample_files) c.args.settings.now) (Some text) (Some []) (seen_ending c.draw_by_own.result.0)) bytes c.draw_by_own.ensures.ends
+    let q = c.requires.1.1.1.1.1 in
+    let settings = c.args.settings.now in
+    let own = c.in-Ok-own_workers.ensures in
+    let first = c.as_mut_slice-own.result.now in
+    let last = c.draw_document-drawn.new.workers in
+    let before = c.args.workers.now in
+    let after = c.hand_all.new.workers in
+    let same : first ≡ c.in-Ok-own_workers.made.items = c.as_mut_slice-own.ensures.value in
+    let long : length first ≡ settings.workers = ap length same ∙ own.count in
+    let long_last : length last ≡ settings.workers = (let kept : length last ≡ length first = search rules in kept ∙ long) in
+    let handed : (k : ℕ) (e : _) (d : _) → k < settings.workers → WasHanded (get_or last k e) (get_or before k d) (get_or after k d) =
+    λ k e d lt. c.hand_all.ensures.handed k e d (omega (arith, lt, long_last)) in
+    let doc = sample_document c.args.pages in
+    let bytes : c.deref.result.now ≡ doc = search rules in
+    let few : length c.deref.result.now ≤ LONGEST = subst (λ (text : List ℕ). length text ≤ LONGEST) (sym bytes) (c.samples.ensures.fit c.args.pages q.1.1.0) in
+    let output = change_of g.O.Output.written g.O.Output.faults c.args.out.now c.draw_document-drawn.new.out in
+    let history = calls_of c.draw_document-drawn.new.history.items in
+    let e = seen_ending c.draw_document-drawn.result.0 in
+    let tally = c.draw_document-drawn.result.1 in
+    let old = output.before.bytes in
+    let new = output.after.bytes in
+    let given : Setup = setup_by (Some sample_files) settings in
+    let OutputFailed = FaultsRose output in
+    let text = c.deref.result.now in
+    let ends = ends_without old new OutputFailed _ output.Kept given text (none_rose settings first last before after long long_last handed (λ s. 0) (λ s. refl)) e c.draw_document-drawn.ensures.ends in
+    subst (λ (t : List ℕ). IsEnding old new OutputFailed ⊥ output.Kept ⊥ given (Some t) (Some []) e) bytes (bytes_end old new OutputFailed ⊥ output.Kept given ⊥ (Some text) (Some []) text (all_taken text few) e ends)
+
+pub returns-clause-sample : goal.returns-clause-sample
+returns-clause-sample g c =
+    let q = c.requires.1.1.1.1.1 in
+    let settings = c.args.settings.now in
+    let own = c.in-Ok-own_workers.ensures in
+    let first = c.as_mut_slice-own.result.now in
+    let last = c.draw_document-drawn.new.workers in
+    let before = c.args.workers.now in
+    let after = c.hand_all.new.workers in
+    let same : first ≡ c.in-Ok-own_workers.made.items = c.as_mut_slice-own.ensures.value in
+    let long : length first ≡ settings.workers = ap length same ∙ own.count in
+    let long_last : length last ≡ settings.workers = (let kept : length last ≡ length first = search rules in kept ∙ long) in
+    let handed : (k : ℕ) (e : _) (d : _) → k < settings.workers → WasHanded (get_or last k e) (get_or before k d) (get_or after k d) =
+    λ k e d lt. c.hand_all.ensures.handed k e d (omega (arith, lt, long_last)) in
+    let rest : RestIsKept settings.workers before after = subst (λ (m : ℕ). RestIsKept m before after) long_last c.hand_all.ensures.rest in
+    let doc = sample_document c.args.pages in
+    let bytes : c.deref.result.now ≡ doc = search rules in
+    let few : length c.deref.result.now ≤ LONGEST = subst (λ (text : List ℕ). length text ≤ LONGEST) (sym bytes) (c.samples.ensures.fit c.args.pages q.1.1.0) in
+    let output = change_of g.O.Output.written g.O.Output.faults c.args.out.now c.draw_document-drawn.new.out in
+    let history = calls_of c.draw_document-drawn.new.history.items in
+    let e = seen_ending c.draw_document-drawn.result.0 in
+    let tally = c.draw_document-drawn.result.1 in
+    let old = output.before.bytes in
+    let new = output.after.bytes in
+    let given : Setup = setup_by (Some sample_files) settings in
+    let OutputFailed = FaultsRose output in
+    let text = c.deref.result.now in
+    let ends = ends_without old new OutputFailed _ output.Kept given text (none_rose settings first last before after long long_last handed (λ s. 0) (λ s. refl)) e c.draw_document-drawn.ensures.ends in
+    let res = settings.res in
+    let document = c.samples.ensures.documents c.args.pages res q.1.0 q.1.1.0 q.0.resolution.0 q.0.resolution.1 in
+    record {
+      input = tt;
+      sources = sources_kept settings first last before after long long_last handed rest;
+      answers = answers_of old new OutputFailed output.Kept given text
+          (λ fault is. c.documents.ensures.no_fault res doc document.0 fault document.1 (subst (λ (t : List ℕ). IsFirstFault res t fault) bytes is)) e ends;
+    }
 
 pub returns-clause-done : goal.returns-clause-done
-returns-clause-done g c = c.draw_by_own.ensures.done c.args.pages
+returns-clause-done g c =
+    let q = c.requires.1.1.1.1.1 in
+    let settings = c.args.settings.now in
+    let own = c.in-Ok-own_workers.ensures in
+    let first = c.as_mut_slice-own.result.now in
+    let last = c.draw_document-drawn.new.workers in
+    let before = c.args.workers.now in
+    let after = c.hand_all.new.workers in
+    let same : first ≡ c.in-Ok-own_workers.made.items = c.as_mut_slice-own.ensures.value in
+    let long : length first ≡ settings.workers = ap length same ∙ own.count in
+    let long_last : length last ≡ settings.workers = (let kept : length last ≡ length first = search rules in kept ∙ long) in
+    let handed : (k : ℕ) (e : _) (d : _) → k < settings.workers → WasHanded (get_or last k e) (get_or before k d) (get_or after k d) =
+    λ k e d lt. c.hand_all.ensures.handed k e d (omega (arith, lt, long_last)) in
+    let rest : RestIsKept settings.workers before after = subst (λ (m : ℕ). RestIsKept m before after) long_last c.hand_all.ensures.rest in
+    let files : c.in-Ok.field-0.library ≡ sample_files = search rules in
+    let ready = own_ready c.in-Ok.field-0.library settings.workers c.in-Ok-own_workers.made.items first same files own.ready in
+    let output = change_of g.O.Output.written g.O.Output.faults c.args.out.now c.draw_document-drawn.new.out in
+    let history = calls_of c.draw_document-drawn.new.history.items in
+    let e = seen_ending c.draw_document-drawn.result.0 in
+    let tally = c.draw_document-drawn.result.1 in
+    done_handed settings first last before after long long_last handed rest g.F.FontSource.library g.told q.1.1.1.1.0 _ ready (omega (arith, q.0.workers.0)) _ _ g.F.FontSource.faults g.F.FontSource.loads output history e tally
+    (λ s. refl) c.args.pages c.draw_document-drawn.ensures.done
 
 pub returns-clause-drew : goal.returns-clause-drew
 returns-clause-drew g c =
-    let bytes : c.deref.result.now ≡ sample_document c.args.pages = search rules in
-    let e = seen_ending c.draw_by_own.result.0 in
+    let q = c.requires.1.1.1.1.1 in
+    let settings = c.args.settings.now in
+    let own = c.in-Ok-own_workers.ensures in
+    let first = c.as_mut_slice-own.result.now in
+    let last = c.draw_document-drawn.new.workers in
+    let before = c.args.workers.now in
+    let after = c.hand_all.new.workers in
+    let same : first ≡ c.in-Ok-own_workers.made.items = c.as_mut_slice-own.ensures.value in
+    let long : length first ≡ settings.workers = ap length same ∙ own.count in
+    let long_last : length last ≡ settings.workers = (let kept : length last ≡ length first = search rules in kept ∙ long) in
+    let handed : (k : ℕ) (e : _) (d : _) → k < settings.workers → WasHanded (get_or last k e) (get_or before k d) (get_or after k d) =
+    λ k e d lt. c.hand_all.ensures.handed k e d (omega (arith, lt, long_last)) in
+    let rest : RestIsKept settings.workers before after = subst (λ (m : ℕ). RestIsKept m before after) long_last c.hand_all.ensures.rest in
+    let files : c.in-Ok.field-0.library ≡ sample_files = search rules in
+    let ready = own_ready c.in-Ok.field-0.library settings.workers c.in-Ok-own_workers.made.items first same files own.ready in
+    let doc = sample_document c.args.pages in
+    let bytes : c.deref.result.now ≡ doc = search rules in
+    let few : length c.deref.result.now ≤ LONGEST = subst (λ (text : List ℕ). length text ≤ LONGEST) (sym bytes) (c.samples.ensures.fit c.args.pages q.1.1.0) in
+    let output = change_of g.O.Output.written g.O.Output.faults c.args.out.now c.draw_document-drawn.new.out in
+    let history = calls_of c.draw_document-drawn.new.history.items in
+    let e = seen_ending c.draw_document-drawn.result.0 in
+    let tally = c.draw_document-drawn.result.1 in
     let sources : Sources _ = record { library = g.F.FontSource.library; faults = g.F.FontSource.faults; loads = g.F.FontSource.loads } in
-    let output = change_of g.O.Output.written g.O.Output.faults c.args.out.now c.draw_by_own.new.out in
-    let drawing : Drawing _ = record { sources = sources; output = output; before = c.args.workers.now; after = c.draw_by_own.new.workers; history = calls_of c.draw_by_own.new.history.items } in
-    subst (λ (text : List ℕ). OfRead (Some text) (DrewTogether (task_for_sample (Some c.args.pages) g.told c.args.settings.now) drawing (status_of e) e c.draw_by_own.result.1)) bytes (c.draw_by_own.ensures.drew c.args.pages)
+    let drawing : Drawing _ = record { sources = sources; output = output; before = before; after = after; history = history } in
+    let Of = DrewTogether (task_for_sample (Some c.args.pages) g.told settings) drawing (status_of e) e tally in
+    let text = c.deref.result.now in
+    let sizes : length before ≡ length after = search rules in
+    of_read Of (Some doc) (Some []) doc (all_taken doc (c.samples.ensures.fit c.args.pages q.1.1.0))
+    (subst Of bytes
+    (drew_handed settings first last before after long long_last handed rest g.F.FontSource.library g.told q.1.1.1.1.0 _ ready (omega (arith, q.0.workers.0)) (λ s. 0) (λ s. 0) g.F.FontSource.faults g.F.FontSource.loads output history e tally sizes c.args.pages (status_of e) text
+    c.draw_document-drawn.ensures.drew))

@@ -1,6 +1,0 @@
-use Rattle.std.proofs.Common.{Some}
-use Rattle.sample_maker.specs.Sample.{sample_files}
-use Rattle.dvi_run.proofs.sampled.draw_by_own.Given as goal
-
-abbrev pub ghost-draw_document : goal.ghost-draw_document
-ghost-draw_document g a = Some sample_files
