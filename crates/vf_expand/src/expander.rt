@@ -218,9 +218,8 @@ impl<'a> Expander<'a> {
         }
     }
 
-    /// The next step, where it is a character, as most steps are: it is given with its glyph and
-    /// without its key. `None` where any other step stands next, which `next` gives: then nothing
-    /// has changed.
+    /// The next step, with its glyph and without its key, where it is a character, as most steps
+    /// are. `None` where it is another one, which `next` gives: then nothing has changed.
     #[inline(always)]
     pub fn next_plain(&mut self) -> Option<PlainStep<'_>>
         ensures* passes { sem 𝓛 (PassesPlain self.entry result) }

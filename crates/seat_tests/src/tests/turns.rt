@@ -215,20 +215,6 @@ fn crowd<R: Threads + Wait + Sync>(rt: &R, alloc: Global, all: u32, count: u64) 
     if good { Some(diary) } else { None }
 }
 
-// The numbers of two seats, and how many turns the first drew.
-fn counts<R: Wait>(rt: &R, alloc: Global) -> Option<(u32, u32, u64)> {
-    let Ok((lock, mut first)) = TurnLock::make(alloc, Diary::new(alloc)) else {
-        return None;
-    };
-    let second = lock.split(&mut first);
-    let noted = turn(rt, &lock, &mut first).is_ok() && turn(rt, &lock, &mut first).is_ok();
-    if noted {
-        Some((first.number(), second.number(), first.drawn()))
-    } else {
-        None
-    }
-}
-
 // Whether the seats 1 to `seats`, and no others, had so many turns each.
 fn had_all(diary: &Diary, seats: u32, count: u64) -> bool {
     let mut left = diary.seats.len() as u64;
@@ -239,12 +225,6 @@ fn had_all(diary: &Diary, seats: u32, count: u64) -> bool {
         left = left.saturating_sub(turns);
     }
     all && left == 0
-}
-
-#[test]
-fn numbers_and_turns_of_seats(rt: HostRuntime) -> Result<(), Fail> {
-    assert_eq!(rt; counts(&rt, rt.alloc()), Some((0, 1, 2)));
-    Ok(())
 }
 
 #[test]

@@ -1,4 +1,4 @@
-//! A seat that nobody else comes between.
+//! Seats that no other thread comes between.
 ghost use Rattle.std.specs.Prelude.{◌≡◌, ◌+◌, ◌^◌, ◌≤◌};
 ghost use Rattle.turn_lock.specs.declared.view.Stage.TheVariants.{Idle};
 
@@ -26,6 +26,26 @@ fn alone<R: Wait>(rt: &R, alloc: Global) -> Option<bool> {
         return None;
     };
     Some(turns_alone(rt, &lock, &mut first, 10_000))
+}
+
+// The numbers of two seats, and how many turns the first drew.
+fn counts<R: Wait>(rt: &R, alloc: Global) -> Option<(u32, u32, u64)> {
+    let Ok((lock, mut first)) = TurnLock::make(alloc, Diary::new(alloc)) else {
+        return None;
+    };
+    let second = lock.split(&mut first);
+    let noted = turn(rt, &lock, &mut first).is_ok() && turn(rt, &lock, &mut first).is_ok();
+    if noted {
+        Some((first.number(), second.number(), first.drawn()))
+    } else {
+        None
+    }
+}
+
+#[test]
+fn numbers_and_turns_of_seats(rt: HostRuntime) -> Result<(), Fail> {
+    assert_eq!(rt; counts(&rt, rt.alloc()), Some((0, 1, 2)));
+    Ok(())
 }
 
 // If each turn slept, these would take minutes.
