@@ -1,5 +1,5 @@
 -- A worker holds no claim after its part of a round.
-use Rattle.std.proofs.Common.{◌≡◌, ℕ, List, [], ◌∷◌, sym, subst}
+use Rattle.std.proofs.Common.{ℕ, List, [], ◌∷◌, sym, subst}
 use Rattle.std.specs.Prelude.{Option, None, Some}
 use Rattle.outside.specs.Library.{FileTable}
 use Rattle.turn_lock.specs.Seats.{SeatView}

@@ -47,7 +47,9 @@ fn draw_on_paper<R: Wait, F: FontSource>(
         (asked_at worker.new.seat) (trail_of F.loads worker.old) (trail_of F.loads worker.new) }
 {
     match blank_page(alloc, &mut worker.paper, job.sheet) {
-        Ok(paper) => draw_on(rt, alloc, worker, job.bench, job.index, page, job.sheet, paper),
+        Ok(paper) => draw_on(
+            rt, alloc, worker, job.bench, job.index, page, job.sheet, paper,
+        ),
         Err(_) => Err(PageStop::NoMemory),
     }
 }

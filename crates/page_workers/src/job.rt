@@ -16,12 +16,9 @@ pub struct Job<'a> {
     pub bench: &'a Bench,
     pub index: &'a Index<'a>,
     pub sheet: &'a Sheet,
-    pub ghost units: {
-        document_units index.now.res index.now.reading ≡ Some bench.now.units
-    } by {
-        Coded-set (coded_option units_code) (document_units index.now.res index.now.reading)
-            (Some bench.now.units)
-    },
+    pub ghost units: { document_units index.now.res index.now.reading
+        ≡ Some bench.now.units } by { Coded-set (coded_option units_code)
+            (document_units index.now.res index.now.reading) (Some bench.now.units) },
     pub ghost drawable: { IsDrawable sheet.now },
 }
 
