@@ -5,8 +5,7 @@ use Rattle.std.specs.List.Sorted.{IsStrictlyIncreasing}
 use Rattle.outside.specs.Library.{FileTable}
 use Rattle.packed_rows.specs.Changes.{black_count}
 use Rattle.page_index.specs.Document.{pages_begun}
-use Rattle.page_index.specs.Pages.{Indexed, document_units}
-use Rattle.page_draw.specs.Sheets.{IsDrawable}
+use Rattle.page_index.specs.Pages.{Indexed}
 use Rattle.page_draw.specs.declared.sheet.Sheet.{Sheet}
 use Rattle.page_draw.specs.declared.stop.PageStop.TheVariants as draw
 use Rattle.page_workers.specs.Rounds.{DrewRound, MayDraw, Rested, pages_of}
@@ -62,14 +61,10 @@ pub record Collected {F : Type 0} (first count : ℕ) (before after : List (Work
 
 -- some workers may draw n pages from `first` on
 pub record MayDrawRound {F : Type 0} (library : F → Option FileTable) (bench : Bench)
-    (indexed : Indexed) (sheet : Sheet) (first count : ℕ) (workers : List (Worker F)) : Type 0 where
+    (indexed : Indexed) (first count : ℕ) (workers : List (Worker F)) : Type 0 where
   pub some_worker : 1 ≤ length workers
   pub few_workers : length workers ≤ 32
-  pub some_page : 1 ≤ count
-  pub few_pages : count ≤ 32
   pub inside : first + count ≤ pages_begun indexed.reading
-  pub drawable : IsDrawable sheet
-  pub units : document_units indexed.res indexed.reading ≡ Some bench.units
   pub ready : (k : ℕ) (d : Worker F) → k < length workers
       → MayDraw library bench count (slice_index_or workers k d)
 

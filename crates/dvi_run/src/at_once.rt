@@ -30,7 +30,7 @@ use font_decode::Decoded;
 use outside::{FontSource, Output};
 use page_draw::Sheet;
 use page_index::Index;
-use page_workers::{Bench, Worker, drop_paper, join_all, seat_all};
+use page_workers::{Bench, Job, Worker, drop_paper, join_all, seat_all};
 use std::alloc::Global;
 use std::sync::Wait;
 use std::thread::Threads;
@@ -88,7 +88,13 @@ pub fn draw_over<R: Threads + Wait + Sync, F: FontSource + Send, O: Output>(
 {
     let mut first = first;
     seat_all(&bench.cache, &mut first, workers);
-    let (ending, tally) = write_rounds(rt, alloc, workers, &bench, index, sheet, out, counted);
+    // The index and the sheet are lent again, for as long as the bench lives.
+    let job = Job {
+        bench: &bench,
+        index: &*index,
+        sheet: &*sheet,
+    };
+    let (ending, tally) = write_rounds(rt, alloc, workers, &job, out, counted);
     join_all(&bench.cache, &mut first, workers);
     drop_paper(workers);
     let Bench { cache, units: _ } = bench;

@@ -1,5 +1,6 @@
 //! Pages that are written, and how the run ends where one isn't.
 ghost use Rattle.std.specs.Prelude.{◌≡◌, ◌<◌, ◌≤◌, ◌+◌, ◌*◌, All, IfErr, IfOk, OnOk, length, reverse};
+ghost use Rattle.std.proofs.Props.{props};
 ghost use Rattle.outside.specs.Counts.{Rose};
 ghost use Rattle.dvi_run.specs.Endings.{ending_at, seen_ending};
 ghost use Rattle.dvi_run.specs.Rounds.{WroteOutcome};
@@ -14,6 +15,7 @@ use page_draw::PageStop;
 use page_workers::PageResult;
 use pbm_output::{WriteFault, write_page};
 use raster_page::Page;
+use std::alloc::AllocError as NoMemory;
 
 /// Why a page was not written.
 #[derive(Drop)]
@@ -22,6 +24,54 @@ pub enum WriteStop {
     Draw(PageStop),
     /// The output failed.
     Output,
+}
+
+impl From<PageStop> for WriteStop {
+    ghost use Rattle.dvi_run.specs.declared.pages.WriteStop.TheVariants.{Draw};
+
+    ghost from_gives = { λ page stop. stop ≡ Draw page };
+
+    fn from(stop: PageStop) -> WriteStop {
+        WriteStop::Draw(stop)
+    }
+}
+
+impl From<NoMemory> for WriteStop {
+    ghost use Rattle.page_draw.specs.declared.stop.PageStop.TheVariants as page;
+    ghost use Rattle.dvi_run.specs.declared.pages.WriteStop.TheVariants.{Draw};
+
+    ghost from_gives = { λ _ stop. stop ≡ Draw page.NoMemory };
+
+    fn from(_: NoMemory) -> WriteStop {
+        WriteStop::Draw(PageStop::NoMemory)
+    }
+}
+
+impl From<WriteFault> for WriteStop {
+    ghost use Rattle.dvi_run.specs.declared.pages.WriteStop.TheVariants.{Output};
+
+    ghost from_gives = { λ _ stop. stop ≡ Output };
+
+    fn from(_: WriteFault) -> WriteStop {
+        WriteStop::Output
+    }
+}
+
+/// What the pages of a run are written from: the results that come next, and what is kept of those
+/// that were written.
+#[derive(Drop)]
+pub struct Press {
+    /// The results of the pages that come next, the first of them on top.
+    pub stack: Vec<PageResult>,
+    /// The pages written whole, with their black pixels where they are counted.
+    pub tally: Tally,
+    /// Whether black pixels are counted.
+    pub counted: bool,
+    /// Pages that were written, on whose memory others may be drawn.
+    pub spare: Vec<Page>,
+    ghost dots: { All HasFewDots stack.items } by { Prim.hlevel props },
+    ghost few: { tally.pages + length stack.items ≤ MOST_PAGES },
+    ghost black: { tally.black ≤ tally.pages * (LONGEST_PAGE_SIDE * LONGEST_PAGE_SIDE) },
 }
 
 // How a run ends that doesn't write the page with this number, from 0.
@@ -38,56 +88,41 @@ pub(crate) fn stopped(i: usize, stop: WriteStop) -> Ending
     }
 }
 
-// Writes a page, which is spare then, and answers how many of its pixels are black, where they are
-// counted. A spare page that there is no memory to note is dropped.
-fn write_one<O: Output>(
-    drawn: PageResult,
-    out: &mut O,
-    counted: bool,
-    spare: &mut Vec<Page>,
-) -> Result<u64, WriteStop>
-    ensures wrote { WroteOutcome counted (O.written out.old) (O.written out.new)
-        (Rose (O.faults out.old) (O.faults out.new)) drawn.outcome result }
-    ensures output { O.faults out.old ≤ O.faults out.new }
-{
-    let page = match drawn.outcome {
-        Ok(page) => page,
-        Err(stop) => return Err(WriteStop::Draw(stop)),
-    };
-    match write_page(out, &page) {
-        Ok(()) => {
-            let black = if counted { page.count() } else { 0 };
-            let _noted = spare.push(page);
-            Ok(black)
-        }
-        Err(WriteFault) => Err(WriteStop::Output),
+impl Press {
+    // Writes a page, which is spare then, and answers how many of its pixels are black, where they
+    // are counted. A spare page that there is no memory to note is dropped.
+    fn write_one<O: Output>(&mut self, drawn: PageResult, out: &mut O) -> Result<u64, WriteStop>
+        ensures wrote { WroteOutcome self.old.counted (O.written out.old) (O.written out.new)
+            (Rose (O.faults out.old) (O.faults out.new)) drawn.outcome result }
+        ensures stack { self.new.stack ≡ self.old.stack }
+        ensures tally { self.new.tally ≡ self.old.tally }
+        ensures counted { self.new.counted ≡ self.old.counted }
+        ensures output { O.faults out.old ≤ O.faults out.new }
+    {
+        let page = drawn.outcome?;
+        write_page(out, &page)?;
+        let black = if self.counted { page.count() } else { 0 };
+        let _noted = self.spare.push(page);
+        Ok(black)
     }
-}
 
-/// Writes the pages of a stack from its top on, up to the first that can't be. Each is spare as
-/// soon as it is written. The tally grows by those written whole, with their black pixels where
-/// they are counted.
-pub fn write_stack<O: Output>(
-    stack: &mut Vec<PageResult>,
-    out: &mut O,
-    tally: &mut Tally,
-    counted: bool,
-    spare: &mut Vec<Page>,
-) -> Result<(), WriteStop>
-    requires dots { All HasFewDots stack.old.items }
-    requires few { tally.old.pages + length stack.old.items ≤ MOST_PAGES }
-    requires black { tally.old.black ≤ tally.old.pages * (LONGEST_PAGE_SIDE * LONGEST_PAGE_SIDE) }
-    ensures written { OnOk result (WroteWhole counted (O.written out.old) (O.written out.new)
-        (reverse stack.old.items) tally.old tally.new) }
-    ensures stopped { IfErr result (λ why. WroteUpTo counted (O.written out.old) (O.written out.new)
-        (Rose (O.faults out.old) (O.faults out.new)) (reverse stack.old.items) tally.old tally.new
-        why) }
-    ensures black { tally.new.black ≤ tally.new.pages * (LONGEST_PAGE_SIDE * LONGEST_PAGE_SIDE) }
-    ensures output { O.faults out.old ≤ O.faults out.new }
-{
-    while let Some(drawn) = stack.pop() {
-        tally.black += write_one(drawn, out, counted, spare)?;
-        tally.pages += 1;
+    /// Writes the pages of the stack from its top on, up to the first that can't be. Each is spare
+    /// as soon as it is written. The tally grows by those written whole, with their black pixels
+    /// where they are counted.
+    pub fn write_stack<O: Output>(&mut self, out: &mut O) -> Result<(), WriteStop>
+        ensures written { OnOk result (WroteWhole self.old.counted (O.written out.old)
+            (O.written out.new) (reverse self.old.stack.items) self.old.tally self.new.tally) }
+        ensures stopped { IfErr result (λ why. WroteUpTo self.old.counted (O.written out.old)
+            (O.written out.new) (Rose (O.faults out.old) (O.faults out.new))
+            (reverse self.old.stack.items) self.old.tally self.new.tally why) }
+        ensures counted { self.new.counted ≡ self.old.counted }
+        ensures output { O.faults out.old ≤ O.faults out.new }
+    {
+        while let Some(drawn) = self.stack.pop() {
+            let black = self.write_one(drawn, out)?;
+            self.tally.black += black;
+            self.tally.pages += 1;
+        }
+        Ok(())
     }
-    Ok(())
 }

@@ -3,28 +3,22 @@ ghost use Rattle.std.specs.Prelude.{◌≡◌, ◌↔◌, ℕ, ◌+◌, ◌*◌,
 ghost use Rattle.outside.specs.Counts.{Rose};
 ghost use Rattle.outside.specs.Library.{FileTable};
 ghost use Rattle.page_index.specs.Document.{pages_begun};
-ghost use Rattle.page_index.specs.Pages.{document_units};
-ghost use Rattle.page_draw.specs.Sheets.{IsDrawable};
 ghost use Rattle.page_draw.specs.Values.{PageValue};
 ghost use Rattle.page_workers.specs.Rounds.{HasBitmap};
 ghost use Rattle.dvi_run.specs.Pages.{AreValues};
 ghost use Rattle.dvi_run.specs.Endings.{EndsPages, Source, seen_ending};
 ghost use Rattle.dvi_run.specs.Looked.{IsDrawnThrough};
 ghost use Rattle.dvi_run.specs.Shares.{DrewShares};
-ghost use Rattle.dvi_run.specs.Stacks.{AllRested, DrewStack, HasFewDots, MayDrawRound, NoCounters, StoppedAhead, WroteUpTo, WroteWhole};
+ghost use Rattle.dvi_run.specs.Stacks.{AllRested, DrewStack, MayDrawRound, NoCounters, StoppedAhead, WroteUpTo, WroteWhole};
 ghost use Rattle.dvi_run.specs.Tally.{IsTally};
 ghost use Rattle.dvi_run.specs.Rounds.{Ended, FailedAt, MayBegin, Settled, site};
-ghost use Rattle.raster_page.specs.Limits.{LONGEST_PAGE_SIDE};
-ghost use Rattle.page_index.specs.Limits.{MOST_PAGES};
 
 use crate::collecting::collect;
 use crate::ending::Ending;
-use crate::pages::{WriteStop, stopped, write_stack};
+use crate::pages::{Press, WriteStop, stopped};
 use crate::tally::Tally;
 use outside::{FontSource, Output};
-use page_draw::{PageStop, Sheet};
-use page_index::Index;
-use page_workers::{Bench, PageResult, Worker, draw_round_on};
+use page_workers::{Job, PageRange, PageResult, Worker, draw_round_on};
 use raster_page::Page;
 use std::alloc::{AllocError as NoMemory, Global};
 use std::sync::Wait;
@@ -51,23 +45,22 @@ fn draw_stack<R: Threads + Wait + Sync, F: FontSource + Send>(
     rt: &R,
     alloc: Global,
     workers: &mut [Worker<F>],
-    bench: &Bench,
-    index: &Index,
-    sheet: &Sheet,
-    first: usize,
-    count: usize,
+    job: &Job,
+    pages: PageRange,
     paper: &mut Vec<Page>,
 ) -> Result<Vec<PageResult>, NoMemory>
-    requires { MayDrawRound F.library bench.now index.now sheet.now first count workers.old }
-    ensures drawn { IfOk result (λ stack. DrewStack F.library F.faults F.loads bench.now index.now
-        sheet.now first count workers.old workers.new stack.items) }
+    requires { MayDrawRound F.library job.now.bench.now job.now.index.now pages.first pages.count
+        workers.old }
+    ensures drawn { IfOk result (λ stack. DrewStack F.library F.faults F.loads job.now.bench.now
+        job.now.index.now job.now.sheet.now pages.first pages.count workers.old workers.new
+        stack.items) }
     ensures refused { OnErr result (AllRested workers.old workers.new) }
     ensures no_counter { NoCounters workers.new }
 {
-    let _few = index.pages();
-    let mut stack = Vec::with_capacity(alloc, count)?;
-    draw_round_on(rt, alloc, workers, bench, index, sheet, first, count, paper)?;
-    collect(workers, first, count, &mut stack);
+    let _few = job.index.pages();
+    let mut stack = Vec::with_capacity(alloc, pages.count)?;
+    draw_round_on(rt, alloc, workers, job, pages, paper)?;
+    collect(workers, pages.first, pages.count, &mut stack);
     Ok(stack)
 }
 
@@ -77,46 +70,39 @@ fn draw_beside<R: Threads + Wait + Sync, F: FontSource + Send, O: Output>(
     rt: &R,
     alloc: Global,
     workers: &mut [Worker<F>],
-    bench: &Bench,
-    index: &Index,
-    sheet: &Sheet,
-    first: usize,
-    count: usize,
-    stack: &mut Vec<PageResult>,
+    job: &Job,
+    pages: PageRange,
+    press: &mut Press,
     out: &mut O,
-    tally: &mut Tally,
-    counted: bool,
-    paper: &mut Vec<Page>,
-    spare: &mut Vec<Page>,
 ) -> (Result<Vec<PageResult>, NoMemory>, Result<(), WriteStop>)
-    requires ready { MayDrawRound F.library bench.now index.now sheet.now first count workers.old }
-    requires dots { All HasFewDots stack.old.items }
-    requires few { tally.old.pages + length stack.old.items ≤ MOST_PAGES }
-    requires black { tally.old.black ≤ tally.old.pages * (LONGEST_PAGE_SIDE * LONGEST_PAGE_SIDE) }
-    ensures drawn { IfOk result.0 (λ later. DrewStack F.library F.faults F.loads bench.now index.now
-        sheet.now first count workers.old workers.new later.items) }
+    requires { MayDrawRound F.library job.now.bench.now job.now.index.now pages.first pages.count
+        workers.old }
+    ensures drawn { IfOk result.0 (λ later. DrewStack F.library F.faults F.loads job.now.bench.now
+        job.now.index.now job.now.sheet.now pages.first pages.count workers.old workers.new
+        later.items) }
     ensures refused { OnErr result.0 (AllRested workers.old workers.new) }
     ensures no_counter { NoCounters workers.new }
-    ensures written { OnOk result.1 (WroteWhole counted (O.written out.old) (O.written out.new)
-        (reverse stack.old.items) tally.old tally.new) }
-    ensures stopped { IfErr result.1 (λ why. WroteUpTo counted (O.written out.old)
+    ensures written { OnOk result.1 (WroteWhole press.old.counted (O.written out.old)
+        (O.written out.new) (reverse press.old.stack.items) press.old.tally press.new.tally) }
+    ensures stopped { IfErr result.1 (λ why. WroteUpTo press.old.counted (O.written out.old)
         (O.written out.new) (Rose (O.faults out.old) (O.faults out.new))
-        (reverse stack.old.items) tally.old tally.new why) }
-    ensures black { tally.new.black ≤ tally.new.pages * (LONGEST_PAGE_SIDE * LONGEST_PAGE_SIDE) }
+        (reverse press.old.stack.items) press.old.tally press.new.tally why) }
+    ensures counted { press.new.counted ≡ press.old.counted }
     ensures output { O.faults out.old ≤ O.faults out.new }
 {
+    let mut paper = mem::replace(&mut press.spare, Vec::new(alloc));
     thread::join_mut(
         rt,
         &mut ||
-            requires { MayDrawRound F.library bench.now index.now sheet.now first count
-                workers.now }
+            requires { MayDrawRound F.library job.now.bench.now job.now.index.now pages.first
+                pages.count workers.now }
             ensures drawn { IfOk result (λ later. DrewStack F.library F.faults F.loads
-                bench.entry.now index.entry.now sheet.entry.now first count workers.entry.now
-                workers.exit.now later.items) }
+                job.entry.now.bench.now job.entry.now.index.now job.entry.now.sheet.now
+                pages.first pages.count workers.entry.now workers.exit.now later.items) }
             ensures refused { OnErr result (AllRested workers.entry.now workers.exit.now) }
             ensures no_counter { NoCounters workers.exit.now }
-        { draw_stack(rt, alloc, workers, bench, index, sheet, first, count, paper) },
-        &mut || write_stack(stack, out, tally, counted, spare),
+        { draw_stack(rt, alloc, workers, job, pages, &mut paper) },
+        &mut || press.write_stack(out),
     )
 }
 
@@ -130,47 +116,35 @@ fn write_and_draw<R: Threads + Wait + Sync, F: FontSource + Send, O: Output>(
     rt: &R,
     alloc: Global,
     workers: &mut [Worker<F>],
-    bench: &Bench,
-    index: &Index,
-    sheet: &Sheet,
-    first: usize,
-    count: usize,
-    stack: &mut Vec<PageResult>,
+    job: &Job,
+    pages: PageRange,
+    press: &mut Press,
     out: &mut O,
-    tally: &mut Tally,
-    counted: bool,
-    spare: &mut Vec<Page>,
 ) -> Result<Vec<PageResult>, WriteStop>
-    requires ready { MayDrawRound F.library bench.now index.now sheet.now first count workers.old }
-    requires dots { All HasFewDots stack.old.items }
-    requires few { tally.old.pages + length stack.old.items ≤ MOST_PAGES }
-    requires black { tally.old.black ≤ tally.old.pages * (LONGEST_PAGE_SIDE * LONGEST_PAGE_SIDE) }
-    ensures written { OnOk result (WroteWhole counted (O.written out.old) (O.written out.new)
-        (reverse stack.old.items) tally.old tally.new) }
-    ensures drawn { IfOk result (λ later. DrewStack F.library F.faults F.loads bench.now index.now
-        sheet.now first count workers.old workers.new later.items) }
+    requires { MayDrawRound F.library job.now.bench.now job.now.index.now pages.first pages.count
+        workers.old }
+    ensures written { OnOk result (WroteWhole press.old.counted (O.written out.old)
+        (O.written out.new) (reverse press.old.stack.items) press.old.tally press.new.tally) }
+    ensures drawn { IfOk result (λ later. DrewStack F.library F.faults F.loads job.now.bench.now
+        job.now.index.now job.now.sheet.now pages.first pages.count workers.old workers.new
+        later.items) }
     ensures stopped { IfErr result (λ why. StoppedAhead
-        (DrewStack F.library F.faults F.loads bench.now index.now sheet.now first count
-        workers.old workers.new) counted (O.written out.old) (O.written out.new)
-        (Rose (O.faults out.old) (O.faults out.new))
-        (reverse stack.old.items) tally.old tally.new workers.old workers.new why) }
+        (DrewStack F.library F.faults F.loads job.now.bench.now job.now.index.now job.now.sheet.now
+        pages.first pages.count workers.old workers.new)
+        press.old.counted (O.written out.old) (O.written out.new)
+        (Rose (O.faults out.old) (O.faults out.new)) (reverse press.old.stack.items)
+        press.old.tally press.new.tally workers.old workers.new why) }
     ensures no_counter { NoCounters workers.new }
-    ensures black { tally.new.black ≤ tally.new.pages * (LONGEST_PAGE_SIDE * LONGEST_PAGE_SIDE) }
+    ensures counted { press.new.counted ≡ press.old.counted }
     ensures output { O.faults out.old ≤ O.faults out.new }
 {
     if workers.len() == 1 {
-        write_stack(stack, out, tally, counted, spare)?;
-        return draw_stack(rt, alloc, workers, bench, index, sheet, first, count, spare).map_err(
-            |_| WriteStop::Draw(PageStop::NoMemory),
-        );
+        press.write_stack(out)?;
+        return Ok(draw_stack(rt, alloc, workers, job, pages, &mut press.spare)?);
     }
-    let mut paper = mem::replace(spare, Vec::new(alloc));
-    let (drawn, written) = draw_beside(
-        rt, alloc, workers, bench, index, sheet, first, count, stack, out, tally, counted,
-        &mut paper, spare,
-    );
+    let (drawn, written) = draw_beside(rt, alloc, workers, job, pages, press, out);
     written?;
-    drawn.map_err(|_| WriteStop::Draw(PageStop::NoMemory))
+    Ok(drawn?)
 }
 
 // Whether each page of a stack has a bitmap.
@@ -188,62 +162,63 @@ pub fn write_rounds<R: Threads + Wait + Sync, F: FontSource + Send, O: Output>(
     rt: &R,
     alloc: Global,
     workers: &mut [Worker<F>],
-    bench: &Bench,
-    index: &Index,
-    sheet: &Sheet,
+    job: &Job,
     out: &mut O,
     counted: bool,
 ) -> (Ending, Tally)
     ghost told: { Option FileTable }
     requires some { 1 ≤ length workers.old }
     requires few { length workers.old ≤ 32 }
-    requires sheet { IsDrawable sheet.now }
-    requires units { document_units index.now.res index.now.reading ≡ Some bench.now.units }
     requires ready { (k : ℕ) (d : _) → k < length workers.old
-        → MayBegin (site F.library F.faults F.loads bench.now told index.now sheet.now)
+        → MayBegin (site F.library F.faults F.loads job.now.bench.now told job.now.index.now
+        job.now.sheet.now)
         (slice_index_or workers.old k d) }
     ensures ends { (values : List PageValue)
-        × AreValues (record { library = told; res = index.now.res; sheet = sheet.now })
-        index.now.reading values
+        × AreValues
+        (record { library = told; res = job.now.index.now.res; sheet = job.now.sheet.now })
+        job.now.index.now.reading values
         × EndsPages (O.written out.old) (O.written out.new)
         (Rose (O.faults out.old) (O.faults out.new))
-        (Unit {0}) (seen_ending result.0) index.now.reading values
+        (Unit {0}) (seen_ending result.0) job.now.index.now.reading values
         × IsTally counted (O.written out.old) (O.written out.new) result.1 (seen_ending result.0)
         values }
     ensures whole { IsDrawnThrough (length workers.old) (seen_ending result.0) → (k : ℕ) (d : _)
         → k < length workers.old
-        → Settled (site F.library F.faults F.loads bench.now told index.now sheet.now)
+        → Settled (site F.library F.faults F.loads job.now.bench.now told job.now.index.now
+        job.now.sheet.now)
         (slice_index_or workers.old k d) (slice_index_or workers.new k d) }
     ensures cause { (page : ℕ) → seen_ending result.0 ≡ Source page
         → (k : ℕ) × (k < length workers.old)
         × ((d : _) → FailedAt F.faults page (slice_index_or workers.old k d)
         (slice_index_or workers.new k d)) }
-    ensures shares { DrewShares (pages_begun index.now.reading) (length workers.old)
+    ensures shares { DrewShares (pages_begun job.now.index.now.reading) (length workers.old)
         (seen_ending result.0) (Some result.1) workers.new }
     ensures workers { (k : ℕ) (d : _) → k < length workers.old
-        → Ended (site F.library F.faults F.loads bench.now told index.now sheet.now)
+        → Ended (site F.library F.faults F.loads job.now.bench.now told job.now.index.now
+        job.now.sheet.now)
         (slice_index_or workers.old k d) (slice_index_or workers.new k d) }
     ensures output { O.faults out.old ≤ O.faults out.new }
 {
-    let pages = index.pages();
+    let pages = job.index.pages();
     let most = round_size(workers.len());
-    let mut tally = Tally { pages: 0, black: 0 };
-    let mut stack = Vec::new(alloc);
-    let mut spare = Vec::new(alloc);
-    let mut next = 0;
-    while next < pages && have_bitmaps(&stack) {
-        let count = most.min(pages - next);
-        match write_and_draw(
-            rt, alloc, workers, bench, index, sheet, next, count, &mut stack, out, &mut tally,
-            counted, &mut spare,
-        ) {
-            Ok(later) => stack = later,
-            Err(stop) => return (stopped(tally.pages, stop), tally),
+    let mut press = Press {
+        stack: Vec::new(alloc),
+        tally: Tally { pages: 0, black: 0 },
+        counted,
+        spare: Vec::new(alloc),
+    };
+    let mut first = 0;
+    while first < pages && have_bitmaps(&press.stack) {
+        let count = most.min(pages - first);
+        let range = PageRange { first, count };
+        match write_and_draw(rt, alloc, workers, job, range, &mut press, out) {
+            Ok(later) => press.stack = later,
+            Err(stop) => return (stopped(press.tally.pages, stop), press.tally),
         }
-        next += count;
+        first += count;
     }
-    match write_stack(&mut stack, out, &mut tally, counted, &mut spare) {
-        Ok(()) => (Ending::Written, tally),
-        Err(stop) => (stopped(tally.pages, stop), tally),
+    match press.write_stack(out) {
+        Ok(()) => (Ending::Written, press.tally),
+        Err(stop) => (stopped(press.tally.pages, stop), press.tally),
     }
 }

@@ -34,16 +34,10 @@ write_rounds-ending-requires g c κs within =
                 search rules,
                 (
                   search rules,
-                  (
-                    q.1.1.0,
-                    (
-                      q.1.1.1.0,
-                      λ k d lt.
-                          let below : k < length xs = subst (λ (n : ℕ). k < n) long lt in
-                          may_begin s part (ap (λ v. v.part.library) opens) (ap (λ v. v.part.units) opens) q.1.1.1.0 q.1.1.1.1.0 (k + 1) (get_or xs k d) (get_or ws k d) (q.1.1.1.1.1.1.1 k d below)
-                          (c.seat_all.ensures.seated k d below),
-                    ),
-                  ),
+                  λ k d lt.
+                      let below : k < length xs = subst (λ (n : ℕ). k < n) long lt in
+                      may_begin s part (ap (λ v. v.part.library) opens) (ap (λ v. v.part.units) opens) q.1.1.1.0 q.1.1.1.1.0 (k + 1) (get_or xs k d) (get_or ws k d) (q.1.1.1.1.1.1.1 k d below)
+                      (c.seat_all.ensures.seated k d below),
                 ),
               ),
             ),

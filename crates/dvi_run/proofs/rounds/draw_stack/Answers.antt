@@ -14,7 +14,7 @@ returns-clause-drawn g c =
       long = long;
       round = drew;
       taken = c.collect.ensures drew.pages drew.most
-          (are_results g.F.FontSource.library g.F.FontSource.faults g.F.FontSource.loads c.args.bench.now c.args.index.now c.args.sheet.now c.args.first c.args.count xs mid (λ k d lt. (q.ready k d lt).no_result) long drew);
+          (are_results g.F.FontSource.library g.F.FontSource.faults g.F.FontSource.loads c.args.job.now.bench.now c.args.job.now.index.now c.args.job.now.sheet.now c.args.pages.first c.args.pages.count xs mid (λ k d lt. (q.ready k d lt).no_result) long drew);
     }
 
 pub returns-clause-no_counter : goal.returns-clause-no_counter
@@ -27,5 +27,5 @@ returns-clause-no_counter g c = λ k d lt.
     let same : length c.collect.new.workers ≡ length mid = search rules in
     let inside : k < length mid = subst (λ (n : ℕ). k < n) same lt in
     let taken = c.collect.ensures drew.pages drew.most
-    (are_results g.F.FontSource.library g.F.FontSource.faults g.F.FontSource.loads c.args.bench.now c.args.index.now c.args.sheet.now c.args.first c.args.count xs mid (λ k d lt. (q.ready k d lt).no_result) long drew) in
+    (are_results g.F.FontSource.library g.F.FontSource.faults g.F.FontSource.loads c.args.job.now.bench.now c.args.job.now.index.now c.args.job.now.sheet.now c.args.pages.first c.args.pages.count xs mid (λ k d lt. (q.ready k d lt).no_result) long drew) in
     (taken.cleared k d inside).same.counter ∙ c.draw_round_on.ensures.no_counter k d (subst (λ (n : ℕ). k < n) long inside)
