@@ -93,6 +93,7 @@ pub fn draw_over<R: Threads + Wait + Sync, F: FontSource + Send, O: Output>(
     let counted = settings.summary;
     let (bench, mut first) = opening;
     seat_all(&bench.cache, &mut first, workers);
+    // The index and the sheet are lent again, for as long as the bench lives.
     let job = Job {
         bench: &bench,
         index: &*index,

@@ -57,7 +57,8 @@ impl From<WriteFault> for WriteStop {
     }
 }
 
-/// What the pages of a run are written from.
+/// What the pages of a run are written from: the results that come next, and what is kept of those
+/// that were written.
 #[derive(Drop)]
 pub struct Press {
     /// The results of the pages that come next, the first of them on top.

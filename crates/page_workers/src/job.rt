@@ -18,7 +18,7 @@ pub struct Job<'a> {
     pub sheet: &'a Sheet,
     pub ghost units: { document_units index.now.res index.now.reading
         ≡ Some bench.now.units } by { Coded-set (coded_option units_code)
-        (document_units index.now.res index.now.reading) (Some bench.now.units) },
+            (document_units index.now.res index.now.reading) (Some bench.now.units) },
     pub ghost drawable: { IsDrawable sheet.now },
 }
 

@@ -89,7 +89,7 @@ invariant_of-press-2 g c =
       | else-loop-first-test w ↦ w.press-is
     ] in
     let few : c.loop-first.press.1.0.pages + length stack ≤ 1000000 =
-        let few = c.pages-pages.ensures.few in let pages = c.pages-pages.ensures.count in let long = length-reverse stack in let reach = hand.reach in let less = hand.few in omega (arith, few, pages, long, reach, less) in
+    let few = c.pages-pages.ensures.few in let pages = c.pages-pages.ensures.count in let long = length-reverse stack in let reach = hand.reach in let less = hand.few in omega (arith, few, pages, long, reach, less) in
     record {
       dots = subst (λ p. All HasFewDots p.0.items) (sym same) (few_on_stack s.given s.reading (SomeFailed s (length xs) xs c.loop-first.workers) c.loop-first.press.1.0.pages stack c.args.job.now.drawable hand.held);
       few = subst (λ p. p.1.0.pages + length p.0.items ≤ 1000000) (sym same) few;
