@@ -26,7 +26,7 @@ class Messages(unittest.TestCase):
             ('FONT is `', 'FONT is `late`, `', 'late'),
             ('| WidthZero |', '| WidthOdd(c) | it is odd |\n| WidthZero |', 'tfm width odd C'),
             ('Overrun (a run', 'Loop(row) (it turns), Overrun (a run', 'pk runs C loop ROW'),
-            ('FontTooBig (the', 'NoGlyphs (none is there), FontTooBig (the', 'pk no glyphs'),
+            ('FontTooBig (the rasters of all packets', 'NoGlyphs (none is there), FontTooBig (the rasters of all packets', 'pk no glyphs'),
             ('| 6 | `dvipbm: input failed` |', '| 6 | `dvipbm: input failed` | . |\n| 8 | `dvipbm: lost` |', 'dvipbm: lost'),
         ):
             self.assertEqual(formats.count(old), 1, old)
