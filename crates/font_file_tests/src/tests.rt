@@ -1,5 +1,7 @@
 //! Small files of fonts, worked out by hand.
 
+mod generic_fonts;
+mod glyph_tables;
 mod packed_fonts;
 mod packing;
 mod rasters;

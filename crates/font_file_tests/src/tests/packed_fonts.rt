@@ -202,7 +202,7 @@ fn row_of(glyph: &Glyph, y: u32) -> i64 {
 }
 
 // What a glyph is, in numbers.
-fn numbers(alloc: Global, glyph: Option<&Glyph>) -> Result<Vec<i64>, NoMemory> {
+pub fn numbers(alloc: Global, glyph: Option<&Glyph>) -> Result<Vec<i64>, NoMemory> {
     let Some(glyph) = glyph else {
         return Ok(Vec::new(alloc));
     };
