@@ -1,8 +1,8 @@
 """Reading of DVI, VF and TFM files for the scripts: what a document defines, asks for and says, and what is wrong with a file."""
 import re
 
-MOST_DOCUMENT, MOST_FONT, MOST_PAGES, MOST_SIZE = 67_108_864, 8_388_608, 1_000_000, 2 ** 27 - 1
-MOST_RESOLUTION = 4800
+MAX_DOCUMENT, MAX_FONT, MAX_PAGES, MAX_SIZE = 67_108_864, 8_388_608, 1_000_000, 2 ** 27 - 1
+MAX_RESOLUTION = 4800
 
 
 class Refused(Exception):
@@ -68,8 +68,8 @@ class Document:
     Each special is handed to `special` with its page, from 1."""
 
     def __init__(self, data, resolution, special=lambda page, text: None):
-        if len(data) > MOST_DOCUMENT:
-            raise Refused(f'too long at {MOST_DOCUMENT}')
+        if len(data) > MAX_DOCUMENT:
+            raise Refused(f'too long at {MAX_DOCUMENT}')
         self.reader, self.fonts, self.special = Reader(data), {}, special
         self.pages, self.last_bop, self.context, self.post = 0, -1, BETWEEN, None
         self.preamble(resolution)
@@ -124,7 +124,7 @@ class Document:
     def bop(self, at):
         self.reader.take(40)
         pointer = self.reader.signed(4)
-        if self.pages == MOST_PAGES:
+        if self.pages == MAX_PAGES:
             raise Refused(f'too many pages at {at}')
         if pointer != self.last_bop:
             raise Refused(f'back pointer at {at}')
@@ -137,7 +137,7 @@ class Document:
         size, design = read.signed(4), read.signed(4)
         area, name = read.unsigned(1), read.unsigned(1)
         font = Font(read.take(area), read.take(name), size, design)
-        if not (1 <= size <= MOST_SIZE and 1 <= design <= MOST_SIZE):
+        if not (1 <= size <= MAX_SIZE and 1 <= design <= MAX_SIZE):
             raise Refused(f'font definition {number} at {at}')
         if self.fonts.setdefault(number, font).key != font.key:
             raise Refused(f'font clash {number} at {at}')
@@ -239,7 +239,7 @@ def other_kind(data):
 def read_document(path, resolution, special=lambda page, text: None):
     """The document of a file; what isn't a DVI file at all is refused by its kind."""
     with open(path, 'rb') as file:
-        data = file.read(MOST_DOCUMENT + 1)
+        data = file.read(MAX_DOCUMENT + 1)
     kind = other_kind(data)
     if kind:
         raise Refused(kind)

@@ -4,9 +4,9 @@ import functools, itertools, math, os, re
 from dvi_files import Reader, Refused, judge_tfm
 
 # A longer document isn't walked through: its greatest page, as the end of the file has it, must do.
-MOST_WALKED = 2 << 20
+MAX_WALKED = 2 << 20
 # So many sets of registers may be saved.
-MOST_SAVED = 1000
+MAX_SAVED = 1000
 # A box may reach this far over an edge, in dots: no ink is lost yet.
 SPARE = 2
 
@@ -108,7 +108,7 @@ class Page:
         setattr(self, axis, getattr(self, axis) + amount)
 
     def push(self):
-        if len(self.stack) == MOST_SAVED:
+        if len(self.stack) == MAX_SAVED:
             raise Unknown
         self.stack.append((self.h, self.v, self.w, self.x, self.y, self.z))
 
@@ -162,7 +162,7 @@ def reaches(document, path, folder):
         return face(os.path.join(folder, f'{font.name}.tfm'), font.size)
 
     try:
-        if os.path.getsize(path) > MOST_WALKED:
+        if os.path.getsize(path) > MAX_WALKED:
             raise Unknown
         with open(path, 'rb') as file:
             return True, walk(file.read(), face_of)

@@ -1,7 +1,7 @@
 """Making of PK files for tools/collect-fonts: by which mode of METAFONT, and where they are kept."""
 import os, re, shutil, subprocess, tempfile
 
-from dvi_files import MOST_FONT, Refused, judge_tfm, virtual_fonts
+from dvi_files import MAX_FONT, Refused, judge_tfm, virtual_fonts
 from pk_files import checksum, judge_pk, reduced
 
 # The modes of METAFONT by their resolutions: first those that mktexpk chooses by itself, then what else modes.mf has in square dots.
@@ -22,8 +22,8 @@ def fault_of(kind, path):
     """What is wrong with a file, or None."""
     try:
         with open(path, 'rb') as file:
-            data = file.read(MOST_FONT + 1)
-        if len(data) > MOST_FONT:
+            data = file.read(MAX_FONT + 1)
+        if len(data) > MAX_FONT:
             return 'too long'
         JUDGES[kind](data)
     except Refused as fault:

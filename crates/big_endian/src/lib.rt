@@ -1,8 +1,8 @@
-//! The numbers that one to four bytes spell, the byte that weighs most first.
+//! The numbers that one to four bytes spell, the most significant byte first.
 //!
-//! Every number of a DVI, VF, TFM or PK file stands in its bytes so, unsigned or in two's
-//! complement (Knuth, DVItype, "Device-independent file format" and "Input from binary files").
-//! This crate reads them, and has the definitions of both readings, which the crates above it cite.
+//! Every number of a DVI, VF, TFM or PK file is spelled this way, unsigned or in two's complement
+//! (Knuth, DVItype, "Device-independent file format" and "Input from binary files"). This crate
+//! reads them, and defines both readings for the crates above it.
 #![tactic(auto)]
 
 mod laws;

@@ -1,7 +1,7 @@
 //! The cursor.
 ghost use Rattle.std.specs.Prelude.{◌≡◌, ◌≤◌, ◌<◌, ◌^◌, ◌∷◌, [], ◌↔◌, length, IfOk, IsErr, OnErr, OnOk};
 ghost use Rattle.big_endian.specs.Numbers.{signed_of, unsigned_of};
-ghost use Rattle.byte_cursor.specs.Cursor.{after, left, next};
+ghost use Rattle.byte_cursor.specs.Cursor.{cursor_after, bytes_left, next_bytes};
 
 use std::marker::Model;
 
@@ -19,9 +19,9 @@ pub struct Cursor<'a> {
 
 impl<'a> Model for Cursor<'a> {
     ghost use Rattle.std.specs.Prelude.{◌≤◌, length};
-    ghost use Rattle.byte_cursor.specs.Cursor.{Place};
+    ghost use Rattle.byte_cursor.specs.Cursor.{CursorValue};
 
-    ghost Value = { Place };
+    ghost Value = { CursorValue };
 
     ghost view = { λ c. record { bytes = c.bytes.now; at = c.at } };
 
@@ -29,7 +29,7 @@ impl<'a> Model for Cursor<'a> {
 }
 
 impl<'a> Cursor<'a> {
-    /// At the first byte.
+    /// A cursor at the first byte.
     pub fn new(bytes: &'a [u8]) -> Cursor<'a>
         ensures { result ≡ record { bytes = bytes.now; at = 0 } }
     {
@@ -46,16 +46,16 @@ impl<'a> Cursor<'a> {
 
     /// How many bytes are left.
     pub fn left(&self) -> usize
-        ensures left { result ≡ left self.now }
+        ensures left { result ≡ bytes_left self.now }
     {
         self.bytes.len() - self.at
     }
 
-    /// The next `n` bytes. `Short` exactly where fewer are left; then the cursor stays.
+    /// The next `n` bytes. `Short` exactly where fewer are left; the cursor then stays where it is.
     pub fn take(&mut self, n: usize) -> Result<&'a [u8], Short>
-        ensures short { IsErr result ↔ (left self.old < n) }
-        ensures bytes { IfOk result (λ bytes. bytes.now ≡ next self.old n) }
-        ensures moved { OnOk result (self.new ≡ after self.old n) }
+        ensures short { IsErr result ↔ (bytes_left self.old < n) }
+        ensures bytes { IfOk result (λ bytes. bytes.now ≡ next_bytes self.old n) }
+        ensures moved { OnOk result (self.new ≡ cursor_after self.old n) }
         ensures stays { OnErr result (self.new ≡ self.old) }
     {
         if self.left() < n {
@@ -69,9 +69,9 @@ impl<'a> Cursor<'a> {
 
     /// The next byte.
     pub fn byte(&mut self) -> Result<u8, Short>
-        ensures short { IsErr result ↔ (left self.old ≡ 0) }
-        ensures byte { IfOk result (λ byte. next self.old 1 ≡ byte ∷ []) }
-        ensures moved { OnOk result (self.new ≡ after self.old 1) }
+        ensures short { IsErr result ↔ (bytes_left self.old ≡ 0) }
+        ensures byte { IfOk result (λ byte. next_bytes self.old 1 ≡ byte ∷ []) }
+        ensures moved { OnOk result (self.new ≡ cursor_after self.old 1) }
         ensures stays { OnErr result (self.new ≡ self.old) }
     {
         let bytes = self.take(1)?;
@@ -82,10 +82,10 @@ impl<'a> Cursor<'a> {
     pub fn unsigned(&mut self, n: usize) -> Result<u32, Short>
         requires some { 1 ≤ n }
         requires few { n ≤ 4 }
-        ensures short { IsErr result ↔ (left self.old < n) }
-        ensures number { IfOk result (λ number. number ≡ unsigned_of (next self.old n)) }
+        ensures short { IsErr result ↔ (bytes_left self.old < n) }
+        ensures number { IfOk result (λ number. number ≡ unsigned_of (next_bytes self.old n)) }
         ensures fits { IfOk result (λ number. number < 256 ^ n) }
-        ensures moved { OnOk result (self.new ≡ after self.old n) }
+        ensures moved { OnOk result (self.new ≡ cursor_after self.old n) }
         ensures stays { OnErr result (self.new ≡ self.old) }
     {
         let bytes = self.take(n)?;
@@ -96,9 +96,9 @@ impl<'a> Cursor<'a> {
     pub fn signed(&mut self, n: usize) -> Result<i32, Short>
         requires some { 1 ≤ n }
         requires few { n ≤ 4 }
-        ensures short { IsErr result ↔ (left self.old < n) }
-        ensures number { IfOk result (λ number. number ≡ signed_of (next self.old n)) }
-        ensures moved { OnOk result (self.new ≡ after self.old n) }
+        ensures short { IsErr result ↔ (bytes_left self.old < n) }
+        ensures number { IfOk result (λ number. number ≡ signed_of (next_bytes self.old n)) }
+        ensures moved { OnOk result (self.new ≡ cursor_after self.old n) }
         ensures stays { OnErr result (self.new ≡ self.old) }
     {
         let bytes = self.take(n)?;

@@ -10,7 +10,7 @@ use Rattle.lru.specs.LruCache.{LruCache, promoted, last_entry, put_entries, disp
 use Rattle.outside.specs.declared.keys.FontKey.{FontKey}
 use Rattle.cache_core.specs.Machine.{key_eq}
 use Rattle.cache_core.specs.declared.entry.Evicted.{Evicted}
-use Rattle.cache_core.specs.Views.{fonts_of, gone_font, gone_key, evicted_seen, evicted_key, passes}
+use Rattle.cache_core.specs.Views.{fonts_of, font_to_evict, key_to_evict, value_of_evicted, evicted_key, passes}
 use Rattle.cache_core.proofs.FontLists.{lookup_image, promoted_image}
 
 abbrev pub same_key : {A : Type 0} → Arc FontKey A → Arc FontKey A → Bool
@@ -59,7 +59,7 @@ module _ {T A : Type 0} where
         let passed : passes k x.0 ≡ true = ap (λ (y : Arc FontKey A × Arc T A). passes k y.0) same ∙ t in
         rw passed refl
 
-  gone_at : (es : List (Arc FontKey A × Arc T A)) (n : ℕ) → gone_key (fonts_of es) n ≡ option_map (key_of {T = T} {A = A}) (slice_get es (n - 1))
+  gone_at : (es : List (Arc FontKey A × Arc T A)) (n : ℕ) → key_to_evict (fonts_of es) n ≡ option_map (key_of {T = T} {A = A}) (slice_get es (n - 1))
   gone_at es n = ap (option_map (λ (f : FontKey × T). f.0)) (slice_get-map (λ (f : Arc FontKey A × Arc T A). (arc_value f.0, arc_value f.1)) es (n - 1)) ∙ twice (slice_get es (n - 1))
     where
       twice : (o : Option (Arc FontKey A × Arc T A)) → option_map (λ (f : FontKey × T). f.0) (option_map (λ (f : Arc FontKey A × Arc T A). (arc_value f.0, arc_value f.1)) o) ≡ option_map (key_of {T = T} {A = A}) o
@@ -67,11 +67,11 @@ module _ {T A : Type 0} where
       twice (Some f) = refl
 
   -- the oldest font leaves a full cache
-  pub last_gone : (es : List (Arc FontKey A × Arc T A)) (n : ℕ) → length es ≡ n → gone_key (fonts_of es) n ≡ option_map (key_of {T = T} {A = A}) (last_entry es)
+  pub last_gone : (es : List (Arc FontKey A × Arc T A)) (n : ℕ) → length es ≡ n → key_to_evict (fonts_of es) n ≡ option_map (key_of {T = T} {A = A}) (last_entry es)
   last_gone es n full = gone_at es n ∙ ap (λ m. option_map (key_of {T = T} {A = A}) (slice_get es (m - 1))) (sym full)
 
   module _ (c : LruCache (Arc FontKey A) (Arc T A)) (k : Arc FontKey A) (v : Arc T A) (new : lookup (key_eq (arc_value k)) (fonts_of c.entries) ≡ None) where
-    pub pushes_out : option_map (λ (f : Arc FontKey A × Arc T A). (arc_value f.0, arc_value f.1)) (displaced same_key c k v) ≡ gone_font (fonts_of c.entries) c.cap
+    pub pushes_out : option_map (λ (f : Arc FontKey A × Arc T A). (arc_value f.0, arc_value f.1)) (displaced same_key c k v) ≡ font_to_evict (fonts_of c.entries) c.cap
     pushes_out = rw (absent (arc_value k) c.entries new) (sym (slice_get-map (λ (f : Arc FontKey A × Arc T A). (arc_value f.0, arc_value f.1)) c.entries (c.cap - 1)))
 
     pub puts : fonts_of (put_entries same_key c k v) ≡ (arc_value k, arc_value v) ∷ take (c.cap - 1) (fonts_of c.entries)
@@ -79,11 +79,11 @@ module _ {T A : Type 0} where
         (ap (λ l. (arc_value k, arc_value v) ∷ l) (sym (take-map (λ (f : Arc FontKey A × Arc T A). (arc_value f.0, arc_value f.1)) (c.cap - 1) c.entries)))
 
 module _ {T : Type 0} where
-  both_keys : (o : Option (Evicted T)) → evicted_key o ≡ option_map (λ (f : FontKey × T). f.0) (option_map evicted_seen o)
+  both_keys : (o : Option (Evicted T)) → evicted_key o ≡ option_map (λ (f : FontKey × T). f.0) (option_map value_of_evicted o)
   both_keys None = refl
   both_keys (Some x) = refl
 
   -- the key that is handed out with a font that left is the key that left
-  pub key_of_left : (left : Option (Evicted T)) (fonts : List (FontKey × T)) (capacity : ℕ) → option_map evicted_seen left ≡ gone_font fonts capacity
-      → evicted_key left ≡ gone_key fonts capacity
+  pub key_of_left : (left : Option (Evicted T)) (fonts : List (FontKey × T)) (capacity : ℕ) → option_map value_of_evicted left ≡ font_to_evict fonts capacity
+      → evicted_key left ≡ key_to_evict fonts capacity
   key_of_left left fonts capacity e = both_keys left ∙ ap (option_map (λ (f : FontKey × T). f.0)) e

@@ -11,7 +11,7 @@ use Rattle.cache_core.specs.declared.claims.Claim.{Claim}
 use Rattle.cache_core.specs.declared.common.Common.{Common}
 use Rattle.cache_core.specs.declared.entry.Entry.{Entry}
 use Rattle.cache_core.specs.Machine.{empty, key_eq, claim_of, machine_after}
-use Rattle.cache_core.specs.Views.{call_of, calls_of, claims_of, fonts_of, gone_key}
+use Rattle.cache_core.specs.Views.{call_of, calls_of, claims_of, fonts_of, key_to_evict}
 use Rattle.cache_core.specs.States.{Cache, machine_of, call, Takes, IsReached, SameFonts, StateStands}
 use Rattle.cache_core.proofs.Turns.{reached_more, release_takes, fill_takes, same_stands}
 
@@ -51,7 +51,7 @@ module _ {T : Type 0} (capacity : ℕ) (fonts : List (FontKey × T)) (claims cla
       ∙ (reached_more capacity (machine_of fonts claims) (machine_of fonts (remove_entry (nat_eq seat) claims)) calls (call seat k Released) h (release_takes capacity fonts claims seat k holds)
       ∙ ap (λ l. Some (machine_of fonts l)) (sym ended))
 
-  module _ (after : List (FontKey × T)) (v : T) (left : Option FontKey) (some : 1 ≤ capacity) (same : left ≡ gone_key fonts capacity) (added : after ≡ (k, v) ∷ take (capacity - 1) fonts) where
+  module _ (after : List (FontKey × T)) (v : T) (left : Option FontKey) (some : 1 ≤ capacity) (same : left ≡ key_to_evict fonts capacity) (added : after ≡ (k, v) ∷ take (capacity - 1) fonts) where
     pub filled : Takes capacity (machine_of fonts claims) (machine_of after claims') (call seat k (Filled left))
     filled =
         subst (λ (p : List (FontKey × T) × List (ℕ × FontKey)). Takes capacity (machine_of fonts claims) (machine_of p.0 p.1) (call seat k (Filled left)))

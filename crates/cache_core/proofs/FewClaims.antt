@@ -8,7 +8,7 @@ use Rattle.outside.specs.declared.keys.FontKey.{FontKey}
 use Rattle.cache_core.specs.declared.calls.Call.{Call}
 use Rattle.cache_core.specs.declared.calls.Done.{Done}
 use Rattle.cache_core.specs.declared.calls.Done.TheVariants.{Hit, Claimed, Busy, Filled, Released}
-use Rattle.cache_core.specs.Machine.{Machine, empty, key_eq, option_key_eq, has_key, claims_key, claim_of, without, leaver, allows, allows_done, next, changed_by, machine_after}
+use Rattle.cache_core.specs.Machine.{Machine, empty, key_eq, option_key_eq, has_key, claims_key, claim_of, without, key_evicted, allows, allows_done, next, changed_by, machine_after}
 use Rattle.cache_core.specs.Laws.{ClaimsAreFew, claims_it, frees_it, leaves_by, is_claim, is_release}
 use Rattle.cache_core.proofs.Keys.{keys_are_equal}
 use Rattle.cache_core.proofs.Sound.{by_test, not_true, the_key, both_true, either, second_true}
@@ -75,7 +75,7 @@ claims_kept s k j (c ∷ cs) at_ apart h = by_test (nat_eq s c.0)
     ]))
 
 front_or_last : (k : FontKey) (n : ℕ) (keys : List FontKey) → has_key k keys ≡ true → length keys ≤ n + 1
-    → (has_key k (take n keys) ≡ true) ⊎ ((g : FontKey) × (leaver n keys ≡ Some g) × (key_eq k g ≡ true))
+    → (has_key k (take n keys) ≡ true) ⊎ ((g : FontKey) × (key_evicted n keys ≡ Some g) × (key_eq k g ≡ true))
 front_or_last k n [] h few = absurd cc
 front_or_last k zero (x ∷ []) h few = elim (either (key_eq k x) false h) [ inl here ↦ inr (x, refl, here) | inr there ↦ absurd cc ]
 front_or_last k zero (x ∷ y ∷ keys) h few = absurd (omega arith)
@@ -127,9 +127,9 @@ weighed k capacity m seat j Claimed few h =
       ]),
     )
 weighed k capacity m seat j (Filled left) few h =
-    let parts = and_parts (option_key_eq (claim_of seat m.claims) (Some j)) (option_key_eq left (leaver capacity (j ∷ m.resident))) h in
+    let parts = and_parts (option_key_eq (claim_of seat m.claims) (Some j)) (option_key_eq left (key_evicted capacity (j ∷ m.resident))) h in
     let holds = the_key (claim_of seat m.claims) j parts.0 in
-    let is : left ≡ leaver capacity (j ∷ m.resident) = same_key left (leaver capacity (j ∷ m.resident)) parts.1 in
+    let is : left ≡ key_evicted capacity (j ∷ m.resident) = same_key left (key_evicted capacity (j ∷ m.resident)) parts.1 in
     let stays : has_key k (j ∷ m.resident) ≡ true → ((leaves_by k (Filled left) || (key_eq k j && false)) ≡ true) ⊎ ((has_key k (take capacity (j ∷ m.resident)) || claims_key k (remove_entry (nat_eq seat) m.claims)) ≡ true) =
     λ there. elim (front_or_last k capacity (j ∷ m.resident) there (omega arith)) [
       | inl front ↦ inr (first_true (has_key k (take capacity (j ∷ m.resident))) (claims_key k (remove_entry (nat_eq seat) m.claims)) front)

@@ -8,7 +8,7 @@ use Rattle.outside.specs.declared.keys.FontKey.{FontKey}
 use Rattle.cache_core.specs.declared.calls.Call.{Call}
 use Rattle.cache_core.specs.declared.calls.Done.{Done}
 use Rattle.cache_core.specs.declared.calls.Done.TheVariants.{Hit, Claimed, Busy, Filled, Released}
-use Rattle.cache_core.specs.Machine.{Machine, empty, option_key_eq, has_key, claims_key, claim_of, leaver, allows, allows_done, next, changed_by, machine_after}
+use Rattle.cache_core.specs.Machine.{Machine, empty, option_key_eq, has_key, claims_key, claim_of, key_evicted, allows, allows_done, next, changed_by, machine_after}
 use Rattle.cache_core.specs.Histories.{AreOf, NoneReleased, NoneBusy, SeatCalls}
 use Rattle.cache_core.specs.Laws.{NoneAloneIsBusy, SoloIsOne, SoloIsThere}
 use Rattle.cache_core.specs.Solo.{solo_calls, after_calls, solo_from}
@@ -81,7 +81,7 @@ module _ (capacity seat : ℕ) where
   claim k = call seat k Claimed
 
   abbrev fill : FontKey → Machine → Call
-  fill k m = call seat k (Filled (leaver capacity (k ∷ m.resident)))
+  fill k m = call seat k (Filled (key_evicted capacity (k ∷ m.resident)))
 
   is_call : (c : Call) (k : FontKey) (d : Done) → c.seat ≡ seat → c.key ≡ k → c.done ≡ d → c ≡ call seat k d
   is_call c k d p q r = let whole : call c.seat c.key c.done ≡ call seat k d = rw (p, q, r) refl in whole
@@ -127,8 +127,8 @@ module _ (capacity seat : ℕ) where
       let one = and_parts (not (is_some (claim_of seat m.claims))) (not (has_key k m.resident)) two.0 in
       let missing = not_true (has_key k m.resident) one.1 in
       let second = chosen (allows capacity m1 (call seat k (Filled gone))) (machine_after capacity m2 others) both.1 in
-      let ends = and_parts (option_key_eq (claim_of seat m1.claims) (Some k)) (option_key_eq gone (leaver capacity (k ∷ m1.resident))) second.0 in
-      let left : gone ≡ leaver capacity (k ∷ m.resident) = same_key gone (leaver capacity (k ∷ m.resident)) ends.1 in
+      let ends = and_parts (option_key_eq (claim_of seat m1.claims) (Some k)) (option_key_eq gone (key_evicted capacity (k ∷ m1.resident))) second.0 in
+      let left : gone ≡ key_evicted capacity (k ∷ m.resident) = same_key gone (key_evicted capacity (k ∷ m.resident)) ends.1 in
       begins m k keys (claim k ∷ call seat k (Filled gone) ∷ []) others
       (claim_calls m k missing ∙ ap (λ (o : Option FontKey). claim k ∷ call seat k (Filled o) ∷ []) (sym left))
       (rest second.1)
@@ -203,10 +203,10 @@ module _ (capacity seat : ℕ) where
       let nobody : claims_key k m.claims ≡ false = ap (claims_key k) none in
       let first : allows capacity m (claim k) ≡ true = rw (free, missing, nobody) refl in
       let holds : claim_of seat ((seat, k) ∷ m.claims) ≡ Some k = rw (eq-eqb seat seat refl) refl in
-      let second : allows capacity (next capacity m (claim k)) (fill k m) ≡ true = rw (holds, key_is_itself k) (itself (leaver capacity (k ∷ m.resident))) in (
+      let second : allows capacity (next capacity m (claim k)) (fill k m) ≡ true = rw (holds, key_is_itself k) (itself (key_evicted capacity (k ∷ m.resident))) in (
         rw first (rw second rest.0),
         (refl, (refl, rest.1)),
-        (claim k ∷ fill k m ∷ [], others, refl, inr (claim k, fill k m, refl, refl, refl, refl, inl (leaver capacity (k ∷ m.resident), refl)), rest.2),
+        (claim k ∷ fill k m ∷ [], others, refl, inr (claim k, fill k m, refl, refl, refl, refl, inl (key_evicted capacity (k ∷ m.resident), refl)), rest.2),
         ((λ e. cc), ((λ e. cc), rest.3)),
       )
 
@@ -220,7 +220,7 @@ module _ (capacity seat : ℕ) where
       (λ t.
       let n = next capacity (next capacity m (claim k)) (fill k m) in
       subst (Stands (k ∷ keys) m) (begins m k keys (claim k ∷ fill k m ∷ []) (solo_from capacity seat n keys) (claim_calls m k t) refl)
-      (claim_stands k keys m (solo_from capacity seat n keys) none t (there_from keys n (filled_claims m k (leaver capacity (k ∷ m.resident)) none))))
+      (claim_stands k keys m (solo_from capacity seat n keys) none t (there_from keys n (filled_claims m k (key_evicted capacity (k ∷ m.resident)) none))))
 
 pub solo_is_one : SoloIsOne
 solo_is_one capacity seat keys history h = one_from capacity seat keys empty history refl h.legal h.own h.kept h.for_keys

@@ -8,7 +8,7 @@ use Rattle.outside.specs.declared.keys.FontKey.{FontKey}
 use Rattle.cache_core.specs.declared.calls.Call.{Call}
 use Rattle.cache_core.specs.declared.calls.Done.{Done}
 use Rattle.cache_core.specs.declared.calls.Done.TheVariants.{Hit, Claimed, Busy, Filled, Released}
-use Rattle.cache_core.specs.Machine.{Machine, empty, key_eq, option_key_eq, has_key, claims_key, claim_of, without, leaver, allows, allows_done, next, changed_by, machine_after}
+use Rattle.cache_core.specs.Machine.{Machine, empty, key_eq, option_key_eq, has_key, claims_key, claim_of, without, key_evicted, allows, allows_done, next, changed_by, machine_after}
 use Rattle.cache_core.proofs.Keys.{keys_are_equal, key_is_itself}
 
 abbrev Claims : Type 0
@@ -134,7 +134,7 @@ sound_changed capacity m seat j Claimed s h =
       ];
     }
 sound_changed capacity m seat j (Filled gone) s h =
-    let holds = the_key (claim_of seat m.claims) j (and_parts (option_key_eq (claim_of seat m.claims) (Some j)) (option_key_eq gone (leaver capacity (j ∷ m.resident))) h).0 in
+    let holds = the_key (claim_of seat m.claims) j (and_parts (option_key_eq (claim_of seat m.claims) (Some j)) (option_key_eq gone (key_evicted capacity (j ∷ m.resident))) h).0 in
     record {
       alone = alone_less seat m.claims s.alone;
       apart = λ k claimed. never (has_key k (take capacity (j ∷ m.resident))) (λ t. elim (either (key_eq k j) (has_key k m.resident) (keys_front k capacity (j ∷ m.resident) t)) [

@@ -9,8 +9,8 @@ use Rattle.outside.specs.declared.keys.FontKey.{FontKey}
 use Rattle.cache_core.specs.declared.calls.Call.{Call}
 use Rattle.cache_core.specs.declared.calls.Done.TheVariants.{Hit, Claimed, Busy, Filled, Released}
 use Rattle.cache_core.specs.declared.common.Common.{Common}
-use Rattle.cache_core.specs.Machine.{Machine, empty, key_eq, option_key_eq, has_key, claims_key, claim_of, leaver, machine_after}
-use Rattle.cache_core.specs.Views.{gone_key}
+use Rattle.cache_core.specs.Machine.{Machine, empty, key_eq, option_key_eq, has_key, claims_key, claim_of, key_evicted, machine_after}
+use Rattle.cache_core.specs.Views.{key_to_evict}
 use Rattle.cache_core.specs.States.{Cache, machine, machine_of, call, Takes, IsReached, SameFonts, AddsFont, StateStands}
 use Rattle.cache_core.proofs.Keys.{key_is_itself}
 use Rattle.cache_core.proofs.FontLists.{found_key, keys_forward}
@@ -43,7 +43,7 @@ module _ {T : Type 0} (capacity : ℕ) (fonts : List (FontKey × T)) (claims : L
       → Takes capacity (machine_of fonts claims) (machine_of fonts ((seat, k) ∷ claims)) (call seat k Claimed)
   claim_takes free missing unclaimed = record { allowed = rw (free, there None missing, unclaimed) refl; changed = refl }
 
-  leaves : (n : ℕ) → 1 ≤ n → gone_key fonts n ≡ leaver n (k ∷ keys_of fonts)
+  leaves : (n : ℕ) → 1 ≤ n → key_to_evict fonts n ≡ key_evicted n (k ∷ keys_of fonts)
   leaves zero le = absurd (omega arith)
   leaves (suc n) le = let one : suc n - 1 ≡ n = omega arith in rw one (sym (slice_get-map (λ (f : FontKey × T). f.0) fonts n))
 
@@ -51,10 +51,10 @@ module _ {T : Type 0} (capacity : ℕ) (fonts : List (FontKey × T)) (claims : L
   stays zero v le = absurd (omega arith)
   stays (suc n) v le = let one : suc n - 1 ≡ n = omega arith in rw one (ap (λ l. k ∷ l) (sym (take-map (λ (f : FontKey × T). f.0) n fonts)))
 
-  pub fill_takes : (v : T) (left : Option FontKey) → 1 ≤ capacity → claim_of seat claims ≡ Some k → left ≡ gone_key fonts capacity
+  pub fill_takes : (v : T) (left : Option FontKey) → 1 ≤ capacity → claim_of seat claims ≡ Some k → left ≡ key_to_evict fonts capacity
       → Takes capacity (machine_of fonts claims) (machine_of ((k, v) ∷ take (capacity - 1) fonts) (remove_entry (nat_eq seat) claims)) (call seat k (Filled left))
   fill_takes v left some holds same = record {
-    allowed = rw (holds, key_is_itself k) (ap (λ o. option_key_eq o (leaver capacity (k ∷ keys_of fonts))) (same ∙ leaves capacity some) ∙ itself (leaver capacity (k ∷ keys_of fonts)));
+    allowed = rw (holds, key_is_itself k) (ap (λ o. option_key_eq o (key_evicted capacity (k ∷ keys_of fonts))) (same ∙ leaves capacity some) ∙ itself (key_evicted capacity (k ∷ keys_of fonts)));
     changed = ap machine_ (stays capacity v some);
   }
     where

@@ -130,7 +130,7 @@ OwnsAreJoined = (seat : ℕ) (xs ys : List Call) → own seat (xs ++ ys) ≡ own
 abbrev pub OwnsAreHistory : Type 0
 OwnsAreHistory = (seat : ℕ) (history : List Call) → AreOf seat history → own seat history ≡ history
 
--- the keys that a seat asked for are the keys of its looks: the entries tell them
+-- the keys that a seat asked for are the keys of its looks: the entries determine them
 abbrev pub KeysAreLooks : Type 0
 KeysAreLooks = (keys : List FontKey) (calls : List Call) → SeatCalls keys calls → looks calls ≡ keys
 

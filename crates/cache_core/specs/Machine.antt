@@ -49,8 +49,8 @@ abbrev pub brought_forward : FontKey → List FontKey → List FontKey
 brought_forward k keys = k ∷ without k keys
 
 -- the key that leaves where there are now more keys than the capacity, which is the last
-abbrev pub leaver : ℕ → List FontKey → Option FontKey
-leaver capacity keys = slice_get keys capacity
+abbrev pub key_evicted : ℕ → List FontKey → Option FontKey
+key_evicted capacity keys = slice_get keys capacity
 
 -- one case for each row of the table of calls: where the call is allowed
 abbrev pub allows_done : ℕ → Machine → ℕ → FontKey → Done → Bool
@@ -62,7 +62,7 @@ allows_done capacity m seat k Claimed =
     && not (claims_key k m.claims)
 allows_done capacity m seat k (Filled gone) =
     option_key_eq (claim_of seat m.claims) (Some k)
-    && option_key_eq gone (leaver capacity (k ∷ m.resident))
+    && option_key_eq gone (key_evicted capacity (k ∷ m.resident))
 allows_done capacity m seat k Released = option_key_eq (claim_of seat m.claims) (Some k)
 
 -- and what it changes

@@ -4,7 +4,7 @@ use Rattle.std.specs.Prelude.{ℕ, if◌then◌else◌, List, [], ◌∷◌, ◌
 use Rattle.outside.specs.declared.keys.FontKey.{FontKey}
 use Rattle.cache_core.specs.declared.calls.Call.{Call}
 use Rattle.cache_core.specs.declared.calls.Done.TheVariants.{Hit, Claimed, Filled}
-use Rattle.cache_core.specs.Machine.{Machine, empty, has_key, leaver, next}
+use Rattle.cache_core.specs.Machine.{Machine, empty, has_key, key_evicted, next}
 use Rattle.cache_core.specs.States.{call}
 
 -- a look for a key whose font is resident hits; any other claims the key, and then its font is
@@ -12,7 +12,7 @@ use Rattle.cache_core.specs.States.{call}
 abbrev pub solo_calls : ℕ → ℕ → Machine → FontKey → List Call
 solo_calls capacity seat m k =
     if has_key k m.resident then call seat k Hit ∷ []
-    else call seat k Claimed ∷ call seat k (Filled (leaver capacity (k ∷ m.resident))) ∷ []
+    else call seat k Claimed ∷ call seat k (Filled (key_evicted capacity (k ∷ m.resident))) ∷ []
 
 abbrev pub after_calls : ℕ → Machine → List Call → Machine
 after_calls capacity m [] = m

@@ -101,9 +101,9 @@ pub record StateStands {T : Type 0} (stands_for : T → FontKey → Common → T
 
 -- ---- the fields
 
-abbrev pub seen : {T A : Type 0} → List (Arc FontKey A × Arc T A) → ℕ → List Claim → List Entry → ℕ
-    → Cache T
-seen fonts capacity claims entries turns =
+abbrev pub value_of_cache : {T A : Type 0} → List (Arc FontKey A × Arc T A) → ℕ → List Claim
+    → List Entry → ℕ → Cache T
+value_of_cache fonts capacity claims entries turns =
     record {
       capacity = capacity;
       fonts = fonts_of fonts;

@@ -28,25 +28,25 @@ call_of e = record { seat = e.seat; key = arc_value e.key; done = done_of e.act 
 abbrev pub calls_of : List Entry → List Call
 calls_of entries = map call_of entries
 
-abbrev pub claim_seen : Claim → ℕ × FontKey
-claim_seen c = (c.seat, arc_value c.key)
+abbrev pub value_of_claim : Claim → ℕ × FontKey
+value_of_claim c = (c.seat, arc_value c.key)
 
 abbrev pub claims_of : List Claim → List (ℕ × FontKey)
-claims_of claims = map claim_seen claims
+claims_of claims = map value_of_claim claims
 
 abbrev pub fonts_of : {T A : Type 0} → List (Arc FontKey A × Arc T A) → List (FontKey × T)
 fonts_of fonts = map (λ f. (arc_value f.0, arc_value f.1)) fonts
 
 -- the font that leaves where one is added to n at most, with its key, and that key alone
-abbrev pub gone_font : {T : Type 0} → List (FontKey × T) → ℕ → Option (FontKey × T)
-gone_font fonts capacity = slice_get fonts (capacity - 1)
+abbrev pub font_to_evict : {T : Type 0} → List (FontKey × T) → ℕ → Option (FontKey × T)
+font_to_evict fonts capacity = slice_get fonts (capacity - 1)
 
-abbrev pub gone_key : {T : Type 0} → List (FontKey × T) → ℕ → Option FontKey
-gone_key fonts capacity = option_map (λ f. f.0) (gone_font fonts capacity)
+abbrev pub key_to_evict : {T : Type 0} → List (FontKey × T) → ℕ → Option FontKey
+key_to_evict fonts capacity = option_map (λ f. f.0) (font_to_evict fonts capacity)
 
 -- a font that has left, with its key, and the key of one
-abbrev pub evicted_seen : {T : Type 0} → Evicted T → FontKey × T
-evicted_seen e = (arc_value e.key, arc_value e.font)
+abbrev pub value_of_evicted : {T : Type 0} → Evicted T → FontKey × T
+value_of_evicted e = (arc_value e.key, arc_value e.font)
 
 abbrev pub evicted_key : {T : Type 0} → Option (Evicted T) → Option FontKey
 evicted_key gone = option_map (λ e. arc_value e.key) gone

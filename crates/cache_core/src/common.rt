@@ -3,7 +3,7 @@ use outside::Library;
 use pixel_round::Units;
 
 /// What all seats of one cache have in common: how many fonts it keeps, the units of the document
-/// and the resolution, and the font files, where they are told. It is named in contracts, and no
+/// and the resolution, and the font files, where they are known. It is named in contracts, and no
 /// value of it is made.
 pub struct Common {
     pub capacity: usize,

@@ -11,7 +11,8 @@ pub enum Act {
     Claimed,
     /// A look found no font, and another seat has claimed the key.
     Busy,
-    /// The seat handed in the font that it had claimed; `gone` is the key whose font left for it.
+    /// The seat handed in the font that it had claimed; `gone` is the key of the font that was
+    /// evicted for it.
     Filled { gone: Option<Arc<FontKey>> },
     /// The seat gave its claim up.
     Released,
@@ -37,7 +38,7 @@ pub enum Look<T: Drop> {
     Busy,
 }
 
-/// A font that left, with its key.
+/// An evicted font, with its key.
 #[derive(Drop)]
 pub struct Evicted<T: Drop> {
     pub key: Arc<FontKey>,

@@ -1,4 +1,4 @@
-//! Histories, judged by computation.
+//! Histories, checked by computation.
 
 ghost use Rattle.std.specs.Prelude.{◌≡◌, IsFalse, is_some};
 ghost use Rattle.cache_core.specs.Machine.{Legal, machine_after, empty};
@@ -21,13 +21,13 @@ pub fn answers()
     ensures of_three { SeatCalls asked history_of_three }
 {}
 
-/// A hit moves its key to the front, so another key leaves.
+/// A hit moves its key to the front, so another key is evicted.
 pub fn order_of_use()
     ensures oldest_leaves { Legal 2 bar_leaves }
     ensures hit_stays { IsFalse (is_some (machine_after 2 empty dot_leaves)) }
 {}
 
-/// Busy is the answer of another seat, while the claim is open.
+/// While the claim is open, another seat is answered Busy.
 pub fn seats()
     ensures busy { Legal 1 second_is_busy }
     ensures no_second_claim { IsFalse (is_some (machine_after 1 empty second_claims)) }

@@ -5,7 +5,7 @@ ghost use Rattle.std.specs.Arc.{arc_value};
 ghost use Rattle.std.specs.Map.{lookup};
 ghost use Rattle.lru.specs.LruCache.{promoted};
 ghost use Rattle.cache_core.specs.Machine.{key_eq};
-ghost use Rattle.cache_core.specs.Views.{fonts_of, gone_font, gone_key, evicted_seen, passes};
+ghost use Rattle.cache_core.specs.Views.{fonts_of, font_to_evict, key_to_evict, value_of_evicted, passes};
 
 use crate::entry::Evicted;
 use crate::key_test::same_key;
@@ -79,9 +79,9 @@ pub(crate) fn find<T: Drop>(
 }
 
 // The key whose font leaves where one is added.
-fn leaver<T: Drop>(fonts: &Fonts<T>) -> Result<Option<Arc<FontKey>>, NoMemory>
+fn key_evicted<T: Drop>(fonts: &Fonts<T>) -> Result<Option<Arc<FontKey>>, NoMemory>
     ensures { IfOk result (λ gone. option_map arc_value gone
-        ≡ gone_key (fonts_of fonts.now.entries) fonts.now.cap) }
+        ≡ key_to_evict (fonts_of fonts.now.entries) fonts.now.cap) }
 {
     if fonts.len() < fonts.cap().get() {
         return Ok(None);
@@ -101,9 +101,9 @@ pub(crate) fn store<T: Drop>(
 ) -> Result<(Option<Arc<FontKey>>, Option<Evicted<T>>), Arc<T>>
     requires { lookup (key_eq (arc_value key.now)) (fonts_of fonts.old.entries) ≡ None }
     ensures gone { IfOk result (λ gone. option_map arc_value gone.0
-        ≡ gone_key (fonts_of fonts.old.entries) fonts.old.cap) }
-    ensures left { IfOk result (λ gone. option_map evicted_seen gone.1
-        ≡ gone_font (fonts_of fonts.old.entries) fonts.old.cap) }
+        ≡ key_to_evict (fonts_of fonts.old.entries) fonts.old.cap) }
+    ensures left { IfOk result (λ gone. option_map value_of_evicted gone.1
+        ≡ font_to_evict (fonts_of fonts.old.entries) fonts.old.cap) }
     ensures added { OnOk result (fonts_of fonts.new.entries
         ≡ (arc_value key.now, arc_value font) ∷ take (fonts.old.cap - 1)
         (fonts_of fonts.old.entries)) }
@@ -111,7 +111,7 @@ pub(crate) fn store<T: Drop>(
     ensures back { IfErr result (λ handed. handed ≡ font) }
     ensures same { OnErr result (fonts.new ≡ fonts.old) }
 {
-    let Ok(noted) = leaver(fonts) else {
+    let Ok(noted) = key_evicted(fonts) else {
         return Err(font);
     };
     let Ok(kept) = Arc::try_clone(key) else {

@@ -3,9 +3,8 @@
 ghost use Rattle.cache_core.specs.Laws.{PrefixesAreLegal, KeysAreEqual, KeysAreThemselves, ClaimsAreOwn, ClaimsAreFew, ClaimsAlwaysFit, LooksAreAnswered, NoneAloneIsBusy, SoloIsOne, SoloIsThere};
 ghost use Rattle.cache_core.specs.Laws.{OwnsAreJoined, OwnsAreHistory, KeysAreLooks, PrefixesHaveCalls, CallsAreJoined};
 
-/// The prefixes of a legal history, the test of keys, what a seat's own calls tell of its claim,
-/// how often a key is claimed, what holds of the claims of a state, and which of its answers a look
-/// is given.
+/// The prefixes of a legal history, the test of keys, what a seat's own calls say of its claim, how
+/// often a key is claimed, what holds of the claims of a state, and which answer a look is given.
 #[tactic(auto, using(crate::proofs::Steps::prefixes_are_legal, crate::proofs::Keys::keys_are_equal, crate::proofs::Keys::key_is_itself, crate::proofs::OwnClaims::claims_are_own, crate::proofs::FewClaims::claims_are_few))]
 pub fn histories()
     ensures prefixes { PrefixesAreLegal }
@@ -23,8 +22,8 @@ pub fn own_calls()
     ensures alone { OwnsAreHistory }
 {}
 
-/// The keys that a seat asked for, and its calls: the calls tell the keys, and joined lists of keys
-/// have joined lists of calls, both ways.
+/// The keys that a seat asked for, and its calls: the calls determine the keys, and joined lists of
+/// keys have joined lists of calls, both ways.
 pub fn seat_calls()
     ensures keys { KeysAreLooks }
     ensures prefixes { PrefixesHaveCalls }

@@ -1,7 +1,8 @@
 //! The machine of the shared font cache: which fonts are resident, which seats have claimed a key,
-//! and what a look, a fill and a release do to them. There is no lock and no thread here: whoever
-//! calls has the state to itself, and a turn lock above hands it from seat to seat. The state keeps
-//! the whole history of its calls, so that what every seat was told can be judged afterwards.
+//! and what a look, a fill and a release do to them. There is no lock and no thread here: the
+//! caller has the state to itself, and a turn lock above hands it from seat to seat. The state
+//! keeps the whole history of its calls, so that every answer that a seat was given can be judged
+//! afterwards.
 #![tactic(auto)]
 
 mod calls;

@@ -1,6 +1,6 @@
 //! What the cache asks of the values that it keeps.
 
-/// A value that the cache may keep. In a proof it tells for which keys it stands.
+/// A value that the cache may keep. Proofs know for which keys it stands.
 pub trait Stands: Drop {
     ghost use Rattle.outside.specs.declared.keys.FontKey.{FontKey};
     ghost use Rattle.cache_core.specs.declared.common.Common.{Common};

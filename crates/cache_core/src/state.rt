@@ -7,8 +7,9 @@ ghost use Rattle.std.specs.Map.{lookup};
 ghost use Rattle.cache_core.specs.declared.common.Common.{Common};
 ghost use Rattle.cache_core.specs.declared.calls.Done.TheVariants.{Filled, Released};
 ghost use Rattle.cache_core.specs.Machine.{key_eq, claim_of};
-ghost use Rattle.cache_core.specs.Views.{calls_of, claims_of, fonts_of, gone_font, evicted_seen, evicted_key};
+ghost use Rattle.cache_core.specs.Views.{calls_of, claims_of, fonts_of, font_to_evict, value_of_evicted, evicted_key};
 ghost use Rattle.cache_core.specs.States.{machine, machine_of, call, answered, GivesFont, IsReached, Takes, SameFonts, AddsFont, StateStands};
+ghost use Rattle.cache_core.specs.Limits.{MAX_CACHED_FONTS};
 
 use crate::claims::{Claim, add_claim, end, is_claimed};
 use crate::entry::{Act, Entry, Evicted, Look};
@@ -22,9 +23,9 @@ use std::marker::Model;
 use std::num::NonZeroUsize;
 use std::sync::Arc;
 
-/// The cache's fonts, claims and history. A seat looks, and where it was given the claim of a key
-/// it ends it: it fills, or releases. Each call is one turn, and adds one entry unless it is
-/// refused.
+/// The cache's fonts, claims and history. A seat looks a key up, and where it is given the claim of
+/// the key it ends the claim by a fill or a release. Each call is one turn, and adds one entry
+/// unless it is refused.
 #[derive(Drop)]
 pub struct CacheState<T: Stands> {
     resident: Fonts<T>,
@@ -35,17 +36,17 @@ pub struct CacheState<T: Stands> {
 
 impl<T: Stands> Model for CacheState<T> {
     ghost use Rattle.std.specs.Vec.{vec_len, vec_capacity};
-    ghost use Rattle.cache_core.specs.States.{Cache, cache_code, seen, IsSoundCache};
+    ghost use Rattle.cache_core.specs.States.{Cache, cache_code, value_of_cache, IsSoundCache};
 
     ghost Value = { Cache T };
 
     ghost coded = { cache_code T.code };
 
     ghost view = { λ s.
-        seen s.resident.entries s.resident.cap s.claims.items s.entries.items s.turns };
+        value_of_cache s.resident.entries s.resident.cap s.claims.items s.entries.items s.turns };
 
     ghost invariant = { λ s. IsSoundCache
-        (seen s.resident.entries s.resident.cap s.claims.items s.entries.items s.turns)
+        (value_of_cache s.resident.entries s.resident.cap s.claims.items s.entries.items s.turns)
         (vec_len s.entries) (vec_len s.claims) (vec_capacity s.entries) };
 }
 
@@ -113,10 +114,10 @@ fn answer<T: Stands>(
 }
 
 impl<T: Stands> CacheState<T> {
-    /// No font, no claim and no call, for n fonts at most: 1 to 256.
+    /// A state for at most n fonts, 1 to 256, that has no font, no claim and no call.
     pub fn new(alloc: Global, capacity: usize) -> Result<CacheState<T>, NoMemory>
         requires some_font { 1 ≤ capacity }
-        requires few_fonts { capacity ≤ 256 }
+        requires few_fonts { capacity ≤ MAX_CACHED_FONTS }
         ensures capacity { IfOk result (λ s. s.capacity ≡ capacity) }
         ensures no_font { IfOk result (λ s. s.fonts ≡ []) }
         ensures no_claim { IfOk result (λ s. s.claims ≡ []) }
@@ -136,7 +137,7 @@ impl<T: Stands> CacheState<T> {
     /// Looks a key up for a seat that holds no claim: `Hit` with the font where it is resident,
     /// else `Busy` where another seat claims the key, else `Claimed`. It makes room for its entry,
     /// for the claim and for the entry that ends the claim, so that a claim can always be released.
-    /// `NoMemory` changes the number of turns alone.
+    /// `NoMemory` changes only the number of turns.
     pub fn look(&mut self, seat: u32, key: &Arc<FontKey>) -> Result<Look<T>, NoMemory>
         requires few_turns { self.old.turns < 2 ^ 62 }
         requires free { claim_of seat self.old.claims ≡ None }
@@ -166,9 +167,9 @@ impl<T: Stands> CacheState<T> {
     }
 
     /// Hands in the font of the key that the seat has claimed, which ends the claim: the key then
-    /// has this font. The answer is the key whose font left for it. `Err` means that memory ran
-    /// out: it hands the font back and changes the number of turns alone, so that the seat still
-    /// holds its claim.
+    /// has this font. The answer is the key of the font that was evicted for it. `Err` means that
+    /// memory ran out: it hands the font back and changes only the number of turns, so that the
+    /// seat still holds its claim.
     pub fn fill(
         &mut self,
         seat: u32,
@@ -202,8 +203,8 @@ impl<T: Stands> CacheState<T> {
         }
     }
 
-    /// As `fill`, and hands out the font that left with its key, so that the caller lets it go
-    /// where it likes: it may be the font's last owner.
+    /// As `fill`, and hands out the evicted font with its key, so that the caller drops it when it
+    /// likes: it may be the font's last owner.
     pub fn fill_keeping(
         &mut self,
         seat: u32,
@@ -219,8 +220,8 @@ impl<T: Stands> CacheState<T> {
             (call seat (arc_value key.now) (Filled (evicted_key gone)))) }
         ensures noted { IfOk result (λ gone. self.new.history
             ≡ self.old.history ++ call seat (arc_value key.now) (Filled (evicted_key gone)) ∷ []) }
-        ensures left { IfOk result (λ gone. option_map evicted_seen gone
-            ≡ gone_font self.old.fonts self.old.capacity) }
+        ensures left { IfOk result (λ gone. option_map value_of_evicted gone
+            ≡ font_to_evict self.old.fonts self.old.capacity) }
         ensures fonts { IfOk result (λ _. AddsFont (arc_value key.now) (arc_value value)
             self.old.fonts self.new.fonts) }
         ensures stored { IfOk result (λ _. lookup (key_eq (arc_value key.now)) self.new.fonts

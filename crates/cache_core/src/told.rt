@@ -1,7 +1,7 @@
 //! What a turn lock asks of the value that it hands from seat to seat.
 
-/// A value that takes turns. In a proof it tells its history, the number of its turns, and where it
-/// stands.
+/// A value that takes turns. Proofs know its history, the number of its turns, and in which common
+/// parts it stands.
 pub trait Told {
     ghost use Rattle.std.specs.Prelude.{ℕ, List};
     ghost use Rattle.cache_core.specs.declared.calls.Call.{Call};

@@ -1,7 +1,7 @@
 //! Threads that look the one font up at once, and how many look-ups they make together.
 ghost use Rattle.std.specs.Prelude.{◌≡◌, ◌+◌, ◌<◌, ◌≤◌, ℕ, All, IsTrue};
 
-use crate::pace::{MOST_TURNS, Pace};
+use crate::pace::{MAX_TURNS, Pace};
 use outside::FontKey;
 use std::sync::{Arc, Wait};
 use std::thread;
@@ -27,12 +27,12 @@ pub(crate) trait Looker: Drop {
 // Looks until the time is up, or a look is no hit.
 fn look_ups<R: Wait, L: Looker>(rt: &R, looker: &mut L, key: &Arc<FontKey>, pace: &Pace)
     requires ready { L.ready looker.old }
-    requires room { MOST_TURNS ≤ L.room looker.old }
+    requires room { MAX_TURNS ≤ L.room looker.old }
 {
     let mut looks = 0u64;
     let mut x = 1;
     pace.meet();
-    for _i in 0..MOST_TURNS {
+    for _i in 0..MAX_TURNS {
         if pace.is_over() {
             break;
         }
@@ -51,7 +51,7 @@ fn all_look_ups<R: Threads + Wait + Sync, L: Looker + Send>(
     key: &Arc<FontKey>,
     pace: &Pace,
 )
-    requires { All (λ l. L.ready l × (MOST_TURNS ≤ L.room l)) lookers.old }
+    requires { All (λ l. L.ready l × (MAX_TURNS ≤ L.room l)) lookers.old }
 {
     let threads = lookers.len().max(1);
     thread::for_each_mut(
@@ -59,7 +59,7 @@ fn all_look_ups<R: Threads + Wait + Sync, L: Looker + Send>(
         lookers,
         threads,
         &|_, looker: &mut L|
-            requires { L.ready looker.old × (MOST_TURNS ≤ L.room looker.old) }
+            requires { L.ready looker.old × (MAX_TURNS ≤ L.room looker.old) }
         { look_ups(rt, looker, key, pace) },
     );
 }
@@ -73,14 +73,14 @@ pub(crate) fn rate<R: Threads + Wait + Sync + Clock, L: Looker + Send>(
     steps: u64,
     time: Duration,
 ) -> Option<u64>
-    requires { All (λ l. L.ready l × (MOST_TURNS ≤ L.room l)) lookers.old }
+    requires { All (λ l. L.ready l × (MAX_TURNS ≤ L.room l)) lookers.old }
 {
     let pace = Pace::new(lookers.len(), steps);
     let (nanos, ()) = thread::join(
         rt,
         || pace.end_after(rt, time),
         ||
-            requires { All (λ l. L.ready l × (MOST_TURNS ≤ L.room l)) lookers.now }
+            requires { All (λ l. L.ready l × (MAX_TURNS ≤ L.room l)) lookers.now }
         { all_look_ups(rt, lookers, key, &pace) },
     );
     pace.rate(nanos.ok()?)

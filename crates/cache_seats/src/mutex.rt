@@ -1,9 +1,9 @@
-//! Threads that look in one cache under std's `Mutex`, whose order is any.
+//! Threads that look in one cache under std's `Mutex`, which gives turns in any order.
 ghost use Rattle.std.specs.Prelude.{◌≡◌, ◌<◌, ◌≤◌, [], ◌^◌, IsTrue};
 
 use crate::font::Blank;
 use crate::looking::{Looker, rate};
-use crate::pace::MOST_TURNS;
+use crate::pace::MAX_TURNS;
 use cache_core::{CacheState, Look};
 use outside::FontKey;
 use std::alloc::Global;
@@ -23,7 +23,7 @@ fn is_hit(state: &mut CacheState<Blank>, key: &Arc<FontKey>) -> bool
     requires free { state.old.claims ≡ [] }
     ensures free { state.new.claims ≡ [] }
 {
-    if state.turns() >= MOST_TURNS {
+    if state.turns() >= MAX_TURNS {
         return false;
     }
     match state.look(1, key) {

@@ -6,7 +6,7 @@ use std::time::{Clock, Duration, Instant};
 use std::{io, thread};
 
 /// No run makes more look-ups of one seat.
-pub(crate) const MOST_TURNS: u64 = 1 << 40;
+pub(crate) const MAX_TURNS: u64 = 1 << 40;
 
 /// What the threads of one run share.
 #[derive(Drop)]
@@ -62,7 +62,7 @@ impl Pace {
         }
     }
 
-    /// Waits until all threads have come, and not for ever.
+    /// Waits until all threads have come, for a limited time.
     pub(crate) fn meet(&self) {
         self.came.fetch_add(1, Ordering::SeqCst);
         for _ in 0..1_000_000u32 {
@@ -83,13 +83,13 @@ impl Pace {
         steps_from(x, self.steps)
     }
 
-    /// n look-ups were made.
+    /// Notes that n look-ups were made.
     pub(crate) fn note(&self, looks: u64, x: u64) {
         self.looks.fetch_add(looks, Ordering::SeqCst);
         self.sum.fetch_add(x, Ordering::SeqCst);
     }
 
-    /// Ends the run after the time, and tells how many nanoseconds it took.
+    /// Ends the run after the time, and answers how many nanoseconds it took.
     pub(crate) fn end_after<C: Clock>(&self, clock: &C, time: Duration) -> io::Result<u128> {
         self.meet();
         let start = Instant::now(clock);

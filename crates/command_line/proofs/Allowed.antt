@@ -4,8 +4,8 @@ use Rattle.std.proofs.Common.{None, codes, false, refl, subst, arith, leb-true}
 use Rattle.std.specs.Prelude.{IfOk, IfSome, Result, Ok, Err, min, option_and_then, unwrap_or}
 use Rattle.std.specs.List.{list_all}
 use Rattle.std.proofs.lemmas.Bool.{and_parts}
-use Rattle.pixel_round.specs.Limits.{HIGHEST_RESOLUTION}
-use Rattle.raster_page.specs.Limits.{LONGEST_PAGE_SIDE}
+use Rattle.pixel_round.specs.Limits.{MAX_RESOLUTION}
+use Rattle.raster_page.specs.Limits.{MAX_PAGE_SIDE}
 use Rattle.command_line.specs.declared.settings.Settings.{Settings}
 use Rattle.command_line.specs.declared.parse.LineStop.{LineStop}
 use Rattle.command_line.specs.Settings.{AreSettings}
@@ -32,11 +32,11 @@ within_if least most (Some n) h =
 
 -- each number of the uses lies in its range
 record AreInRange (us : List Use) : Type 0 where
-  res : is_within 1 HIGHEST_RESOLUTION (number_of (codes "res") us) ≡ true
-  width : is_within 1 LONGEST_PAGE_SIDE (number_of (codes "width") us) ≡ true
-  height : is_within 1 LONGEST_PAGE_SIDE (number_of (codes "height") us) ≡ true
-  left : is_within 0 LONGEST_PAGE_SIDE (number_of (codes "left") us) ≡ true
-  top : is_within 0 LONGEST_PAGE_SIDE (number_of (codes "top") us) ≡ true
+  res : is_within 1 MAX_RESOLUTION (number_of (codes "res") us) ≡ true
+  width : is_within 1 MAX_PAGE_SIDE (number_of (codes "width") us) ≡ true
+  height : is_within 1 MAX_PAGE_SIDE (number_of (codes "height") us) ≡ true
+  left : is_within 0 MAX_PAGE_SIDE (number_of (codes "left") us) ≡ true
+  top : is_within 0 MAX_PAGE_SIDE (number_of (codes "top") us) ≡ true
   workers : is_within 1 32 (number_of (codes "workers") us) ≡ true
   cache : is_within 1 256 (number_of (codes "cache") us) ≡ true
   sample : is_within 1 1000 (number_of (codes "sample") us) ≡ true
@@ -65,14 +65,14 @@ in_range us h =
 are_settings : (us : List Use) → AreInRange us → AreSettings (settings_from us)
 are_settings us r =
     let dots = number_or 300 (codes "res") us in
-    let width = min LONGEST_PAGE_SIDE (17 * dots / 2) in
-    let height = min LONGEST_PAGE_SIDE (11 * dots) in
-    let res : (1 ≤ dots) × (dots ≤ HIGHEST_RESOLUTION) =
-    within_or 1 HIGHEST_RESOLUTION 300 (codes "res") us r.res (omega arith) (omega arith) in
-    let wide = within_or 1 LONGEST_PAGE_SIDE width (codes "width") us r.width (omega arith) (omega arith) in
-    let high = within_or 1 LONGEST_PAGE_SIDE height (codes "height") us r.height (omega arith) (omega arith) in
-    let left = within_or 0 LONGEST_PAGE_SIDE dots (codes "left") us r.left (omega arith) (omega arith) in
-    let top = within_or 0 LONGEST_PAGE_SIDE dots (codes "top") us r.top (omega arith) (omega arith) in
+    let width = min MAX_PAGE_SIDE (17 * dots / 2) in
+    let height = min MAX_PAGE_SIDE (11 * dots) in
+    let res : (1 ≤ dots) × (dots ≤ MAX_RESOLUTION) =
+    within_or 1 MAX_RESOLUTION 300 (codes "res") us r.res (omega arith) (omega arith) in
+    let wide = within_or 1 MAX_PAGE_SIDE width (codes "width") us r.width (omega arith) (omega arith) in
+    let high = within_or 1 MAX_PAGE_SIDE height (codes "height") us r.height (omega arith) (omega arith) in
+    let left = within_or 0 MAX_PAGE_SIDE dots (codes "left") us r.left (omega arith) (omega arith) in
+    let top = within_or 0 MAX_PAGE_SIDE dots (codes "top") us r.top (omega arith) (omega arith) in
     record {
       resolution = res;
       sheet = record {

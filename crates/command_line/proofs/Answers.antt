@@ -1,4 +1,4 @@
--- What a parse of the arguments tells of their settings.
+-- What a parse of the arguments gives of their settings.
 use Rattle.std.proofs.Common.{◌≡◌, ◌∙◌, ◌⊎◌, inl, inr, refl, sym, ap, ap₂, ℕ, Bool, cond, true}
 use Rattle.std.proofs.Common.{false, not, ◌||◌, ◌&&◌, List, [], ◌∷◌, Option, Some, None, codes}
 use Rattle.std.specs.List.{AllByRecursion, fold, list_all, list_any}
@@ -23,7 +23,7 @@ use Rattle.command_line.specs.declared.parse.LineStop.TheVariants.{Usage}
 use Rattle.command_line.specs.Commands.{line_app}
 use Rattle.std.proofs.lemmas.Bool.{true≢false}
 use Rattle.command_line.specs.Shaped.{is_shaped}
-use Rattle.command_line.specs.Reads.{Reads, given_of, is_allowed, settings_with}
+use Rattle.command_line.specs.Reads.{MatchesHold, given_of, is_allowed, settings_with}
 use Rattle.command_line.proofs.Rules.{is_exact, is_plain, rule_for, rules}
 use Rattle.command_line.proofs.Lines.{Agrees, Refused, agrees, line_fault, line_rows, walk_end}
 use Rattle.command_line.proofs.Spelled.{IsSpelled, all_spelled, use_found}
@@ -149,7 +149,7 @@ module _ (us : List Use) (f : Found) (all : AllByRecursion (IsSpelled choices) u
       let range : u.choice.range ≡ None = ap (λ (c : Choice). c.range) choice in
       rw range refl
 
-  pub reads : Reads us f
+  pub reads : MatchesHold us f
   reads =
       let number = λ (name : Text) (r : ℕ × ℕ) (e : choice_of choices name
       ≡ Some (record { name = name; range = Some r })).
@@ -197,7 +197,7 @@ pub record TakenArguments (arguments : List Text) (f : Found) : Type 0 where
   pub uses : List Use
   pub spelled : uses_of arguments ≡ Some uses
   pub distinct : are_distinct uses ≡ true
-  pub reads : Reads uses f
+  pub reads : MatchesHold uses f
 
 pub taken_arguments : (arguments : List Text) (f : Found) → list_all is_shaped arguments ≡ true
     → fault_of line_app arguments ≡ [] → rows_of f ≡ matches_of line_app arguments

@@ -7,7 +7,7 @@ use Rattle.std.specs.List.{list_all, list_any}
 use Rattle.std.proofs.lemmas.Bool.{and_parts, and_right, not-true, true≢false}
 use Rattle.clap.proofs.CutLemmas.{Lacks, after_first-at, before_first-Lacks, before_first-at}
 use Rattle.clap.proofs.CutLemmas.{list_any-at}
-use Rattle.command_line.specs.Line.{Choice, Text, choice_of, choices, number_in, opens, part_of}
+use Rattle.command_line.specs.Line.{Choice, Text, choice_of, choices, number_in, opens, part_of_argument}
 use Rattle.command_line.specs.Line.{settings_among, settings_of, stray, use_before, uses_from}
 use Rattle.command_line.specs.Line.{waiting_after, with_value}
 
@@ -56,7 +56,7 @@ module _ (t : List Choice) (name : Text) (least most : ℕ)
   abbrev joined : Text → Text
   joined value = 45 ∷ 45 ∷ (name ++ 61 ∷ value)
 
-  part_joined : (value : Text) → part_of t None (joined value) ≡ with_value it value
+  part_joined : (value : Text) → part_of_argument t None (joined value) ≡ with_value it value
   part_joined value =
       let l = lacks name plain in
       rw (
@@ -67,7 +67,7 @@ module _ (t : List Choice) (name : Text) (least most : ℕ)
         found,
       ) refl
 
-  part_apart : part_of t None (45 ∷ 45 ∷ name) ≡ opens it
+  part_apart : part_of_argument t None (45 ∷ 45 ∷ name) ≡ opens it
   part_apart = rw (before_first-Lacks 61 name (lacks name plain), plain, found) refl
 
   uses_alike : (waiting : Option Choice) (before after : List Text) (value : Text)
@@ -77,8 +77,8 @@ module _ (t : List Choice) (name : Text) (least most : ℕ)
   uses_alike (Some c) [] after value =
       rw (no_value c (45 ∷ (name ++ 61 ∷ value)), no_value c (45 ∷ name)) refl
   uses_alike waiting (x ∷ before) after value =
-      ap (use_before (part_of t waiting x))
-      (uses_alike (waiting_after (part_of t waiting x)) before after value)
+      ap (use_before (part_of_argument t waiting x))
+      (uses_alike (waiting_after (part_of_argument t waiting x)) before after value)
 
 pub alike : (name : Text) (least most : ℕ)
     → choice_of choices name ≡ Some (number_in name least most)

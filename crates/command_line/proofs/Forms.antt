@@ -10,7 +10,7 @@ use Rattle.command_line.specs.Line.{Text, after_byte, after_hyphens, is_value, n
 use Rattle.command_line.specs.Shaped.{is_option_rest}
 
 -- an argument that clap takes for neither `--`, nor an option, nor flags
-pub record IsPlainArgument (argument : Text) : Type 0 where
+pub record IsPositionalArgument (argument : Text) : Type 0 where
   pub no_end : bytes_eq argument (45 ∷ 45 ∷ []) ≡ false
   pub no_long : long_of argument ≡ None
   pub no_short : short_of argument ≡ None
@@ -26,9 +26,9 @@ first_digit x xs h =
     let first : nat_le 48 x ≡ true = (and_parts _ _ range).0 in
     not_hyphen x (leb-true 48 x first)
 
-pub plain_argument_of : (argument : Text) → is_value argument ≡ true → IsPlainArgument argument
-plain_argument_of [] h = absurd (false≢true h)
-plain_argument_of (x ∷ xs) h =
+pub positional_argument_of : (argument : Text) → is_value argument ≡ true → IsPositionalArgument argument
+positional_argument_of [] h = absurd (false≢true h)
+positional_argument_of (x ∷ xs) h =
     let other = first_digit x xs h in
     record {
       no_end = rw other refl;

@@ -8,8 +8,8 @@ use Rattle.std.specs.Str.Parse.{digits_value}
 use Rattle.std.proofs.lemmas.Bool.{and_from}
 use Rattle.std.proofs.lemmas.Fmt.{decimal_nonempty, digits_decimal, digits_value-decimal}
 use Rattle.std.proofs.lemmas.Fmt.{length-decimal-le}
-use Rattle.pixel_round.specs.Limits.{HIGHEST_RESOLUTION}
-use Rattle.raster_page.specs.Limits.{LONGEST_PAGE_SIDE}
+use Rattle.pixel_round.specs.Limits.{MAX_RESOLUTION}
+use Rattle.raster_page.specs.Limits.{MAX_PAGE_SIDE}
 use Rattle.command_line.specs.declared.settings.Settings.{Settings}
 use Rattle.command_line.specs.Settings.{AreSettings}
 use Rattle.command_line.specs.Line.{Choice, Text, Use, are_distinct, choices, is_in_range, is_used}
@@ -48,11 +48,11 @@ more_uses sample trace summary = sample_uses sample
     ++ (switch_uses (codes "trace") trace ++ switch_uses (codes "summary") summary)
 
 abbrev uses_for : Settings → List Use
-uses_for s = use_of (number_in (codes "res") 1 HIGHEST_RESOLUTION) s.res
-    ∷ use_of (number_in (codes "width") 1 LONGEST_PAGE_SIDE) s.sheet.width
-    ∷ use_of (number_in (codes "height") 1 LONGEST_PAGE_SIDE) s.sheet.height
-    ∷ use_of (number_in (codes "left") 0 LONGEST_PAGE_SIDE) s.sheet.left
-    ∷ use_of (number_in (codes "top") 0 LONGEST_PAGE_SIDE) s.sheet.top
+uses_for s = use_of (number_in (codes "res") 1 MAX_RESOLUTION) s.res
+    ∷ use_of (number_in (codes "width") 1 MAX_PAGE_SIDE) s.sheet.width
+    ∷ use_of (number_in (codes "height") 1 MAX_PAGE_SIDE) s.sheet.height
+    ∷ use_of (number_in (codes "left") 0 MAX_PAGE_SIDE) s.sheet.left
+    ∷ use_of (number_in (codes "top") 0 MAX_PAGE_SIDE) s.sheet.top
     ∷ use_of (number_in (codes "workers") 1 32) s.workers
     ∷ use_of (number_in (codes "cache") 1 256) s.cache
     ∷ more_uses s.sample s.trace s.summary
@@ -170,11 +170,11 @@ sample_bounds (Some n) given e h =
 ranges : (s : Settings) → AreSettings s → AreTold s
     → list_all (is_in_range (uses_for s)) choices ≡ true
 ranges s h t =
-    and_from _ _ (bounds 1 HIGHEST_RESOLUTION s.res _ t.res h.resolution.0 h.resolution.1)
-    (and_from _ _ (bounds 1 LONGEST_PAGE_SIDE s.sheet.width _ t.width h.sheet.some_width h.sheet.width)
-    (and_from _ _ (bounds 1 LONGEST_PAGE_SIDE s.sheet.height _ t.height h.sheet.some_height h.sheet.height)
-    (and_from _ _ (bounds 0 LONGEST_PAGE_SIDE s.sheet.left _ t.left (omega arith) h.sheet.left)
-    (and_from _ _ (bounds 0 LONGEST_PAGE_SIDE s.sheet.top _ t.top (omega arith) h.sheet.top)
+    and_from _ _ (bounds 1 MAX_RESOLUTION s.res _ t.res h.resolution.0 h.resolution.1)
+    (and_from _ _ (bounds 1 MAX_PAGE_SIDE s.sheet.width _ t.width h.sheet.some_width h.sheet.width)
+    (and_from _ _ (bounds 1 MAX_PAGE_SIDE s.sheet.height _ t.height h.sheet.some_height h.sheet.height)
+    (and_from _ _ (bounds 0 MAX_PAGE_SIDE s.sheet.left _ t.left (omega arith) h.sheet.left)
+    (and_from _ _ (bounds 0 MAX_PAGE_SIDE s.sheet.top _ t.top (omega arith) h.sheet.top)
     (and_from _ _ (bounds 1 32 s.workers _ t.workers h.workers.0 h.workers.1)
     (and_from _ _ (bounds 1 256 s.cache _ t.cache h.cache.0 h.cache.1)
     (and_from _ _ (sample_bounds s.sample _ t.sample h.sample) refl)))))))

@@ -8,11 +8,11 @@ use Rattle.std.specs.Option.{option_map_or}
 use Rattle.std.specs.Str.Parse.{digits_value}
 use Rattle.std.proofs.lemmas.Bool.{and_parts, true≢false}
 use Rattle.std.proofs.lemmas.Slice.Eq.{bytes_eq-Decides}
-use Rattle.raster_page.specs.Limits.{LONGEST_PAGE_SIDE}
+use Rattle.raster_page.specs.Limits.{MAX_PAGE_SIDE}
 use Rattle.command_line.specs.declared.settings.Settings.{Settings}
 use Rattle.command_line.specs.Line.{Choice, Part, Text, Use, are_distinct, choices, is_named}
 use Rattle.command_line.specs.Line.{is_used}
-use Rattle.command_line.specs.Line.{is_within, number_of, opens, part_of, settings_among}
+use Rattle.command_line.specs.Line.{is_within, number_of, opens, part_of_argument, settings_among}
 use Rattle.command_line.specs.Line.{settings_of}
 use Rattle.command_line.specs.Line.{stray, use_before, uses_from, uses_of, waiting_after, whole}
 
@@ -37,7 +37,7 @@ uses_append : (t : List Choice) (waiting : Option Choice) (a b : List Text) (us 
     → uses_from t waiting a ≡ Some us → HasBefore t waiting (a ++ b) us b
 uses_append t None [] b us e = let is : [] ≡ us = cc in rw (← is) (no_more (uses_from t None b))
 uses_append t (Some c) [] b us e = cc
-uses_append t waiting (x ∷ a) b us e = go (part_of t waiting x) e (λ w vs. uses_append t w a b vs)
+uses_append t waiting (x ∷ a) b us e = go (part_of_argument t waiting x) e (λ w vs. uses_append t w a b vs)
   where
     go : (p : Part) → use_before p (uses_from t (waiting_after p) a) ≡ Some us
         → ((w : Option Choice) (vs : List Use) → uses_from t w a ≡ Some vs
@@ -140,8 +140,8 @@ chosen_by workers distinct numbers used =
     (Some (record {
       res = res;
       sheet = record {
-        width = unwrap_or (numbers (codes "width")) (min LONGEST_PAGE_SIDE (17 * res / 2));
-        height = unwrap_or (numbers (codes "height")) (min LONGEST_PAGE_SIDE (11 * res));
+        width = unwrap_or (numbers (codes "width")) (min MAX_PAGE_SIDE (17 * res / 2));
+        height = unwrap_or (numbers (codes "height")) (min MAX_PAGE_SIDE (11 * res));
         left = unwrap_or (numbers (codes "left")) res;
         top = unwrap_or (numbers (codes "top")) res;
       };

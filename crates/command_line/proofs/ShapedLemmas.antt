@@ -6,7 +6,7 @@ use Rattle.std.specs.Prelude.{option_map}
 use Rattle.std.specs.Option.{option_map_or}
 use Rattle.std.proofs.lemmas.Bool.{and_from, false≢true}
 use Rattle.command_line.specs.Line.{Choice, Part, Text, Use, after_hyphens, choice_of, choice_part}
-use Rattle.command_line.specs.Line.{is_value, name_of, opens, option_part, part_of, stray}
+use Rattle.command_line.specs.Line.{is_value, name_of, opens, option_part, part_of_argument, stray}
 use Rattle.command_line.specs.Line.{use_before, uses_from, value_of, waiting_after, whole}
 use Rattle.command_line.specs.Line.{with_value}
 use Rattle.command_line.specs.Shaped.{is_option_rest, is_shaped}
@@ -42,7 +42,7 @@ module _ (t : List Choice) (named : choice_of t [] ≡ None) where
   rest_shaped (x ∷ xs) (Some c) f e = choice_shaped c.range c.name (value_of (x ∷ xs)) e
 
   argument_shaped : (waiting : Option Choice) (argument : Text)
-      → is_part (part_of t waiting argument) ≡ true → is_shaped argument ≡ true
+      → is_part (part_of_argument t waiting argument) ≡ true → is_shaped argument ≡ true
   argument_shaped (Some c) argument e = rw (value_shaped c argument e) refl
   argument_shaped None argument e = go (after_hyphens argument) refl e
     where
@@ -55,8 +55,8 @@ module _ (t : List Choice) (named : choice_of t [] ≡ None) where
       → uses_from t waiting arguments ≡ Some us → list_all is_shaped arguments ≡ true
   all_shaped waiting [] us e = refl
   all_shaped waiting (argument ∷ arguments) us e =
-      and_from _ _ (argument_shaped waiting argument (first (part_of t waiting argument) e))
-      (go (part_of t waiting argument) e (λ w vs. all_shaped w arguments vs))
+      and_from _ _ (argument_shaped waiting argument (first (part_of_argument t waiting argument) e))
+      (go (part_of_argument t waiting argument) e (λ w vs. all_shaped w arguments vs))
     where
       first : (p : Part) → use_before p (uses_from t (waiting_after p) arguments) ≡ Some us
           → is_part p ≡ true

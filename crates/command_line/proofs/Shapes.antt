@@ -14,7 +14,7 @@ use Rattle.command_line.specs.Line.{Choice, Use}
 use Rattle.command_line.specs.Line.{name_of, value_of}
 use Rattle.command_line.proofs.Rules.{rules, top}
 use Rattle.command_line.proofs.Looks.{by_place, rule_found}
-use Rattle.command_line.proofs.Forms.{IsLongArgument, IsPlainArgument}
+use Rattle.command_line.proofs.Forms.{IsLongArgument, IsPositionalArgument}
 use Rattle.command_line.proofs.States.{IsOpen, IsSpoiled, at, first_empty, least_by, waits}
 use Rattle.command_line.proofs.States.{some_kind}
 
@@ -71,7 +71,7 @@ long_turn_spoiled t waiting argument rest h w bad e =
 
 -- ---- an argument of the shape of a value
 
-pub digits_idle : (t : List Choice) (argument : Text) (h : Held) → IsPlainArgument argument
+pub digits_idle : (t : List Choice) (argument : Text) (h : Held) → IsPositionalArgument argument
     → turn_fault (top t) [] (at h None) argument ≡ [] → ⊥
 digits_idle t argument h w e =
     some_kind kind.UnknownArgument [] (rw (w.no_end, w.no_long, w.no_short, by_place t 1) at e)
@@ -83,12 +83,12 @@ bytes_same : (x : Text) → bytes_eq x x ≡ true
 bytes_same x = (bytes_eq-Decides x x).1 refl
 
 pub digits_open : (t : List Choice) (us : List Use) (c : Choice) (argument : Text) (h : Held)
-    → IsPlainArgument argument → IsOpen t us c h
+    → IsPositionalArgument argument → IsOpen t us c h
     → turn_fault (top t) [] (at h (Some c)) argument ≡ []
 digits_open t us c argument h w o = rw (w.no_end, w.no_long, w.no_short) refl
 
 pub digits_walked : (t : List Choice) (us : List Use) (c : Choice) (argument : Text) (h : Held)
-    → IsPlainArgument argument → IsOpen t us c h
+    → IsPositionalArgument argument → IsOpen t us c h
     → walked (rules t) [] (at h (Some c)) argument ≡ at (filled_with c argument h) None
 unfolding walked
 digits_walked t us c argument h w o =

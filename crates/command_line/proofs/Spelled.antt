@@ -6,7 +6,7 @@ use Rattle.std.specs.Prelude.{find, is_some, option_map}
 use Rattle.std.proofs.lemmas.Bool.{false≢true}
 use Rattle.std.proofs.lemmas.Slice.Eq.{bytes_eq-Decides}
 use Rattle.command_line.specs.Line.{Choice, Part, Text, Use, after_hyphens, choice_of, choice_part}
-use Rattle.command_line.specs.Line.{is_named, is_value, name_of, opens, option_part, part_of, stray}
+use Rattle.command_line.specs.Line.{is_named, is_value, name_of, opens, option_part, part_of_argument, stray}
 use Rattle.command_line.specs.Line.{use_before, uses_from, value_of, waiting_after, whole}
 use Rattle.command_line.specs.Line.{with_value}
 use Rattle.command_line.proofs.Looks.{is_found}
@@ -48,7 +48,7 @@ option_parts t rest None f = tt
 option_parts t rest (Some c) f = choice_parts t c.name c.range (value_of rest) (is_found t _ c f)
 
 parts : (t : List Choice) (waiting : Option Choice) (argument : Text) → IsWaiting t waiting
-    → IsPart t (part_of t waiting argument)
+    → IsPart t (part_of_argument t waiting argument)
 parts t (Some c) argument w = value_part t c argument w.0
 parts t None argument w = go (after_hyphens argument)
   where
@@ -62,7 +62,7 @@ pub all_spelled : (t : List Choice) (waiting : Option Choice) (arguments : List 
 all_spelled t None [] us w e = let none : [] ≡ us = cc in rw (← none) tt
 all_spelled t (Some c) [] us w e = cc
 all_spelled t waiting (argument ∷ arguments) us w e =
-    go (part_of t waiting argument) (parts t waiting argument w) e
+    go (part_of_argument t waiting argument) (parts t waiting argument w) e
     (λ x vs. all_spelled t x arguments vs)
   where
     go : (p : Part) → IsPart t p → use_before p (uses_from t (waiting_after p) arguments) ≡ Some us

@@ -13,12 +13,12 @@ use Rattle.clap.specs.Walk.{Step, idle, long_met}
 use Rattle.clap.specs.Walk.{reacted, used, walked}
 use Rattle.clap.specs.declared.error.kind.ErrorKind.TheVariants as kind
 use Rattle.command_line.specs.Line.{Choice, Use, after_hyphens, choice_of, choice_part, is_used}
-use Rattle.command_line.specs.Line.{is_value, name_of, opens, part_of, stray, value_of, whole}
+use Rattle.command_line.specs.Line.{is_value, name_of, opens, part_of_argument, stray, value_of, whole}
 use Rattle.command_line.specs.Shaped.{is_option_rest, is_shaped}
 use Rattle.command_line.proofs.Rules.{rule_for, rules, top}
 use Rattle.command_line.proofs.Looks.{by_long, is_found, rule_found}
-use Rattle.command_line.proofs.Forms.{IsLongArgument, IsPlainArgument, long_argument_of}
-use Rattle.command_line.proofs.Forms.{plain_argument_of}
+use Rattle.command_line.proofs.Forms.{IsLongArgument, IsPositionalArgument, long_argument_of}
+use Rattle.command_line.proofs.Forms.{positional_argument_of}
 use Rattle.command_line.proofs.States.{IsIdle, IsOpen, IsSpoiled, Stands, at, choice_with}
 use Rattle.command_line.proofs.States.{fault_again, fault_when_new, first_empty, given_by}
 use Rattle.command_line.proofs.States.{given_some, has_row-rows_for, open_is_spoiled, row_for}
@@ -62,20 +62,20 @@ module _ (t : List Choice) (us : List Use) (name : Text) (r : Option (ℕ × ℕ
 pub data Turn (t : List Choice) (us : List Use) (waiting : Option Choice) (argument : Text)
     (h : Held) : Type 0 where
   refused : (turn_fault (top t) [] (at h waiting) argument ≡ [] → ⊥)
-      → part_of t waiting argument ≡ stray → Turn t us waiting argument h
+      → part_of_argument t waiting argument ≡ stray → Turn t us waiting argument h
   repeats : (turn_fault (top t) [] (at h waiting) argument ≡ [] → ⊥) → (u : Use)
-      → part_of t waiting argument ≡ whole u → is_used u.choice.name us ≡ true
+      → part_of_argument t waiting argument ≡ whole u → is_used u.choice.name us ≡ true
       → Turn t us waiting argument h
   spoils : (after : Held) → turn_fault (top t) [] (at h waiting) argument ≡ []
       → walked (rules t) [] (at h waiting) argument ≡ at after None → IsSpoiled t after
-      → (u : Use) → part_of t waiting argument ≡ whole u → is_used u.choice.name us ≡ true
+      → (u : Use) → part_of_argument t waiting argument ≡ whole u → is_used u.choice.name us ≡ true
       → Turn t us waiting argument h
   goes_on : (after : Held) → turn_fault (top t) [] (at h waiting) argument ≡ [] → (c : Choice)
       → walked (rules t) [] (at h waiting) argument ≡ at after (Some c) → IsOpen t us c after
-      → part_of t waiting argument ≡ opens c → Turn t us waiting argument h
+      → part_of_argument t waiting argument ≡ opens c → Turn t us waiting argument h
   takes : (after : Held) → turn_fault (top t) [] (at h waiting) argument ≡ []
       → walked (rules t) [] (at h waiting) argument ≡ at after None
-      → (u : Use) → IsIdle t (us ++ u ∷ []) after → part_of t waiting argument ≡ whole u
+      → (u : Use) → IsIdle t (us ++ u ∷ []) after → part_of_argument t waiting argument ≡ whole u
       → is_used u.choice.name us ≡ false → Turn t us waiting argument h
 
 module _ (t : List Choice) (us : List Use) (argument rest : Text) (h : Held)
@@ -103,11 +103,11 @@ module _ (t : List Choice) (us : List Use) (argument rest : Text) (h : Held)
       rw (by_long t (name_of rest), found, e) at (long_walked t None argument rest h w)
 
   part_by : (o : Option Choice) (v : Option Text) → choice_of t (name_of rest) ≡ o
-      → value_of rest ≡ v → part_of t None argument ≡ choice_part o v
+      → value_of rest ≡ v → part_of_argument t None argument ≡ choice_part o v
   part_by o v found e = rw (b, found, e) refl
 
   by_used : (name : Text) (r : Option (ℕ × ℕ)) (v : Text)
-      → part_of t None argument ≡ whole (this_use t us name r v h i)
+      → part_of_argument t None argument ≡ whole (this_use t us name r v h i)
       → turn_fault (top t) [] (at h None) argument
       ≡ or_else (react_fault (rules t) false (rule_for (choice_with name r)) (given_by r v) h)
       []
@@ -153,14 +153,14 @@ long_idle t us argument (x ∷ rest) h w b ok i = by_choice t us argument (x ∷
 
 digits_turn : (t : List Choice) (us : List Use) (waiting : Option Choice) (argument : Text)
     (h : Held) → is_value argument ≡ true → Stands t us waiting h → Turn t us waiting argument h
-digits_turn t us None argument h v s = let w = plain_argument_of argument v in
+digits_turn t us None argument h v s = let w = positional_argument_of argument v in
     refused (digits_idle t argument h w) (rw w.no_option refl)
 digits_turn t us (Some c) argument h v o = go (is_used c.name us) refl
   where
-    w : IsPlainArgument argument
-    w = plain_argument_of argument v
+    w : IsPositionalArgument argument
+    w = positional_argument_of argument v
 
-    part : part_of t (Some c) argument ≡ whole (record { choice = c; value = argument })
+    part : part_of_argument t (Some c) argument ≡ whole (record { choice = c; value = argument })
     part = rw v refl
 
     given : given_by c.range argument ≡ argument ∷ []
@@ -198,7 +198,7 @@ option_no_value argument rest b = go (is_value argument) refl
   where
     go : (v : Bool) → is_value argument ≡ v → v ≡ false
     go false e = refl
-    go true e = absurd (some≢none rest (sym b ∙ (plain_argument_of argument e).no_option))
+    go true e = absurd (some≢none rest (sym b ∙ (positional_argument_of argument e).no_option))
 
 long_open : (t : List Choice) (us : List Use) (c : Choice) (argument rest : Text) (h : Held)
     → IsLongArgument argument rest → after_hyphens argument ≡ Some rest
@@ -229,7 +229,7 @@ turn t us waiting argument h shaped s = elim (or_cases _ _ shaped) [
 pub spoiled_turn : (t : List Choice) (argument : Text) (h : Held) → is_shaped argument ≡ true
     → IsSpoiled t h → turn_fault (top t) [] (at h None) argument ≡ [] → ⊥
 spoiled_turn t argument h shaped bad = elim (or_cases _ _ shaped) [
-  | inl v ↦ digits_idle t argument h (plain_argument_of argument v)
+  | inl v ↦ digits_idle t argument h (positional_argument_of argument v)
   | inr o ↦ long (after_hyphens argument) refl o
 ]
   where

@@ -7,9 +7,11 @@ use Rattle.std.specs.List.{list_any, list_all, before_first, after_first}
 use Rattle.std.specs.Option.{option_map_or}
 use Rattle.std.specs.Char.{is_ascii_digit}
 use Rattle.std.specs.Str.Parse.{digits_value}
-use Rattle.pixel_round.specs.Limits.{HIGHEST_RESOLUTION}
-use Rattle.raster_page.specs.Limits.{LONGEST_PAGE_SIDE}
+use Rattle.pixel_round.specs.Limits.{MAX_RESOLUTION}
+use Rattle.raster_page.specs.Limits.{MAX_PAGE_SIDE}
 use Rattle.command_line.specs.declared.settings.Settings.{Settings}
+use Rattle.command_line.specs.Limits.{MAX_WORKERS}
+use Rattle.command_line.specs.Limits.{MAX_CACHED_FONTS}
 
 abbrev pub Text : Type 0
 Text = List ℕ
@@ -29,13 +31,13 @@ abbrev pub switch : Text → Choice
 switch name = record { name = name; range = None }
 
 abbrev pub choices : List Choice
-choices = number_in (codes "res") 1 HIGHEST_RESOLUTION
-    ∷ number_in (codes "width") 1 LONGEST_PAGE_SIDE
-    ∷ number_in (codes "height") 1 LONGEST_PAGE_SIDE
-    ∷ number_in (codes "left") 0 LONGEST_PAGE_SIDE
-    ∷ number_in (codes "top") 0 LONGEST_PAGE_SIDE
-    ∷ number_in (codes "workers") 1 32
-    ∷ number_in (codes "cache") 1 256
+choices = number_in (codes "res") 1 MAX_RESOLUTION
+    ∷ number_in (codes "width") 1 MAX_PAGE_SIDE
+    ∷ number_in (codes "height") 1 MAX_PAGE_SIDE
+    ∷ number_in (codes "left") 0 MAX_PAGE_SIDE
+    ∷ number_in (codes "top") 0 MAX_PAGE_SIDE
+    ∷ number_in (codes "workers") 1 MAX_WORKERS
+    ∷ number_in (codes "cache") 1 MAX_CACHED_FONTS
     ∷ number_in (codes "sample") 1 1000
     ∷ switch (codes "trace")
     ∷ switch (codes "summary")
@@ -102,9 +104,9 @@ option_part table None = stray
 option_part table (Some rest) = choice_part (choice_of table (name_of rest)) (value_of rest)
 
 -- an argument, where an option may wait for its value
-abbrev pub part_of : List Choice → Option Choice → Text → Part
-part_of table None argument = option_part table (after_hyphens argument)
-part_of table (Some c) argument = with_value c argument
+abbrev pub part_of_argument : List Choice → Option Choice → Text → Part
+part_of_argument table None argument = option_part table (after_hyphens argument)
+part_of_argument table (Some c) argument = with_value c argument
 
 -- ---- all arguments
 
@@ -121,7 +123,8 @@ use_before (whole u) uses = option_map (λ us. u ∷ us) uses
 -- where an argument is no part of a line, or an option still waits at the end
 abbrev pub uses_from : List Choice → Option Choice → List Text → Option (List Use)
 uses_from table waiting [] = if is_none waiting then Some [] else None
-uses_from table waiting (argument ∷ arguments) = let part = part_of table waiting argument in
+uses_from table waiting (argument ∷ arguments) =
+    let part = part_of_argument table waiting argument in
     use_before part (uses_from table (waiting_after part) arguments)
 
 abbrev pub uses_of : List Text → Option (List Use)
@@ -161,8 +164,8 @@ abbrev pub settings_from : List Use → Settings
 settings_from us = let res = number_or 300 (codes "res") us in record {
   res = res;
   sheet = record {
-    width = number_or (min LONGEST_PAGE_SIDE (17 * res / 2)) (codes "width") us;
-    height = number_or (min LONGEST_PAGE_SIDE (11 * res)) (codes "height") us;
+    width = number_or (min MAX_PAGE_SIDE (17 * res / 2)) (codes "width") us;
+    height = number_or (min MAX_PAGE_SIDE (11 * res)) (codes "height") us;
     left = number_or res (codes "left") us;
     top = number_or res (codes "top") us;
   };

@@ -3,15 +3,17 @@ use Rattle.std.specs.Prelude.{◌≡◌, ◌/◌, ◌*◌, ◌&&◌, ℕ, Bool, 
 use Rattle.std.specs.Prelude.{find, if◌then◌else◌, nat_le, option_map, unwrap_or}
 use Rattle.clap.specs.Words.{first_value, one_text}
 use Rattle.clap.specs.declared.parser.matches.Found.{Found}
-use Rattle.pixel_round.specs.Limits.{HIGHEST_RESOLUTION}
-use Rattle.raster_page.specs.Limits.{LONGEST_PAGE_SIDE}
+use Rattle.pixel_round.specs.Limits.{MAX_RESOLUTION}
+use Rattle.raster_page.specs.Limits.{MAX_PAGE_SIDE}
 use Rattle.command_line.specs.Line.{Text, Use, choice_of, choices, is_named, is_used, is_value}
 use Rattle.command_line.specs.Line.{is_within, number_in, number_of, switch}
 use Rattle.command_line.specs.declared.settings.Settings.{Settings}
 use Rattle.command_line.specs.declared.matches.LineValues.{LineValues}
+use Rattle.command_line.specs.Limits.{MAX_WORKERS}
+use Rattle.command_line.specs.Limits.{MAX_CACHED_FONTS}
 
 -- what the matches have at each name
-pub record Reads (us : List Use) (f : Found) : Type 0 where
+pub record MatchesHold (us : List Use) (f : Found) : Type 0 where
   pub number : (name : Text) (r : ℕ × ℕ) → choice_of choices name ≡ Some (number_in name r.0 r.1)
       → first_value f name ≡ option_map (λ u. u.value) (find (is_named name) us)
   pub digits : (name : Text) (r : ℕ × ℕ) (v : Text)
@@ -37,19 +39,19 @@ given_of us = record {
 
 -- each number lies in its range, and there are as many workers as are asked for
 abbrev pub is_allowed : ℕ → LineValues → Bool
-is_allowed workers g = is_within 1 HIGHEST_RESOLUTION g.res
-    && (is_within 1 LONGEST_PAGE_SIDE g.width && (is_within 1 LONGEST_PAGE_SIDE g.height
-    && (is_within 0 LONGEST_PAGE_SIDE g.left && (is_within 0 LONGEST_PAGE_SIDE g.top
-    && (is_within 1 32 g.workers && (is_within 1 256 g.cache && (is_within 1 1000 g.sample
-    && true)))))))
+is_allowed workers g = is_within 1 MAX_RESOLUTION g.res
+    && (is_within 1 MAX_PAGE_SIDE g.width && (is_within 1 MAX_PAGE_SIDE g.height
+    && (is_within 0 MAX_PAGE_SIDE g.left && (is_within 0 MAX_PAGE_SIDE g.top
+    && (is_within 1 MAX_WORKERS g.workers && (is_within 1 MAX_CACHED_FONTS g.cache
+    && (is_within 1 1000 g.sample && true)))))))
     && nat_le (unwrap_or g.workers 1) workers
 
 abbrev pub settings_with : LineValues → Settings
 settings_with g = let res = unwrap_or g.res 300 in record {
   res = res;
   sheet = record {
-    width = unwrap_or g.width (min LONGEST_PAGE_SIDE (17 * res / 2));
-    height = unwrap_or g.height (min LONGEST_PAGE_SIDE (11 * res));
+    width = unwrap_or g.width (min MAX_PAGE_SIDE (17 * res / 2));
+    height = unwrap_or g.height (min MAX_PAGE_SIDE (11 * res));
     left = unwrap_or g.left res;
     top = unwrap_or g.top res;
   };

@@ -1,9 +1,11 @@
--- What a run is told besides its input and its fonts.
+-- What a run is given besides its input and its fonts.
 use Rattle.std.specs.Prelude.{◌≤◌, false, None, IfSome}
-use Rattle.pixel_round.specs.Limits.{HIGHEST_RESOLUTION}
+use Rattle.pixel_round.specs.Limits.{MAX_RESOLUTION}
 use Rattle.page_draw.specs.Sheets.{IsDrawable}
 use Rattle.page_draw.specs.declared.sheet.Sheet.{Sheet}
 use Rattle.command_line.specs.declared.settings.Settings.{Settings}
+use Rattle.command_line.specs.Limits.{MAX_WORKERS}
+use Rattle.command_line.specs.Limits.{MAX_CACHED_FONTS}
 
 -- the sheet where no option names another, at 300 dots for an inch: 8.5 by 11 inches, and margins
 -- of one inch
@@ -24,8 +26,8 @@ default_settings = record {
 
 -- settings within their limits
 pub record AreSettings (settings : Settings) : Type 0 where
-  pub resolution : (1 ≤ settings.res) × (settings.res ≤ HIGHEST_RESOLUTION)
+  pub resolution : (1 ≤ settings.res) × (settings.res ≤ MAX_RESOLUTION)
   pub sheet : IsDrawable settings.sheet
-  pub workers : (1 ≤ settings.workers) × (settings.workers ≤ 32)
-  pub cache : (1 ≤ settings.cache) × (settings.cache ≤ 256)
+  pub workers : (1 ≤ settings.workers) × (settings.workers ≤ MAX_WORKERS)
+  pub cache : (1 ≤ settings.cache) × (settings.cache ≤ MAX_CACHED_FONTS)
   pub sample : IfSome settings.sample (λ pages. (1 ≤ pages) × (pages ≤ 1000))

@@ -1,7 +1,7 @@
 //! The command that reads the arguments.
 ghost use Rattle.std.specs.Prelude.{◌≡◌, IfOk, false};
 ghost use Rattle.clap.specs.Words.{app_of, rule_of};
-ghost use Rattle.command_line.specs.Commands.{line_app, number_rule, plain_app, switch_rule};
+ghost use Rattle.command_line.specs.Commands.{line_app, number_rule, app_without_options, switch_rule};
 ghost use Rattle.command_line.specs.Commands.{with_number as app_with_number};
 ghost use Rattle.command_line.specs.Commands.{with_switch as app_with_switch};
 
@@ -22,8 +22,8 @@ fn switch(alloc: Global, name: &str) -> Arg<'_>
     Arg::new(alloc, name).long(name).action(ArgAction::SetTrue)
 }
 
-fn plain<'a>(alloc: Global) -> Command<'a>
-    ensures { app_of result ≡ plain_app }
+fn command_without_options<'a>(alloc: Global) -> Command<'a>
+    ensures { app_of result ≡ app_without_options }
 {
     Command::new(alloc, "dvipbm")
         .no_binary_name(true)
@@ -54,7 +54,7 @@ fn with_switch<'a>(
 pub fn command<'a>(alloc: Global) -> Result<Command<'a>, AllocError>
     ensures { IfOk result (λ c. app_of c ≡ line_app) }
 {
-    let command = plain(alloc);
+    let command = command_without_options(alloc);
     let command = with_number(alloc, command, "res")?;
     let command = with_number(alloc, command, "width")?;
     let command = with_number(alloc, command, "height")?;

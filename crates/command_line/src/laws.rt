@@ -13,13 +13,13 @@ pub fn given_settings()
     ensures defaults { NoArgumentsGiveTheDefaults }
 {}
 
-/// A value stands in the next argument or after `=`, and options stand in any order.
+/// A value is the next argument or comes after `=`, and options come in any order.
 pub fn forms()
     ensures apart_or_joined { ValuesStandApartOrJoined }
     ensures any_order { OptionsStandInAnyOrder }
 {}
 
-/// What lines set.
+/// Which settings some lines give.
 #[tactic(auto, unfolding(crate::specs::Line::settings_of))]
 pub fn worked_lines()
     ensures none { settings_of 32 [] ≡ Some (record {
@@ -77,7 +77,7 @@ pub fn worked_lines()
         }) }
 {}
 
-/// Arguments that are no line.
+/// Arguments that aren't a line.
 #[tactic(auto, unfolding(crate::specs::Line::settings_of))]
 pub fn worked_refusals()
     ensures other { settings_of 32 (codes "page.dvi" ∷ []) ≡ None }

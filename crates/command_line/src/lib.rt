@@ -1,7 +1,8 @@
 //! The arguments of the command line, and the settings that they give.
 //!
 //! `line` reads them with `clap`. Its contract is by a definition of a line that knows nothing of
-//! `clap` (`specs/Line.antt`): where `clap` would take more, tests before and after it refuse.
+//! `clap` (`specs/Line.antt`): what `clap` would accept beyond it is refused by tests before and
+//! after it.
 #![tactic(auto)]
 
 mod command;

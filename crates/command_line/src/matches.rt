@@ -1,9 +1,9 @@
-//! Reads the matches.
+//! Reads what `clap` matched.
 ghost use Rattle.std.specs.Prelude.{◌≡◌, List, Some, None, true, option_map, if◌then◌else◌};
 ghost use Rattle.std.specs.Str.Parse.{digits_value};
 ghost use Rattle.clap.specs.Words.{first_value, found_of, one_text};
 ghost use Rattle.command_line.specs.Line.{Text, Use, is_value, is_within};
-ghost use Rattle.command_line.specs.Reads.{Reads, given_of, is_allowed as are_allowed};
+ghost use Rattle.command_line.specs.Reads.{MatchesHold, given_of, is_allowed as are_allowed};
 ghost use Rattle.command_line.specs.Reads.{settings_with};
 
 use crate::{Settings, default_settings};
@@ -11,10 +11,16 @@ use clap::ArgMatches;
 use page_draw::Sheet;
 
 // The most dots to the inch.
-const HIGHEST_RESOLUTION: u32 = 4800;
+const MAX_RESOLUTION: u32 = 4800;
 
 // The greatest width, height and margin of a page, in dots.
-const LONGEST_PAGE_SIDE: u32 = 20000;
+const MAX_PAGE_SIDE: u32 = 20000;
+
+// The most workers of a run.
+const MAX_WORKERS: u32 = 32;
+
+// The most fonts that a cache may keep.
+const MAX_CACHED_FONTS: u32 = 256;
 
 /// The numbers and switches of a line.
 #[derive(Clone, Copy, Debug)]
@@ -44,8 +50,8 @@ fn number(matches: &ArgMatches<'_>, name: &str) -> Option<u32>
 
 /// What the matches give at each name.
 pub fn given_in(matches: &ArgMatches<'_>) -> LineValues
-    requires { (us : List Use) × Reads us (found_of matches.now) }
-    ensures { (us : List Use) → Reads us (found_of matches.now) → result ≡ given_of us }
+    requires { (us : List Use) × MatchesHold us (found_of matches.now) }
+    ensures { (us : List Use) → MatchesHold us (found_of matches.now) → result ≡ given_of us }
 {
     LineValues {
         res: number(matches, "res"),
@@ -76,13 +82,13 @@ pub fn settings(given: &LineValues, workers: usize) -> Option<Settings>
     ensures { result ≡ (if are_allowed workers given.now then Some (settings_with given.now)
         else None) }
 {
-    let allowed = within(given.res, 1, HIGHEST_RESOLUTION)
-        & within(given.width, 1, LONGEST_PAGE_SIDE)
-        & within(given.height, 1, LONGEST_PAGE_SIDE)
-        & within(given.left, 0, LONGEST_PAGE_SIDE)
-        & within(given.top, 0, LONGEST_PAGE_SIDE)
-        & within(given.workers, 1, 32)
-        & within(given.cache, 1, 256)
+    let allowed = within(given.res, 1, MAX_RESOLUTION)
+        & within(given.width, 1, MAX_PAGE_SIDE)
+        & within(given.height, 1, MAX_PAGE_SIDE)
+        & within(given.left, 0, MAX_PAGE_SIDE)
+        & within(given.top, 0, MAX_PAGE_SIDE)
+        & within(given.workers, 1, MAX_WORKERS)
+        & within(given.cache, 1, MAX_CACHED_FONTS)
         & within(given.sample, 1, 1000)
         & (given.workers.unwrap_or(1) as usize <= workers);
     if !allowed {
@@ -93,8 +99,8 @@ pub fn settings(given: &LineValues, workers: usize) -> Option<Settings>
     Some(Settings {
         res,
         sheet: Sheet {
-            width: given.width.unwrap_or((17 * res / 2).min(LONGEST_PAGE_SIDE)),
-            height: given.height.unwrap_or((11 * res).min(LONGEST_PAGE_SIDE)),
+            width: given.width.unwrap_or((17 * res / 2).min(MAX_PAGE_SIDE)),
+            height: given.height.unwrap_or((11 * res).min(MAX_PAGE_SIDE)),
             left: given.left.unwrap_or(res),
             top: given.top.unwrap_or(res),
         },

@@ -1,4 +1,4 @@
-//! What a run is told besides its input and its fonts.
+//! What a run is given besides its input and its fonts.
 ghost use Rattle.std.specs.Prelude.{◌≡◌};
 ghost use Rattle.page_draw.specs.Sheets.{IsDrawable};
 ghost use Rattle.command_line.specs.Settings.{AreSettings};
@@ -7,10 +7,10 @@ ghost use Rattle.command_line.specs.Settings.{default_sheet as the_default_sheet
 
 use page_draw::Sheet;
 
-/// What a run is told besides its input and its fonts.
+/// What a run is given besides its input and its fonts.
 #[derive(Clone, Copy, Debug, PartialEq, Eq)]
 pub struct Settings {
-    /// Dots for an inch: 1 to 4800.
+    /// Dots to the inch: 1 to 4800.
     pub res: u32,
     /// The sheet that each page is drawn on, in dots: sides of 1 to 20,000, margins of 0 to 20,000.
     pub sheet: Sheet,
@@ -21,9 +21,9 @@ pub struct Settings {
     /// How many pages of the sample are drawn in place of the input's: 1 to 1000. `None` draws the
     /// input's.
     pub sample: Option<u32>,
-    /// Whether the notes tell each call of the cache.
+    /// Whether each call of the cache is printed to the notes.
     pub trace: bool,
-    /// Whether the notes tell the counts of the run.
+    /// Whether the counts of the run are printed to the notes.
     pub summary: bool,
 }
 
@@ -42,7 +42,8 @@ pub fn default_sheet() -> Sheet
 }
 
 /// The settings of a run without arguments: 300 dots to the inch, the sheet of `default_sheet`, one
-/// worker, 16 fonts kept, the input's pages, and no notes but the line of a run that is refused.
+/// worker, 16 fonts kept, the input's pages, and nothing printed but the line of a run that is
+/// refused.
 #[tactic(auto, unfolding(crate::specs::Settings::default_settings))]
 pub fn default_settings() -> Settings
     ensures value { result ≡ the_default_settings }

@@ -6,7 +6,7 @@ use Rattle.std.proofs.lemmas.Int.{ints, to_z-of_z, fits_signed_from_abs}
 use Rattle.pixel_round.specs.Pixels.{Fraction, round}
 use Rattle.packed_rows.specs.declared.offset.TheConstants.{MAX_COORDINATE}
 use Rattle.drift_rules.specs.declared.flat.Registers.{Registers}
-use Rattle.drift_rules.specs.Position.{State, AreNear, KeepsNear, after_drift, at_h, at_v, on_entry, is_held, moved_over, over, zeros}
+use Rattle.drift_rules.specs.Position.{State, AreNear, KeepsNear, after_drift, at_h, at_v, on_entry, is_held, moved_over, advance_by, zeros}
 use Rattle.drift_rules.specs.Bounds.{AreHeld, IsHeldState}
 use Rattle.drift_rules.proofs.Near.{near_drifted, zeros_are_near}
 
@@ -162,7 +162,7 @@ at_v_kept c r v row dots vv held small near value bounded drift =
 
 -- a character that is set moves h and hh alone
 pub set_kept : (c : Fraction) (r m : Registers) (saved : List Registers) (width : ℤ) → IsTrue (is_held (r.h +ℤ width)) × (m ≡ moved_over c r width (round c width)) → AreHeld c m
-    → over c (record { now = r; saved = saved }) width (round c width)
+    → advance_by c (record { now = r; saved = saved }) width (round c width)
     ≡ Ok (record { now = record r { h = to_z w64 (of_z w64 m.h); hh = to_z w64 (of_z w64 m.hh) }; saved = saved })
 set_kept c r m saved width e held =
     let k = all_kept c m held in

@@ -3,7 +3,7 @@ use Rattle.std.proofs.Common.{◌≡◌, ℕ, ◌+◌, ◌*◌, ◌/◌, ◌<◌
 use Rattle.std.specs.List.{AllByRecursion}
 use Rattle.std.proofs.lemmas.Int.{ints}
 use Rattle.pixel_round.specs.Pixels.{Fraction, round}
-use Rattle.drift_rules.specs.Position.{State, IsNear, AreNear, KeepsNear, Step, StepsKeepNear, after_drift, at_h, at_v, PagesKeepNear, FlatCommand, at_origin, zeros, Leads, Skip, Char, Rule, Right, W, X, Down, Y, Z, W0, X0, Y0, Z0, Push, Pop, Enter, Leave, Advance, restoring}
+use Rattle.drift_rules.specs.Position.{State, IsNear, AreNear, KeepsNear, Step, StepsKeepNear, after_drift, at_h, at_v, PagesKeepNear, FlatCommand, at_origin, zeros, Leads, Skip, Char, Rule, Right, W, X, Down, Y, Z, W0, X0, Y0, Z0, Push, Pop, Enter, Leave, Advance, pop_registers}
 use Rattle.drift_rules.specs.declared.flat.Registers.{Registers}
 use Rattle.drift_rules.specs.declared.faults.PenFault.TheVariants.{Overflow, StackDeep}
 
@@ -26,7 +26,7 @@ pub saved_is : (b : Bool) (s t : State) → cond b (Err StackDeep) (Ok s) ≡ Ok
 saved_is true s t e = absurd cc
 saved_is false s t e = cc
 
-near_restored : (c : Fraction) (saved : List Registers) (t : State) → AllByRecursion (AreNear c) saved → restoring saved ≡ Ok t → KeepsNear c t
+near_restored : (c : Fraction) (saved : List Registers) (t : State) → AllByRecursion (AreNear c) saved → pop_registers saved ≡ Ok t → KeepsNear c t
 near_restored c [] t k e = absurd cc
 near_restored c (r ∷ saved) t k e =
     let made : State = record { now = r; saved = saved } in

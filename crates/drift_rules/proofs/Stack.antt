@@ -7,7 +7,8 @@ use Rattle.pixel_round.specs.Pixels.{Fraction}
 use Rattle.drift_rules.specs.declared.flat.Registers.{Registers}
 use Rattle.drift_rules.specs.declared.faults.PenFault.{PenFault}
 use Rattle.drift_rules.specs.declared.faults.PenFault.TheVariants.{Overflow, StackEmpty, StackDeep}
-use Rattle.drift_rules.specs.Position.{State, FlatCommand, Leads, MAX_SAVED, Step, after, restoring, Skip, Char, Rule, Right, W, X, Down, Y, Z, W0, X0, Y0, Z0, Push, Pop, Enter, Leave, Advance}
+use Rattle.drift_rules.specs.Position.{State, FlatCommand, Leads, Step, state_after, pop_registers, Skip, Char, Rule, Right, W, X, Down, Y, Z, W0, X0, Y0, Z0, Push, Pop, Enter, Leave, Advance}
+use Rattle.drift_rules.specs.Limits.{MAX_SAVED}
 use Rattle.drift_rules.specs.Stack.{is_push, is_pop, pushes, pops, PopsItsOwn, IsBalanced, PopsGiveBack, PacketsMoveAsCharacters, SavedStay, FewAreSaved, EmptyAtAPop, DeepAtAPush}
 use Rattle.drift_rules.proofs.Near.{held, saved_is}
 
@@ -23,12 +24,12 @@ pushed c s t Enter push e = ap saved_of (saved_is _ _ t e)
 pushed c s t _ push e = absurd cc
 
 -- a pop or a packet's end takes the last saved set
-taken : (c : Fraction) (s t : State) (f : FlatCommand) → IsTrue (is_pop f) → Step c s f t → restoring s.saved ≡ Ok t
+taken : (c : Fraction) (s t : State) (f : FlatCommand) → IsTrue (is_pop f) → Step c s f t → pop_registers s.saved ≡ Ok t
 taken c s t Pop pop e = e
 taken c s t Leave pop e = e
 taken c s t _ pop e = absurd cc
 
-popped : (saved : List Registers) (t : State) → restoring saved ≡ Ok t → saved ≡ t.now ∷ t.saved
+popped : (saved : List Registers) (t : State) → pop_registers saved ≡ Ok t → saved ≡ t.now ∷ t.saved
 popped [] t e = absurd cc
 popped (r ∷ saved) t e =
     let made : State = record { now = r; saved = saved } in
@@ -206,8 +207,8 @@ good s = Ok s
 same_good : (s t : State) → good s ≡ good t → t ≡ s
 same_good s t e = cc
 
-back : (saved : List Registers) (s u : State) → saved ≡ s.now ∷ s.saved → restoring saved ≡ Ok u → u ≡ s
-back saved s u is e = same_good s u (sym (ap restoring is) ∙ e)
+back : (saved : List Registers) (s u : State) → saved ≡ s.now ∷ s.saved → pop_registers saved ≡ Ok u → u ≡ s
+back saved s u is e = same_good s u (sym (ap pop_registers is) ∙ e)
 
 given_back : (c : Fraction) (s begun mid u : State) (push pop : FlatCommand) (flats : List FlatCommand) → IsTrue (is_push push) → IsTrue (is_pop pop) → IsBalanced flats
     → Step c s push begun → Leads c begun flats mid → Step c mid pop u → u ≡ s
@@ -225,7 +226,7 @@ pub packets_move_as_characters : PacketsMoveAsCharacters
 packets_move_as_characters c s t packet key code width balanced (begun, step, leads) =
     let p = parted c begun t packet (Leave ∷ Advance width ∷ []) leads in
     let is_s : p.rest.0 ≡ s = given_back c s begun p.mid p.rest.0 Enter Leave packet refl refl balanced step p.first p.rest.1 in
-    let moved : after c s (Advance width) ≡ Ok p.rest.2.0 = rw is_s at p.rest.2.1 in
+    let moved : state_after c s (Advance width) ≡ Ok p.rest.2.0 = rw is_s at p.rest.2.1 in
     moved ∙ ap good (sym p.rest.2.2)
 
 -- ---- the bounds
@@ -284,7 +285,7 @@ goes_on : (s : State) (fault : PenFault) → good s ≡ Err fault → ⊥
 goes_on s fault e = cc
 
 -- a command that neither saves nor restores has one fault
-pub only_overflow : (c : Fraction) (s : State) (f : FlatCommand) (fault : PenFault) → is_push f ≡ false → is_pop f ≡ false → after c s f ≡ Err fault → fault ≡ Overflow
+pub only_overflow : (c : Fraction) (s : State) (f : FlatCommand) (fault : PenFault) → is_push f ≡ false → is_pop f ≡ false → state_after c s f ≡ Err fault → fault ≡ Overflow
 only_overflow c s Skip fault _ _ e = absurd (goes_on s fault e)
 only_overflow c s (Char key code width true) fault _ _ e = absurd (goes_on s fault e)
 only_overflow c s (Char key code width false) fault _ _ e = overflow_by _ _ fault e
@@ -306,7 +307,7 @@ only_overflow c s Enter fault p _ e = absurd cc
 only_overflow c s Leave fault _ q e = absurd cc
 only_overflow c s (Advance width) fault _ _ e = overflow_by _ _ fault e
 
-only_empty : (saved : List Registers) (fault : PenFault) → restoring saved ≡ Err fault → (fault ≡ StackEmpty) × (saved ≡ [])
+only_empty : (saved : List Registers) (fault : PenFault) → pop_registers saved ≡ Err fault → (fault ≡ StackEmpty) × (saved ≡ [])
 only_empty [] fault e = (cc, refl)
 only_empty (r ∷ saved) fault e = absurd (goes_on _ fault e)
 
@@ -326,14 +327,14 @@ deep_is_overflow e = cc
 empty_is_overflow : StackEmpty ≡ Overflow → ⊥
 empty_is_overflow e = cc
 
-deep_at : (c : Fraction) (s : State) (f : FlatCommand) → after c s f ≡ Err StackDeep → IsTrue (is_push f) × (MAX_SAVED ≤ length s.saved)
+deep_at : (c : Fraction) (s : State) (f : FlatCommand) → state_after c s f ≡ Err StackDeep → IsTrue (is_push f) × (MAX_SAVED ≤ length s.saved)
 deep_at c s Push e = (refl, many_at (length s.saved) (no_room _ _ e))
 deep_at c s Enter e = (refl, many_at (length s.saved) (no_room _ _ e))
 deep_at c s Pop e = absurd (deep_is_empty (only_empty s.saved StackDeep e).0)
 deep_at c s Leave e = absurd (deep_is_empty (only_empty s.saved StackDeep e).0)
 deep_at c s f e = absurd (deep_is_overflow (only_overflow c s f StackDeep refl refl e))
 
-at_deep : (c : Fraction) (s : State) (f : FlatCommand) → IsTrue (is_push f) → MAX_SAVED ≤ length s.saved → after c s f ≡ Err StackDeep
+at_deep : (c : Fraction) (s : State) (f : FlatCommand) → IsTrue (is_push f) → MAX_SAVED ≤ length s.saved → state_after c s f ≡ Err StackDeep
 at_deep c s Push push many = rw (at_many (length s.saved) many) refl
 at_deep c s Enter push many = rw (at_many (length s.saved) many) refl
 at_deep c s _ push many = absurd cc
@@ -341,16 +342,16 @@ at_deep c s _ push many = absurd cc
 pub deep_at_a_push : DeepAtAPush
 deep_at_a_push c s f = (deep_at c s f, λ h. at_deep c s f h.0 h.1)
 
-empty_at : (c : Fraction) (s : State) (f : FlatCommand) → after c s f ≡ Err StackEmpty → IsTrue (is_pop f) × (s.saved ≡ [])
+empty_at : (c : Fraction) (s : State) (f : FlatCommand) → state_after c s f ≡ Err StackEmpty → IsTrue (is_pop f) × (s.saved ≡ [])
 empty_at c s Pop e = (refl, (only_empty s.saved StackEmpty e).1)
 empty_at c s Leave e = (refl, (only_empty s.saved StackEmpty e).1)
 empty_at c s Push e = absurd (empty_is_deep (only_deep _ _ StackEmpty e))
 empty_at c s Enter e = absurd (empty_is_deep (only_deep _ _ StackEmpty e))
 empty_at c s f e = absurd (empty_is_overflow (only_overflow c s f StackEmpty refl refl e))
 
-at_empty : (c : Fraction) (s : State) (f : FlatCommand) → IsTrue (is_pop f) → s.saved ≡ [] → after c s f ≡ Err StackEmpty
-at_empty c s Pop pop none = ap restoring none
-at_empty c s Leave pop none = ap restoring none
+at_empty : (c : Fraction) (s : State) (f : FlatCommand) → IsTrue (is_pop f) → s.saved ≡ [] → state_after c s f ≡ Err StackEmpty
+at_empty c s Pop pop none = ap pop_registers none
+at_empty c s Leave pop none = ap pop_registers none
 at_empty c s _ pop none = absurd cc
 
 pub empty_at_a_pop : EmptyAtAPop

@@ -10,6 +10,7 @@ use Rattle.drift_rules.specs.declared.flat.Flat.{Flat}
 use Rattle.drift_rules.specs.declared.flat.Flat.TheVariants as code
 use Rattle.drift_rules.specs.declared.faults.PenFault.{PenFault}
 use Rattle.drift_rules.specs.declared.faults.PenFault.TheVariants.{Overflow, StackEmpty, StackDeep}
+use Rattle.drift_rules.specs.Limits.{MAX_SAVED}
 
 -- a flat command, with all that it names as a value: a character's font, code, width and whether it
 -- is put, a rule's height, width and whether it is put, a motion and the space
@@ -101,7 +102,7 @@ moved_over c r width pixels = at_h c r (r.h +ℤ width) (r.hh +ℤ pixels)
 
 -- the state after a step that sets h or v to a number, if that may be held
 abbrev pub if_held : ℤ → State → Result State PenFault
-if_held z after = if is_held z then Ok after else Err Overflow
+if_held z state_after = if is_held z then Ok state_after else Err Overflow
 
 abbrev pub right_by : Fraction → State → Registers → ℤ → ℤ → Result State PenFault
 right_by c s set p space = if_held (s.now.h +ℤ p) (record s { now = moved_right c set p space })
@@ -109,17 +110,13 @@ right_by c s set p space = if_held (s.now.h +ℤ p) (record s { now = moved_righ
 abbrev pub down_by : Fraction → State → Registers → ℤ → ℤ → Result State PenFault
 down_by c s set p space = if_held (s.now.v +ℤ p) (record s { now = moved_down c set p space })
 
-abbrev pub over : Fraction → State → ℤ → ℤ → Result State PenFault
-over c s width pixels =
+abbrev pub advance_by : Fraction → State → ℤ → ℤ → Result State PenFault
+advance_by c s width pixels =
     if_held (s.now.h +ℤ width) (record s { now = moved_over c s.now width pixels })
 
--- how many sets of registers may be saved
-abbrev pub MAX_SAVED : ℕ
-MAX_SAVED = 1000
-
 -- all eight registers are saved, and these are the next
-abbrev pub saving : State → Registers → Result State PenFault
-saving s next =
+abbrev pub push_registers : State → Registers → Result State PenFault
+push_registers s next =
     if nat_le MAX_SAVED (length s.saved) then Err StackDeep
     else Ok (record { now = next; saved = s.now ∷ s.saved })
 
@@ -129,36 +126,36 @@ on_entry r = record r { w = pos 0; x = pos 0; y = pos 0; z = pos 0 }
 
 -- all eight registers become those that were saved last, which are saved no longer; nothing is
 -- rounded
-abbrev pub restoring : List Registers → Result State PenFault
-restoring [] = Err StackEmpty
-restoring (r ∷ saved) = Ok (record { now = r; saved = saved })
+abbrev pub pop_registers : List Registers → Result State PenFault
+pop_registers [] = Err StackEmpty
+pop_registers (r ∷ saved) = Ok (record { now = r; saved = saved })
 
 -- the state after a flat command, or why there is none
-abbrev pub after : Fraction → State → FlatCommand → Result State PenFault
-after c s Skip = Ok s
-after c s (Char key code width true) = Ok s
-after c s (Char key code width false) = over c s width (round c width)
-after c s (Rule height width true) = Ok s
-after c s (Rule height width false) = over c s width (ceil c width)
-after c s (Right p space) = right_by c s s.now p space
-after c s (W p space) = right_by c s (record s.now { w = p }) p space
-after c s (X p space) = right_by c s (record s.now { x = p }) p space
-after c s (W0 space) = right_by c s s.now s.now.w space
-after c s (X0 space) = right_by c s s.now s.now.x space
-after c s (Down p space) = down_by c s s.now p space
-after c s (Y p space) = down_by c s (record s.now { y = p }) p space
-after c s (Z p space) = down_by c s (record s.now { z = p }) p space
-after c s (Y0 space) = down_by c s s.now s.now.y space
-after c s (Z0 space) = down_by c s s.now s.now.z space
-after c s Push = saving s s.now
-after c s Pop = restoring s.saved
-after c s Enter = saving s (on_entry s.now)
-after c s Leave = restoring s.saved
-after c s (Advance width) = over c s width (round c width)
+abbrev pub state_after : Fraction → State → FlatCommand → Result State PenFault
+state_after c s Skip = Ok s
+state_after c s (Char key code width true) = Ok s
+state_after c s (Char key code width false) = advance_by c s width (round c width)
+state_after c s (Rule height width true) = Ok s
+state_after c s (Rule height width false) = advance_by c s width (ceil c width)
+state_after c s (Right p space) = right_by c s s.now p space
+state_after c s (W p space) = right_by c s (record s.now { w = p }) p space
+state_after c s (X p space) = right_by c s (record s.now { x = p }) p space
+state_after c s (W0 space) = right_by c s s.now s.now.w space
+state_after c s (X0 space) = right_by c s s.now s.now.x space
+state_after c s (Down p space) = down_by c s s.now p space
+state_after c s (Y p space) = down_by c s (record s.now { y = p }) p space
+state_after c s (Z p space) = down_by c s (record s.now { z = p }) p space
+state_after c s (Y0 space) = down_by c s s.now s.now.y space
+state_after c s (Z0 space) = down_by c s s.now s.now.z space
+state_after c s Push = push_registers s s.now
+state_after c s Pop = pop_registers s.saved
+state_after c s Enter = push_registers s (on_entry s.now)
+state_after c s Leave = pop_registers s.saved
+state_after c s (Advance width) = advance_by c s width (round c width)
 
 -- one state may come after another, by a flat command
 abbrev pub Step : Fraction → State → FlatCommand → State → Type 0
-Step c s f t = after c s f ≡ Ok t
+Step c s f t = state_after c s f ≡ Ok t
 
 -- the states that a list of flat commands leads through, each with the one after it, to the last
 abbrev pub Leads : Fraction → State → List FlatCommand → State → Type 0
@@ -167,25 +164,25 @@ Leads c s (f ∷ flats) t = (mid : State) × Step c s f mid × Leads c mid flats
 
 -- ---- a flat command of the code
 
-abbrev pub seen_flat : Flat → FlatCommand
-seen_flat code.Skip = Skip
-seen_flat (code.Char key number width put) = Char (arc_value key) number width put
-seen_flat (code.Rule height width put) = Rule height width put
-seen_flat (code.Right by space) = Right by space
-seen_flat (code.W by space) = W by space
-seen_flat (code.X by space) = X by space
-seen_flat (code.Down by space) = Down by space
-seen_flat (code.Y by space) = Y by space
-seen_flat (code.Z by space) = Z by space
-seen_flat (code.W0 space) = W0 space
-seen_flat (code.X0 space) = X0 space
-seen_flat (code.Y0 space) = Y0 space
-seen_flat (code.Z0 space) = Z0 space
-seen_flat code.Push = Push
-seen_flat code.Pop = Pop
-seen_flat code.Enter = Enter
-seen_flat code.Leave = Leave
-seen_flat (code.Advance width) = Advance width
+abbrev pub value_of_flat : Flat → FlatCommand
+value_of_flat code.Skip = Skip
+value_of_flat (code.Char key number width put) = Char (arc_value key) number width put
+value_of_flat (code.Rule height width put) = Rule height width put
+value_of_flat (code.Right by space) = Right by space
+value_of_flat (code.W by space) = W by space
+value_of_flat (code.X by space) = X by space
+value_of_flat (code.Down by space) = Down by space
+value_of_flat (code.Y by space) = Y by space
+value_of_flat (code.Z by space) = Z by space
+value_of_flat (code.W0 space) = W0 space
+value_of_flat (code.X0 space) = X0 space
+value_of_flat (code.Y0 space) = Y0 space
+value_of_flat (code.Z0 space) = Z0 space
+value_of_flat code.Push = Push
+value_of_flat code.Pop = Pop
+value_of_flat code.Enter = Enter
+value_of_flat code.Leave = Leave
+value_of_flat (code.Advance width) = Advance width
 
 -- ---- a law: hh is never farther than 2 from h converted, nor vv from v
 

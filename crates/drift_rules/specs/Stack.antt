@@ -7,7 +7,8 @@ use Rattle.outside.specs.declared.keys.FontKey.{FontKey}
 use Rattle.pixel_round.specs.Pixels.{Fraction}
 use Rattle.drift_rules.specs.declared.flat.Registers.{Registers}
 use Rattle.drift_rules.specs.declared.faults.PenFault.TheVariants.{StackEmpty, StackDeep}
-use Rattle.drift_rules.specs.Position.{FlatCommand, Leads, Step, MAX_SAVED, State, after, at_origin, Char, Push, Pop, Enter, Leave, Advance}
+use Rattle.drift_rules.specs.Position.{FlatCommand, Leads, Step, State, state_after, at_origin, Char, Push, Pop, Enter, Leave, Advance}
+use Rattle.drift_rules.specs.Limits.{MAX_SAVED}
 
 -- ---- commands that save and restore: a push and a pop by themselves, or those of a packet's
 -- beginning and end
@@ -73,10 +74,10 @@ FewAreSaved =
 -- saved the other
 abbrev pub EmptyAtAPop : Type 0
 EmptyAtAPop =
-    (c : Fraction) (s : State) (f : FlatCommand) → (after c s f ≡ Err StackEmpty) ↔ (IsTrue
+    (c : Fraction) (s : State) (f : FlatCommand) → (state_after c s f ≡ Err StackEmpty) ↔ (IsTrue
     (is_pop f) × (s.saved ≡ []))
 
 abbrev pub DeepAtAPush : Type 0
 DeepAtAPush =
-    (c : Fraction) (s : State) (f : FlatCommand) → (after c s f ≡ Err StackDeep) ↔ (IsTrue
+    (c : Fraction) (s : State) (f : FlatCommand) → (state_after c s f ≡ Err StackDeep) ↔ (IsTrue
     (is_push f) × (MAX_SAVED ≤ length s.saved))

@@ -4,22 +4,22 @@
 ghost use Rattle.std.specs.Prelude.{◌≡◌, ℕ, Bool, pos, negsuc, true, false, Ok, Err, Some, None, [], ◌∷◌};
 ghost use Rattle.outside.specs.declared.keys.FontKey.{FontKey};
 ghost use Rattle.drift_rules.specs.declared.faults.PenFault.{PenFault};
-ghost use Rattle.drift_rules.specs.Position.{after, at_origin, zeros, Char, Right, Down, Push, Pop, Enter, Leave, Advance};
+ghost use Rattle.drift_rules.specs.Position.{state_after, at_origin, zeros, Char, Right, Down, Push, Pop, Enter, Leave, Advance};
 ghost use Rattle.drift_rules.specs.Marks.{mark_of};
 ghost use Rattle.drift_rules.specs.Examples.{half, at, at_h_2, at_h_5, at_v_2, char_mark, drifted_place, entered_place, row, with_saved};
 
-/// A set character moves hh by its rounded width, and the drift rule holds it: of h = 6 and hh = 6
-/// it makes hh = 5. A width of -3 is -1.5 dots, of which hh takes -2. A put one moves nothing, and
-/// both are marked where they stand, whatever their font and code are.
+/// A set character moves hh by its rounded width, and the drift rule corrects it: where h becomes
+/// 6, an hh of 6 becomes 5. A width of -3 is -1.5 dots, of which hh takes -2. A character that is
+/// put moves nothing, and both are marked where they stand, whatever their font and code are.
 pub fn characters()
-    ensures set_1 { (key : FontKey) (code : ℕ) → after half at_origin (Char key code (pos 1) false)
-        ≡ row (pos 1) (pos 1) }
+    ensures set_1 { (key : FontKey) (code : ℕ) → state_after half at_origin
+        (Char key code (pos 1) false) ≡ row (pos 1) (pos 1) }
     ensures set_3_back { (key : FontKey) (code : ℕ)
-        → after half at_h_2 (Char key code (negsuc 2) false) ≡ row (negsuc 0) (pos 0) }
-    ensures held { (key : FontKey) (code : ℕ) → after half at_h_5 (Char key code (pos 1) false)
-        ≡ row (pos 6) (pos 5) }
+        → state_after half at_h_2 (Char key code (negsuc 2) false) ≡ row (negsuc 0) (pos 0) }
+    ensures held { (key : FontKey) (code : ℕ) → state_after half at_h_5
+        (Char key code (pos 1) false) ≡ row (pos 6) (pos 5) }
     ensures put_stays { (key : FontKey) (code : ℕ)
-        → after half at_h_2 (Char key code (pos 1) true) ≡ Ok at_h_2 }
+        → state_after half at_h_2 (Char key code (pos 1) true) ≡ Ok at_h_2 }
     ensures marked { (key : FontKey) (code : ℕ) (put : Bool)
         → mark_of half drifted_place (Char key code (pos 6) put)
         ≡ Some (char_mark (pos 5) (pos 9)) }
@@ -27,43 +27,45 @@ pub fn characters()
 
 /// From h = 2 and hh = 2: a word space and a long way back are rounded anew, a small motion drifts.
 pub fn across()
-    ensures right_2 { after half at_h_2 (Right (pos 2) (pos 2)) ≡ row (pos 4) (pos 2) }
-    ensures right_1 { after half at_h_2 (Right (pos 1) (pos 2)) ≡ row (pos 3) (pos 3) }
-    ensures left_8 { after half at_h_2 (Right (negsuc 7) (pos 2)) ≡ row (negsuc 5) (negsuc 2) }
-    ensures left_7 { after half at_h_2 (Right (negsuc 6) (pos 2)) ≡ row (negsuc 4) (negsuc 1) }
+    ensures right_2 { state_after half at_h_2 (Right (pos 2) (pos 2)) ≡ row (pos 4) (pos 2) }
+    ensures right_1 { state_after half at_h_2 (Right (pos 1) (pos 2)) ≡ row (pos 3) (pos 3) }
+    ensures left_8 { state_after half at_h_2 (Right (negsuc 7) (pos 2))
+        ≡ row (negsuc 5) (negsuc 2) }
+    ensures left_7 { state_after half at_h_2 (Right (negsuc 6) (pos 2))
+        ≡ row (negsuc 4) (negsuc 1) }
 {}
 
 /// From v = 2 and vv = 2: a line space, up or down, is rounded anew.
 pub fn down()
-    ensures down_10 { after half at_v_2 (Down (pos 10) (pos 2))
+    ensures down_10 { state_after half at_v_2 (Down (pos 10) (pos 2))
         ≡ Ok (at (pos 0) (pos 12) (pos 0) (pos 6)) }
-    ensures down_9 { after half at_v_2 (Down (pos 9) (pos 2))
+    ensures down_9 { state_after half at_v_2 (Down (pos 9) (pos 2))
         ≡ Ok (at (pos 0) (pos 11) (pos 0) (pos 7)) }
-    ensures up_10 { after half at_v_2 (Down (negsuc 9) (pos 2))
+    ensures up_10 { state_after half at_v_2 (Down (negsuc 9) (pos 2))
         ≡ Ok (at (pos 0) (negsuc 7) (pos 0) (negsuc 3)) }
 {}
 
 /// A push saves a place that has drifted, and a pop gives it back with its drift; where none is
-/// saved no state comes after it.
+/// saved, no state follows.
 pub fn stack()
-    ensures saved { after half (with_saved drifted_place []) Push
+    ensures saved { state_after half (with_saved drifted_place []) Push
         ≡ Ok (with_saved drifted_place (drifted_place ∷ [])) }
-    ensures restored { after half (with_saved zeros (drifted_place ∷ zeros ∷ [])) Pop
+    ensures restored { state_after half (with_saved zeros (drifted_place ∷ zeros ∷ [])) Pop
         ≡ Ok (with_saved drifted_place (zeros ∷ [])) }
-    ensures empty { after half at_origin Pop ≡ Err PenFault.StackEmpty }
+    ensures empty { state_after half at_origin Pop ≡ Err PenFault.StackEmpty }
 {}
 
 /// A packet begins at the place where its character stands, with its drift and with w, x, y and z
-/// 0, and its end gives back all eight. Over its character of 6 units hh then grows by 3 dots, also
-/// where a motion as wide would be rounded anew: of h = 6 and hh = 5 it makes hh = 8, not 6.
+/// 0, and its end gives back all eight. Over its character of 6 units hh then grows by 3 dots, even
+/// where a motion of that width would be rounded anew: from h = 6 and hh = 5 hh becomes 8, not 6.
 pub fn packets()
-    ensures begins { after half (with_saved drifted_place []) Enter
+    ensures begins { state_after half (with_saved drifted_place []) Enter
         ≡ Ok (with_saved entered_place (drifted_place ∷ [])) }
-    ensures ends { after half (with_saved entered_place (drifted_place ∷ zeros ∷ [])) Leave
+    ensures ends { state_after half (with_saved entered_place (drifted_place ∷ zeros ∷ [])) Leave
         ≡ Ok (with_saved drifted_place (zeros ∷ [])) }
-    ensures ends_once { after half at_origin Leave ≡ Err PenFault.StackEmpty }
-    ensures advances { after half at_h_5 (Advance (pos 1)) ≡ row (pos 6) (pos 5) }
-    ensures drifts { after half (at (pos 6) (pos 0) (pos 5) (pos 0)) (Advance (pos 6))
+    ensures ends_once { state_after half at_origin Leave ≡ Err PenFault.StackEmpty }
+    ensures advances { state_after half at_h_5 (Advance (pos 1)) ≡ row (pos 6) (pos 5) }
+    ensures drifts { state_after half (at (pos 6) (pos 0) (pos 5) (pos 0)) (Advance (pos 6))
         ≡ row (pos 12) (pos 8) }
     ensures marks_nothing { mark_of half drifted_place (Advance (pos 6)) ≡ None }
 {}

@@ -3,7 +3,7 @@
 use std::alloc::AllocFailed;
 use thiserror::Error;
 
-/// Why no state of the registers comes after a flat command.
+/// Why no state of the registers follows a flat command.
 #[derive(Clone, Copy, Debug, PartialEq, Eq, Error)]
 pub enum PenFault {
     /// h or v would leave -2147483647..2147483647.
@@ -23,7 +23,7 @@ pub enum PenFault {
 /// Why a step wasn't made. The pen is then as it was.
 #[derive(Clone, Copy, Debug, PartialEq, Eq, Error)]
 pub enum PenStop {
-    /// By the page's fault.
+    /// The page has this fault.
     #[error("{0}")]
     Fault(PenFault),
     /// There is no memory for the registers to be saved.

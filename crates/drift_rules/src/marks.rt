@@ -1,7 +1,7 @@
 //! What the commands mark.
 
 ghost use Rattle.std.specs.Prelude.{◌≡◌, false, IfSome};
-ghost use Rattle.drift_rules.specs.Position.{seen_flat, Rule};
+ghost use Rattle.drift_rules.specs.Position.{value_of_flat, Rule};
 ghost use Rattle.drift_rules.specs.Marks.{mark_of};
 ghost use Rattle.drift_rules.specs.Bounds.{AreHeld, IsInReach, IsNumber, IsPaintable};
 
@@ -12,8 +12,8 @@ use pixel_round::Conv;
 #[inline(always)]
 pub(crate) fn mark_at(conv: &Conv, now: Registers, flat: &Flat) -> Option<Mark>
     requires held { AreHeld conv.now now }
-    requires reach { IsInReach (seen_flat flat.now) }
-    ensures value { result ≡ mark_of conv.now now (seen_flat flat.now) }
+    requires reach { IsInReach (value_of_flat flat.now) }
+    ensures value { result ≡ mark_of conv.now now (value_of_flat flat.now) }
     ensures paintable { IfSome result IsPaintable }
 {
     match flat {

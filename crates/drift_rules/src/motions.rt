@@ -4,7 +4,7 @@ ghost use Rattle.std.specs.Prelude.{◌≡◌, ◌≤◌, ◌^◌, ◌+ℤ◌, u
 ghost use Rattle.pixel_round.specs.Pixels.{round};
 ghost use Rattle.packed_rows.specs.declared.offset.TheConstants.{MAX_COORDINATE};
 ghost use Rattle.drift_rules.specs.declared.faults.PenFault.{PenFault};
-ghost use Rattle.drift_rules.specs.Position.{State, after, at_h, at_v, after_drift, is_held, is_word_space, is_line_space, moved_right, moved_down, moved_over, seen_flat};
+ghost use Rattle.drift_rules.specs.Position.{State, state_after, at_h, at_v, after_drift, is_held, is_word_space, is_line_space, moved_right, moved_down, moved_over, value_of_flat};
 ghost use Rattle.drift_rules.specs.Stack.{is_pop, is_push};
 ghost use Rattle.drift_rules.specs.Bounds.{AreHeld, IsInReach, IsNumber, IsSpace};
 
@@ -20,17 +20,21 @@ const MAX_DRIFT: i64 = 2;
 
 // The registers after a command that saves and restores none.
 #[inline(always)]
-pub(crate) fn moved(conv: &Conv, mut now: Registers, flat: &Flat) -> Result<Registers, PenFault>
+pub(crate) fn registers_after(
+    conv: &Conv,
+    mut now: Registers,
+    flat: &Flat,
+) -> Result<Registers, PenFault>
     requires held { AreHeld conv.now now }
-    requires reach { IsInReach (seen_flat flat.now) }
-    requires no_push { is_push (seen_flat flat.now) ≡ false }
-    requires no_pop { is_pop (seen_flat flat.now) ≡ false }
-    ensures after { IfOk result (λ r. (saved : List Registers) → after conv.now
-        (record { now = now; saved = saved }) (seen_flat flat.now)
+    requires reach { IsInReach (value_of_flat flat.now) }
+    requires no_push { is_push (value_of_flat flat.now) ≡ false }
+    requires no_pop { is_pop (value_of_flat flat.now) ≡ false }
+    ensures after { IfOk result (λ r. (saved : List Registers) → state_after conv.now
+        (record { now = now; saved = saved }) (value_of_flat flat.now)
         ≡ Ok (record { now = r; saved = saved })) }
     ensures overflow { IfErr result (λ e. (e ≡ PenFault.Overflow)
-        × ((saved : List Registers) → after conv.now (record { now = now; saved = saved })
-        (seen_flat flat.now) ≡ Err e)) }
+        × ((saved : List Registers) → state_after conv.now (record { now = now; saved = saved })
+        (value_of_flat flat.now) ≡ Err e)) }
     ensures held { IfOk result (AreHeld conv.now) }
 {
     match flat {
@@ -41,13 +45,13 @@ pub(crate) fn moved(conv: &Conv, mut now: Registers, flat: &Flat) -> Result<Regi
             put: false,
             ..
         }
-        | Flat::Advance { width } => over(conv, now, *width, conv.round(*width)),
+        | Flat::Advance { width } => advance_over(conv, now, *width, conv.round(*width)),
         Flat::Rule { put: true, .. } => Ok(now),
         Flat::Rule {
             width,
             put: false,
             ..
-        } => over(conv, now, *width, conv.ceil(*width)),
+        } => advance_over(conv, now, *width, conv.ceil(*width)),
         Flat::Right { by, space } => right(conv, now, *by, *space),
         Flat::W { by, space } => {
             now.w = *by;
@@ -114,7 +118,7 @@ fn down(conv: &Conv, now: Registers, by: i64, space: i64) -> Result<Registers, P
 
 // Over what was set, whose width in dots is given.
 #[inline(always)]
-pub(crate) fn over(
+pub(crate) fn advance_over(
     conv: &Conv,
     now: Registers,
     width: i64,

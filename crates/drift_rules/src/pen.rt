@@ -3,7 +3,7 @@
 ghost use Rattle.std.specs.Prelude.{◌≡◌, ◌↔◌, ℕ, [], IsOk, Ok, Err, IfOk, IfErr, IfSome, OnErr, IsTrue, false, Some};
 ghost use Rattle.outside.specs.declared.keys.FontKey.{FontKey};
 ghost use Rattle.drift_rules.specs.declared.faults.PenFault.{PenFault};
-ghost use Rattle.drift_rules.specs.Position.{after, at_origin, seen_flat, Char, KeepsNear, Push, Pop, Enter};
+ghost use Rattle.drift_rules.specs.Position.{state_after, at_origin, value_of_flat, Char, KeepsNear, Push, Pop, Enter};
 ghost use Rattle.drift_rules.specs.Stack.{is_pop, is_push};
 ghost use Rattle.drift_rules.specs.Marks.{mark_of};
 ghost use Rattle.drift_rules.specs.Bounds.{AreHeld, IsInReach, IsNumber, IsPaintable};
@@ -12,7 +12,7 @@ ghost use Rattle.drift_rules.specs.Stops.{Stops};
 use crate::faults::{PenFault, PenStop};
 use crate::flat::{Flat, Mark, Registers};
 use crate::marks::mark_at;
-use crate::motions::{moved, over};
+use crate::motions::{advance_over, registers_after};
 use crate::saved::Saved;
 use pixel_round::Conv;
 use std::alloc::Global;
@@ -60,35 +60,35 @@ impl Pen {
         }
     }
 
-    /// Takes one command, and answers with the mark that it makes at the place before it, if it
-    /// makes one.
+    /// Takes one command, and answers with the mark that it makes, if any, at the place where the
+    /// pen was before it.
     ///
-    /// The command's lengths and motions are numbers of four bytes, and a space is from 0 to 2^27.
-    /// `Overflow` is answered exactly where h or v would leave -2147483647..2147483647, `StackDeep`
-    /// exactly at a push or a packet's beginning where 1000 sets of registers are saved, and
-    /// `StackEmpty` exactly at a pop or a packet's end where none is saved. `NoMemory` comes only
-    /// at a push or a packet's beginning that has no fault. After each of them the pen is as it
-    /// was.
+    /// The command's lengths and motions are signed numbers of four bytes, and a space is from 0 to
+    /// 2^27. `Overflow` is answered exactly where h or v would leave -2147483647..2147483647,
+    /// `StackDeep` exactly at a push or a packet's beginning where 1000 sets of registers are
+    /// saved, and `StackEmpty` exactly at a pop or a packet's end where none is saved. `NoMemory`
+    /// comes only at a push or a packet's beginning that has no fault. After each of them the pen
+    /// is as it was.
     ///
     /// Knuth, DVItype, "Translation to symbolic form".
     #[inline(always)]
     pub fn step(&mut self, flat: &Flat) -> Result<Option<Mark>, PenStop>
-        requires { IsInReach (seen_flat flat.now) }
+        requires { IsInReach (value_of_flat flat.now) }
 
         // The state is the one that the rules give, and the mark is the one at the registers before
         // the command.
-        ensures moved { IfOk result (λ _. after self.old.conv self.old.state (seen_flat flat.now)
-            ≡ Ok self.new.state) }
+        ensures moved { IfOk result (λ _. state_after self.old.conv self.old.state
+            (value_of_flat flat.now) ≡ Ok self.new.state) }
         ensures marked { IfOk result (λ mark. mark ≡ mark_of self.old.conv self.old.state.now
-            (seen_flat flat.now)) }
+            (value_of_flat flat.now)) }
         ensures paintable { IfOk result (λ mark. IfSome mark IsPaintable) }
         ensures same_conversion { self.new.conv ≡ self.old.conv }
 
         // A fault is the one that the rules name, and only what saves registers may want memory. No
         // stop changes anything.
         ensures fault { (fault : PenFault) → (result ≡ Err (PenStop.Fault fault))
-            ↔ (after self.old.conv self.old.state (seen_flat flat.now) ≡ Err fault) }
-        ensures memory { result ≡ Err PenStop.NoMemory → IsTrue (is_push (seen_flat flat.now)) }
+            ↔ (state_after self.old.conv self.old.state (value_of_flat flat.now) ≡ Err fault) }
+        ensures memory { result ≡ Err PenStop.NoMemory → IsTrue (is_push (value_of_flat flat.now)) }
         ensures unchanged { OnErr result (self.new ≡ self.old) }
 
         // The place in dots stays within two of the rounded one, here and in the saved registers.
@@ -105,13 +105,14 @@ impl Pen {
     pub fn character(&mut self, width: i64, put: bool) -> Result<Mark, PenFault>
         requires { IsNumber width }
         ensures moved { IfOk result (λ _. (key : FontKey) (code : ℕ)
-            → after self.old.conv self.old.state (Char key code width put) ≡ Ok self.new.state) }
+            → state_after self.old.conv self.old.state (Char key code width put)
+            ≡ Ok self.new.state) }
         ensures marked { IfOk result (λ mark. (key : FontKey) (code : ℕ)
             → mark_of self.old.conv self.old.state.now (Char key code width put) ≡ Some mark) }
         ensures paintable { IfOk result IsPaintable }
         ensures same_conversion { self.new.conv ≡ self.old.conv }
         ensures fault { IfErr result (λ fault. (key : FontKey) (code : ℕ)
-            → after self.old.conv self.old.state (Char key code width put) ≡ Err fault) }
+            → state_after self.old.conv self.old.state (Char key code width put) ≡ Err fault) }
         ensures unchanged { OnErr result (self.new ≡ self.old) }
     {
         let mark = Mark::Char {
@@ -122,7 +123,7 @@ impl Pen {
             return Ok(mark);
         }
         let dots = self.conv.round(width);
-        let moved = over(&self.conv, self.registers, width, dots)?;
+        let moved = advance_over(&self.conv, self.registers, width, dots)?;
         self.registers.h = moved.h;
         self.registers.hh = moved.hh;
         Ok(mark)
@@ -131,12 +132,12 @@ impl Pen {
     // The same without the mark.
     #[inline(always)]
     fn change(&mut self, flat: &Flat) -> Result<(), PenStop>
-        requires { IsInReach (seen_flat flat.now) }
-        ensures moved { IfOk result (λ _. after self.old.conv self.old.state (seen_flat flat.now)
-            ≡ Ok self.new.state) }
+        requires { IsInReach (value_of_flat flat.now) }
+        ensures moved { IfOk result (λ _. state_after self.old.conv self.old.state
+            (value_of_flat flat.now) ≡ Ok self.new.state) }
         ensures same_conversion { self.new.conv ≡ self.old.conv }
-        ensures stop { IfErr result (Stops (after self.old.conv self.old.state (seen_flat flat.now))
-            (seen_flat flat.now)) }
+        ensures stop { IfErr result (Stops (state_after self.old.conv self.old.state
+            (value_of_flat flat.now)) (value_of_flat flat.now)) }
         ensures unchanged { OnErr result (self.new ≡ self.old) }
     {
         match flat {
@@ -149,10 +150,10 @@ impl Pen {
 
     // Saves the registers.
     fn push(&mut self) -> Result<(), PenStop>
-        ensures moved { IfOk result (λ _. after self.old.conv self.old.state Push
+        ensures moved { IfOk result (λ _. state_after self.old.conv self.old.state Push
             ≡ Ok self.new.state) }
         ensures same_conversion { self.new.conv ≡ self.old.conv }
-        ensures stop { IfErr result (Stops (after self.old.conv self.old.state Push) Push) }
+        ensures stop { IfErr result (Stops (state_after self.old.conv self.old.state Push) Push) }
         ensures unchanged { OnErr result (self.new ≡ self.old) }
     {
         self.saved.push(self.registers)
@@ -160,10 +161,10 @@ impl Pen {
 
     // Saves the registers; w, x, y and z become 0, as a packet begins.
     fn enter(&mut self) -> Result<(), PenStop>
-        ensures moved { IfOk result (λ _. after self.old.conv self.old.state Enter
+        ensures moved { IfOk result (λ _. state_after self.old.conv self.old.state Enter
             ≡ Ok self.new.state) }
         ensures same_conversion { self.new.conv ≡ self.old.conv }
-        ensures stop { IfErr result (Stops (after self.old.conv self.old.state Enter) Enter) }
+        ensures stop { IfErr result (Stops (state_after self.old.conv self.old.state Enter) Enter) }
         ensures unchanged { OnErr result (self.new ≡ self.old) }
     {
         self.push()?;
@@ -176,10 +177,10 @@ impl Pen {
 
     // Restores the registers that were saved last.
     fn pop(&mut self) -> Result<(), PenStop>
-        ensures moved { IfOk result (λ _. after self.old.conv self.old.state Pop
+        ensures moved { IfOk result (λ _. state_after self.old.conv self.old.state Pop
             ≡ Ok self.new.state) }
         ensures same_conversion { self.new.conv ≡ self.old.conv }
-        ensures stop { IfErr result (Stops (after self.old.conv self.old.state Pop) Pop) }
+        ensures stop { IfErr result (Stops (state_after self.old.conv self.old.state Pop) Pop) }
         ensures unchanged { OnErr result (self.new ≡ self.old) }
     {
         match self.saved.pop() {
@@ -194,17 +195,17 @@ impl Pen {
     // Any other command moves the registers alone.
     #[inline(always)]
     fn move_registers(&mut self, flat: &Flat) -> Result<(), PenStop>
-        requires reach { IsInReach (seen_flat flat.now) }
-        requires no_push { is_push (seen_flat flat.now) ≡ false }
-        requires no_pop { is_pop (seen_flat flat.now) ≡ false }
-        ensures moved { IfOk result (λ _. after self.old.conv self.old.state (seen_flat flat.now)
-            ≡ Ok self.new.state) }
+        requires reach { IsInReach (value_of_flat flat.now) }
+        requires no_push { is_push (value_of_flat flat.now) ≡ false }
+        requires no_pop { is_pop (value_of_flat flat.now) ≡ false }
+        ensures moved { IfOk result (λ _. state_after self.old.conv self.old.state
+            (value_of_flat flat.now) ≡ Ok self.new.state) }
         ensures same_conversion { self.new.conv ≡ self.old.conv }
-        ensures stop { IfErr result (Stops (after self.old.conv self.old.state (seen_flat flat.now))
-            (seen_flat flat.now)) }
+        ensures stop { IfErr result (Stops (state_after self.old.conv self.old.state
+            (value_of_flat flat.now)) (value_of_flat flat.now)) }
         ensures unchanged { OnErr result (self.new ≡ self.old) }
     {
-        self.registers = moved(&self.conv, self.registers, flat)?;
+        self.registers = registers_after(&self.conv, self.registers, flat)?;
         Ok(())
     }
 

@@ -2,7 +2,7 @@
 
 ghost use Rattle.std.specs.Prelude.{◌≡◌, ◌⊎◌, ◌↔◌, ◌≤◌, [], ◌∷◌, length, Err, IfOk, IfErr, OnErr, IfSome, IsNone, IsTrue};
 ghost use Rattle.drift_rules.specs.declared.faults.PenFault.{PenFault};
-ghost use Rattle.drift_rules.specs.Position.{MAX_SAVED as THE_MAX_SAVED};
+ghost use Rattle.drift_rules.specs.Limits as limits;
 
 use crate::faults::{PenFault, PenStop};
 use crate::flat::Registers;
@@ -40,7 +40,7 @@ impl Saved {
     pub(crate) fn push(&mut self, registers: Registers) -> Result<(), PenStop>
         ensures saved { IfOk result (λ _. self.new ≡ registers ∷ self.old) }
         ensures deep { (result ≡ Err (PenStop.Fault PenFault.StackDeep))
-            ↔ (THE_MAX_SAVED ≤ length self.old) }
+            ↔ (limits.MAX_SAVED ≤ length self.old) }
         ensures only { IfErr result (λ stop. (stop ≡ PenStop.Fault PenFault.StackDeep) ⊎
             (stop ≡ PenStop.NoMemory)) }
         ensures unchanged { OnErr result (self.new ≡ self.old) }

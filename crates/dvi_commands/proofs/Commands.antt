@@ -11,7 +11,7 @@ use Rattle.dvi_commands.specs.declared.command.Context.{Context}
 use Rattle.dvi_commands.specs.declared.command.CommandFault.{CommandFault}
 use Rattle.dvi_commands.proofs.Prefix.{size-spelling, no_spelling_begins_another}
 use Rattle.dvi_commands.proofs.Refusals.{spelled_is_not_refused, spelled_some}
-use Rattle.dvi_commands.proofs.Told.{spelling_tells_the_command, told_by_bytes}
+use Rattle.dvi_commands.proofs.Determined.{spelling_determines_the_command, determined_by_bytes}
 
 abbrev prefix_placed : ℕ → List ℕ → ℕ → Placed
 prefix_placed at bytes size = placed at (command_of (take size bytes)) (take size bytes)
@@ -56,7 +56,7 @@ commands_none = refl
 first_is : (at : ℕ) (c : DviCommand) (prefix rest : List ℕ) (size : ℕ) → Spells c prefix → length prefix ≡ size → prefix_placed at (prefix ++ rest) size ≡ placed at c prefix
 first_is at c prefix rest size h e =
     ap (λ (bytes : List ℕ). placed at (command_of bytes) bytes) (take_at prefix rest size e)
-    ∙ ap (λ (d : DviCommand). placed at d prefix) (sym (told_by_bytes c prefix h))
+    ∙ ap (λ (d : DviCommand). placed at d prefix) (sym (determined_by_bytes c prefix h))
 
 pub placed_first : PlacedFirst
 unfolding placed_from
@@ -81,7 +81,7 @@ commands_first c (b ∷ prefix) rest h =
     let size : size_of whole ≡ length (b ∷ prefix) = size-spelling c (b ∷ prefix) rest h in
     let after : drop (size_of whole) whole ≡ rest = drop_at (b ∷ prefix) rest (size_of whole) (sym size) in
     let room : length rest ≤ length (prefix ++ rest) = omega (arith, length-append prefix rest) in
-    let command : command_of (take (size_of whole) whole) ≡ c = ap command_of (take_at (b ∷ prefix) rest (size_of whole) (sym size)) ∙ sym (told_by_bytes c (b ∷ prefix) h) in
+    let command : command_of (take (size_of whole) whole) ≡ c = ap command_of (take_at (b ∷ prefix) rest (size_of whole) (sym size)) ∙ sym (determined_by_bytes c (b ∷ prefix) h) in
     let step : commands_of whole ≡ command_of (take (size_of whole) whole) ∷ commands_in (length (prefix ++ rest)) (drop (size_of whole) whole) = refl in
     step
     ∙ ap (λ (d : DviCommand). d ∷ commands_in (length (prefix ++ rest)) (drop (size_of whole) whole)) command
@@ -132,5 +132,5 @@ written_is_read_back place c rest spelled allowed = (
   record { whole = refl; spelled = spelled; allowed = allowed },
   λ d prefix more begins.
       let same = no_spelling_begins_another d c prefix (shortest_spelling c) more rest begins.spelled spelled (sym begins.whole) in
-      (spelling_tells_the_command d c (shortest_spelling c) (subst (Spells d) same.0 begins.spelled) spelled, same.0),
+      (spelling_determines_the_command d c (shortest_spelling c) (subst (Spells d) same.0 begins.spelled) spelled, same.0),
 )

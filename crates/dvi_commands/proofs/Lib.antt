@@ -1,5 +1,5 @@
 pub mod Prefix
-pub mod Told
+pub mod Determined
 pub mod Refusals
 pub mod Shortest
 pub mod Commands
@@ -11,4 +11,4 @@ pub mod OneCommand
 pub mod Written
 pub mod FieldNumbers
 pub mod Unrefused
-pub mod PlainCommands
+pub mod SkippableCommands

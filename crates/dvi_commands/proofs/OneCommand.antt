@@ -6,7 +6,7 @@ use Rattle.std.proofs.lemmas.Bool.{le-ltb, lt-ltb, ne_eqb}
 use Rattle.std.proofs.lemmas.List.{get_or-take, take_all, take-take}
 use Rattle.std.proofs.Math.Seq.{take-add}
 use Rattle.dvi_commands.specs.Spelling.{DviCommand, Spells}
-use Rattle.dvi_commands.specs.Refusal.{fixed_size, may_stand, refusal, tells_negative_length, text_size}
+use Rattle.dvi_commands.specs.Refusal.{fixed_size, may_stand, refusal, gives_negative_length, text_size}
 use Rattle.dvi_commands.specs.Reading.{Begins}
 use Rattle.dvi_commands.specs.declared.command.Context.{Context}
 use Rattle.dvi_commands.specs.declared.command.CommandFault.{CommandFault}
@@ -14,7 +14,7 @@ use Rattle.dvi_commands.specs.declared.command.CommandFault.TheVariants.{Misplac
 use Rattle.dvi_commands.proofs.Opcodes.{by_kind}
 use Rattle.dvi_commands.proofs.Prefix.{by_width, no_spelling_begins_another}
 use Rattle.dvi_commands.proofs.Refusals.{spelled_is_not_refused}
-use Rattle.dvi_commands.proofs.Told.{spelling_tells_the_command}
+use Rattle.dvi_commands.proofs.Determined.{spelling_determines_the_command}
 use Rattle.dvi_commands.proofs.Commands.{parted}
 
 pub prefix_of : (bytes : List ℕ) (at : ℕ) → at < length bytes → drop at bytes ≡ slice_index bytes at ∷ drop (at + 1) bytes
@@ -40,13 +40,13 @@ cut_fields place bytes at h low allowed cut =
     ap (refusal place) (prefix_of bytes at h)
     ∙ rw (le-ltb 249 (slice_index bytes at) low, allowed, lt-ltb (length (drop (at + 1) bytes)) (fixed_size (slice_index bytes at)) cut) refl
 
--- ---- the fields tell the length of the text, whatever stands after them
+-- ---- the fields give the length of the text, whatever stands after them
 
-abbrev Told : List ℕ → ℕ → Type 0
-Told after op = (text_size op (take (fixed_size op) after) ≡ text_size op after) × (tells_negative_length op (take (fixed_size op) after) ≡ tells_negative_length op after)
+abbrev LengthsAlike : List ℕ → ℕ → Type 0
+LengthsAlike after op = (text_size op (take (fixed_size op) after) ≡ text_size op after) × (gives_negative_length op (take (fixed_size op) after) ≡ gives_negative_length op after)
 
-plain_told : (after : List ℕ) (op : ℕ) → op < 239 → Told after op
-plain_told after op low =
+skippable_given : (after : List ℕ) (op : ℕ) → op < 239 → LengthsAlike after op
+skippable_given after op low =
     let special : is_in_range 239 242 op ≡ false = grind arith in
     let define : is_in_range 243 246 op ≡ false = grind arith in
     let preamble : (op == 247) ≡ false = ne_eqb op 247 (λ same. omega (arith, same, low)) in
@@ -56,39 +56,39 @@ plain_told after op low =
 again : (n : ℕ) (after : List ℕ) → take n (take n after) ≡ take n after
 again n after = take-take n n after (omega arith)
 
-special_told : (after : List ℕ) (n : ℕ) → 1 ≤ n → n ≤ 4 → Told after (238 + n)
-special_told after n low high =
-    by_width (λ n. Told after (238 + n)) (rw (again 1 after) refl, refl) (rw (again 2 after) refl, refl) (rw (again 3 after) refl, refl) (rw (again 4 after) refl, rw (again 4 after) refl) n low high
+special_given : (after : List ℕ) (n : ℕ) → 1 ≤ n → n ≤ 4 → LengthsAlike after (238 + n)
+special_given after n low high =
+    by_width (λ n. LengthsAlike after (238 + n)) (rw (again 1 after) refl, refl) (rw (again 2 after) refl, refl) (rw (again 3 after) refl, refl) (rw (again 4 after) refl, rw (again 4 after) refl) n low high
 
-lengths_told : (n : ℕ) (after : List ℕ) → slice_index (take (n + 14) after) (n + 12) + slice_index (take (n + 14) after) (n + 13) ≡ slice_index after (n + 12) + slice_index after (n + 13)
-lengths_told n after = rw (get_or-take (n + 14) after (n + 12) 0 (omega arith), get_or-take (n + 14) after (n + 13) 0 (omega arith)) refl
+lengths_given : (n : ℕ) (after : List ℕ) → slice_index (take (n + 14) after) (n + 12) + slice_index (take (n + 14) after) (n + 13) ≡ slice_index after (n + 12) + slice_index after (n + 13)
+lengths_given n after = rw (get_or-take (n + 14) after (n + 12) 0 (omega arith), get_or-take (n + 14) after (n + 13) 0 (omega arith)) refl
 
-define_told : (after : List ℕ) (n : ℕ) → 1 ≤ n → n ≤ 4 → Told after (242 + n)
-define_told after n low high =
-    by_width (λ n. Told after (242 + n)) (lengths_told 1 after, refl) (lengths_told 2 after, refl) (lengths_told 3 after, refl) (lengths_told 4 after, refl) n low high
+define_given : (after : List ℕ) (n : ℕ) → 1 ≤ n → n ≤ 4 → LengthsAlike after (242 + n)
+define_given after n low high =
+    by_width (λ n. LengthsAlike after (242 + n)) (lengths_given 1 after, refl) (lengths_given 2 after, refl) (lengths_given 3 after, refl) (lengths_given 4 after, refl) n low high
 
-pub told : (op : ℕ) (after : List ℕ) → op ≤ 249 → Told after op
-told op after known = by_kind (Told after) op (plain_told after op) (special_told after) (define_told after) (get_or-take 14 after 13 0 (omega arith), refl) (refl, refl) (refl, refl) known
+pub lengths_alike : (op : ℕ) (after : List ℕ) → op ≤ 249 → LengthsAlike after op
+lengths_alike op after known = by_kind (LengthsAlike after) op (skippable_given after op) (special_given after) (define_given after) (get_or-take 14 after 13 0 (omega arith), refl) (refl, refl) (refl, refl) known
 
 pub negative : (place : Context) (bytes : List ℕ) (at size : ℕ) (fields : List ℕ) → at < length bytes → slice_index bytes at ≤ 249 → may_stand place (slice_index bytes at) ≡ true
     → size ≡ fixed_size (slice_index bytes at) → size ≤ length (drop (at + 1) bytes) → fields ≡ take size (drop (at + 1) bytes)
-    → tells_negative_length (slice_index bytes at) fields ≡ true → refusal place (drop at bytes) ≡ Some NegativeLength
+    → gives_negative_length (slice_index bytes at) fields ≡ true → refusal place (drop at bytes) ≡ Some NegativeLength
 negative place bytes at size fields h low allowed sized whole prefix tells =
     let op = slice_index bytes at in
     let after = drop (at + 1) bytes in
-    let same : tells_negative_length op after ≡ true = sym ((told op after low).1) ∙ sym (ap (tells_negative_length op) (prefix ∙ ap (λ k. take k after) sized)) ∙ tells in
+    let same : gives_negative_length op after ≡ true = sym ((lengths_alike op after low).1) ∙ sym (ap (gives_negative_length op) (prefix ∙ ap (λ k. take k after) sized)) ∙ tells in
     let room : fixed_size op ≤ length after = omega (arith, sized, whole) in
     ap (refusal place) (prefix_of bytes at h) ∙ rw (le-ltb 249 op low, allowed, le-ltb (length after) (fixed_size op) room, same) refl
 
 pub cut_text : (place : Context) (bytes : List ℕ) (at size : ℕ) (fields : List ℕ) → at < length bytes → slice_index bytes at ≤ 249 → may_stand place (slice_index bytes at) ≡ true
-    → size ≡ fixed_size (slice_index bytes at) → size ≤ length (drop (at + 1) bytes) → fields ≡ take size (drop (at + 1) bytes) → tells_negative_length (slice_index bytes at) fields ≡ false
+    → size ≡ fixed_size (slice_index bytes at) → size ≤ length (drop (at + 1) bytes) → fields ≡ take size (drop (at + 1) bytes) → gives_negative_length (slice_index bytes at) fields ≡ false
     → length (drop (at + 1) bytes) < size + text_size (slice_index bytes at) fields → refusal place (drop at bytes) ≡ Some Short
 cut_text place bytes at size fields h low allowed sized whole prefix tells cut =
     let op = slice_index bytes at in
     let after = drop (at + 1) bytes in
     let same_fields : fields ≡ take (fixed_size op) after = prefix ∙ ap (λ k. take k after) sized in
-    let not_negative : tells_negative_length op after ≡ false = sym ((told op after low).1) ∙ sym (ap (tells_negative_length op) same_fields) ∙ tells in
-    let same : text_size op fields ≡ text_size op after = ap (text_size op) same_fields ∙ (told op after low).0 in
+    let not_negative : gives_negative_length op after ≡ false = sym ((lengths_alike op after low).1) ∙ sym (ap (gives_negative_length op) same_fields) ∙ tells in
+    let same : text_size op fields ≡ text_size op after = ap (text_size op) same_fields ∙ (lengths_alike op after low).0 in
     let room : fixed_size op ≤ length after = omega (arith, sized, whole) in
     let short : length after < fixed_size op + text_size op after = omega (arith, cut, same, sized) in
     ap (refusal place) (prefix_of bytes at h)
@@ -121,4 +121,4 @@ pub read_begins : (place : Context) (bytes : List ℕ) (at end : ℕ) (d c : Dvi
 read_begins place bytes at end d c prefix rest h inside spelled begins =
     let same = no_spelling_begins_another d c (slice_range bytes at end) prefix (drop end bytes) rest spelled begins.spelled (sym (parted bytes at end h) ∙ begins.whole) in
     let size : length (slice_range bytes at end) ≡ end - at = grind (arith, length-take, length-drop) in
-    (spelling_tells_the_command d c prefix (subst (Spells d) same.0 spelled) begins.spelled, omega (arith, size, ap length same.0))
+    (spelling_determines_the_command d c prefix (subst (Spells d) same.0 spelled) begins.spelled, omega (arith, size, ap length same.0))

@@ -1,4 +1,4 @@
--- No spelling of a command begins another: the first bytes of a spelling tell its length.
+-- No spelling of a command begins another: the first bytes of a spelling determine its length.
 use Rattle.std.proofs.Common.{◌≡◌, ℕ, zero, suc, ◌+◌, ◌*◌, ◌^◌, ◌<◌, ◌≤◌, ℤ, pos, negsuc, true, false, List, [], ◌∷◌, ◌++◌, length, take, drop, refl, sym, ap, subst, ◌∙◌, arith, inl, inr}
 use Rattle.std.specs.List.{flat_map}
 use Rattle.std.specs.Prelude.{◌==◌, int_lt}
@@ -8,7 +8,7 @@ use Rattle.std.proofs.lemmas.List.{append-nil, take_at, drop_at, length-append}
 use Rattle.std.proofs.lemmas.List.Concat.{flat_map-cons}
 use Rattle.big_endian.specs.Numbers.{number_bytes, unsigned_of, in_twos_complement}
 use Rattle.dvi_commands.specs.Spelling.{DviCommand, Definition, Set, Put, SetRule, PutRule, Nop, Bop, Eop, Push, Pop, Right, W0, W, X0, X, Down, Y0, Y, Z0, Z, Font, Special, Define, Pre, Post, PostPost, spelling, HasWidth, IsOperand, Spells, quad}
-use Rattle.dvi_commands.specs.Refusal.{told_length, size_of, fixed_size, text_size}
+use Rattle.dvi_commands.specs.Refusal.{given_length, size_of, fixed_size, text_size}
 use Rattle.dvi_commands.specs.SpellingLaws.{NoSpellingBeginsAnother, NoSpellingIsAProperPrefix}
 
 pub by_width : (P : ℕ → Type 0) → P 1 → P 2 → P 3 → P 4 → (n : ℕ) → 1 ≤ n → n ≤ 4 → P n
@@ -56,9 +56,9 @@ length-quads (z ∷ zs) =
 bop_sized : (counts : List ℤ) (back : ℤ) (t : List ℕ) (n : ℕ) → length counts ≡ 10 → Sized (Bop counts back) t n
 bop_sized counts back t n h = omega (arith, length-append (flat_map quad counts) (quad back), length-quads counts, h)
 
--- the length that a special's field tells is that of its text
-pub told_text : (op len : ℕ) (fields : List ℕ) → is_in_range 239 242 op ≡ true → told_length op fields ≡ pos len → text_size op fields ≡ len
-told_text op len fields e told =
+-- the length that a special's field gives is that of its text
+pub given_text : (op len : ℕ) (fields : List ℕ) → is_in_range 239 242 op ≡ true → given_length op fields ≡ pos len → text_size op fields ≡ len
+given_text op len fields e told =
     let low : int_lt (pos len) (pos 0) ≡ false = le-ltb len 0 (omega arith) in
     rw (e, told, low) refl
 
@@ -75,13 +75,13 @@ pub four_bytes : (m : ℕ) → m < 256 ^ 4 → unsigned_of (number_bytes 4 (pos 
 four_bytes m h = omega arith
 
 special_1 : (text t : List ℕ) → length text < 256 ^ 1 → Sized (Special text) t 1
-special_1 text t h = ap (λ (k : ℕ). 1 + fixed_size 239 + k) (told_text 239 (length text) (number_bytes 1 (pos (length text)) ++ text ++ t) refl (ap pos (one_byte (length text) h))) ∙ omega arith
+special_1 text t h = ap (λ (k : ℕ). 1 + fixed_size 239 + k) (given_text 239 (length text) (number_bytes 1 (pos (length text)) ++ text ++ t) refl (ap pos (one_byte (length text) h))) ∙ omega arith
 
 special_2 : (text t : List ℕ) → length text < 256 ^ 2 → Sized (Special text) t 2
-special_2 text t h = ap (λ (k : ℕ). 1 + fixed_size 240 + k) (told_text 240 (length text) (number_bytes 2 (pos (length text)) ++ text ++ t) refl (ap pos (two_bytes (length text) h))) ∙ omega arith
+special_2 text t h = ap (λ (k : ℕ). 1 + fixed_size 240 + k) (given_text 240 (length text) (number_bytes 2 (pos (length text)) ++ text ++ t) refl (ap pos (two_bytes (length text) h))) ∙ omega arith
 
 special_3 : (text t : List ℕ) → length text < 256 ^ 3 → Sized (Special text) t 3
-special_3 text t h = ap (λ (k : ℕ). 1 + fixed_size 241 + k) (told_text 241 (length text) (number_bytes 3 (pos (length text)) ++ text ++ t) refl (ap pos (three_bytes (length text) h))) ∙ omega arith
+special_3 text t h = ap (λ (k : ℕ). 1 + fixed_size 241 + k) (given_text 241 (length text) (number_bytes 3 (pos (length text)) ++ text ++ t) refl (ap pos (three_bytes (length text) h))) ∙ omega arith
 
 pub signed_four : (m : ℕ) → 2 * m < 256 ^ 4 → in_twos_complement 4 m ≡ pos m
 signed_four m h = rw (lt-ltb (2 * m) (256 ^ 4) h) refl
@@ -89,8 +89,8 @@ signed_four m h = rw (lt-ltb (2 * m) (256 ^ 4) h) refl
 special_4 : (text t : List ℕ) → 2 * length text < 256 ^ 4 → Sized (Special text) t 4
 special_4 text t h =
     let fits : length text < 256 ^ 4 = omega arith in
-    let told : told_length 242 (number_bytes 4 (pos (length text)) ++ text ++ t) ≡ pos (length text) = ap (in_twos_complement 4) (four_bytes (length text) fits) ∙ signed_four (length text) h in
-    ap (λ (k : ℕ). 1 + fixed_size 242 + k) (told_text 242 (length text) (number_bytes 4 (pos (length text)) ++ text ++ t) refl told) ∙ omega arith
+    let told : given_length 242 (number_bytes 4 (pos (length text)) ++ text ++ t) ≡ pos (length text) = ap (in_twos_complement 4) (four_bytes (length text) fits) ∙ signed_four (length text) h in
+    ap (λ (k : ℕ). 1 + fixed_size 242 + k) (given_text 242 (length text) (number_bytes 4 (pos (length text)) ++ text ++ t) refl told) ∙ omega arith
 
 special_sized : (text t : List ℕ) (n : ℕ) → IsOperand n (pos (length text)) → Sized (Special text) t n
 special_sized text t n (inr h) = subst (λ (k : ℕ). Sized (Special text) t k) (sym h.0) (special_4 text t h.1)
@@ -136,7 +136,7 @@ sized (Pre p) n t h = omega arith
 sized (Post p) n t h = refl
 sized (PostPost q id) n t h = refl
 
--- the first bytes of a spelling tell its length
+-- the first bytes of a spelling determine its length
 pub size-spelling : (c : DviCommand) (a x : List ℕ) → Spells c a → size_of (a ++ x) ≡ length a
 size-spelling c a x h = subst (λ (s : List ℕ). size_of (s ++ x) ≡ length s) (sym h.2) (sized c h.0 x h.1)
 

@@ -5,7 +5,7 @@ use Rattle.std.proofs.lemmas.Bool.{le-ltb, ne_eqb}
 use Rattle.std.proofs.lemmas.List.{length-append}
 use Rattle.big_endian.specs.Numbers.{number_bytes, in_twos_complement}
 use Rattle.dvi_commands.specs.Spelling.{DviCommand, Set, Put, SetRule, PutRule, Nop, Bop, Eop, Push, Pop, Right, W0, W, X0, X, Down, Y0, Y, Z0, Z, Font, Special, Define, Pre, Post, PostPost, spelling, HasWidth, IsOperand, Spells}
-use Rattle.dvi_commands.specs.Refusal.{tells_negative_length, size_of, fixed_size, text_size, told_length, may_stand, refusal}
+use Rattle.dvi_commands.specs.Refusal.{gives_negative_length, size_of, fixed_size, text_size, given_length, may_stand, refusal}
 use Rattle.dvi_commands.specs.SpellingLaws.{SpelledIsNotRefused}
 use Rattle.dvi_commands.specs.declared.command.Context.{Context}
 use Rattle.dvi_commands.proofs.Prefix.{by_width, wide, size-spelling, four_bytes, signed_four}
@@ -14,7 +14,7 @@ use Rattle.dvi_commands.proofs.Prefix.{by_width, wide, size-spelling, four_bytes
 -- length is not negative
 abbrev Calm : List ℕ → Type 0
 Calm [] = ⊥
-Calm (op ∷ fields) = (nat_lt 249 op ≡ false) × (tells_negative_length op fields ≡ false)
+Calm (op ∷ fields) = (nat_lt 249 op ≡ false) × (gives_negative_length op fields ≡ false)
 
 small_calm : (m : ℕ) (t : List ℕ) → m < 239 → Calm (m ∷ t)
 small_calm m t h =
@@ -38,7 +38,7 @@ calm_font c (suc (suc (suc (suc n)))) t h = let w = wide (suc (suc (suc (suc (su
 calm_four : (text t : List ℕ) → 2 * length text < 256 ^ 4 → Calm (spelling (Special text) 4 ++ t)
 calm_four text t h =
     let fits : length text < 256 ^ 4 = omega arith in
-    let told : told_length 242 (number_bytes 4 (pos (length text)) ++ text ++ t) ≡ pos (length text) = ap (in_twos_complement 4) (four_bytes (length text) fits) ∙ signed_four (length text) h in
+    let told : given_length 242 (number_bytes 4 (pos (length text)) ++ text ++ t) ≡ pos (length text) = ap (in_twos_complement 4) (four_bytes (length text) fits) ∙ signed_four (length text) h in
     let low : int_lt (pos (length text)) (pos 0) ≡ false = le-ltb (length text) 0 (omega arith) in
     (refl, ap (λ (z : ℤ). int_lt z (pos 0)) told ∙ low)
 

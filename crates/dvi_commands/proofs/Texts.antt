@@ -1,4 +1,4 @@
--- Specials and definitions of fonts: a text after the fields that tell its length.
+-- Specials and definitions of fonts: a text after the fields that give its length.
 use Rattle.std.proofs.Common.{◌≡◌, ℕ, suc, ◌+◌, ◌-◌, ◌^◌, ◌<◌, ◌≤◌, ℤ, pos, negsuc, false, List, [], ◌∷◌, ◌++◌, length, take, drop, refl, sym, ap, subst, ◌∙◌, arith, inl, inr, append_assoc, drop-cons, length-drop, length-take}
 use Rattle.std.specs.Prelude.{slice_index, int_lt}
 use Rattle.std.specs.List.{flat_map}
@@ -6,9 +6,9 @@ use Rattle.std.proofs.lemmas.List.{get_or-drop, take_all, take-append-drop}
 use Rattle.big_endian.specs.Numbers.{unsigned_of, signed_of, number_bytes, AreBytes, IsSigned}
 use Rattle.big_endian.proofs.Bytes.{signed_is_written_again, unsigned_is_written_again}
 use Rattle.dvi_commands.specs.Spelling.{Define, Special, IsOperand, Spells, quad}
-use Rattle.dvi_commands.specs.Refusal.{fixed_size, tells_negative_length, text_size, told_length}
+use Rattle.dvi_commands.specs.Refusal.{fixed_size, gives_negative_length, text_size, given_length}
 use Rattle.dvi_commands.proofs.Motions.{AreQuadsFrom, ends, joined}
-use Rattle.dvi_commands.proofs.Prefix.{by_width, told_text}
+use Rattle.dvi_commands.proofs.Prefix.{by_width, given_text}
 
 pub are_bytes : (bytes : List ℕ) → ((k : ℕ) → slice_index bytes k < 256) → AreBytes bytes
 are_bytes [] h = tt
@@ -17,7 +17,7 @@ are_bytes (b ∷ bytes) h = (h 0, are_bytes bytes (λ k. h (suc k)))
 -- ---- specials
 
 abbrev SpecialIs : ℕ → List ℕ → List ℕ → Type 0
-SpecialIs n fields text = length fields ≡ n → length text ≡ text_size (238 + n) fields → tells_negative_length (238 + n) fields ≡ false → AreBytes fields
+SpecialIs n fields text = length fields ≡ n → length text ≡ text_size (238 + n) fields → gives_negative_length (238 + n) fields ≡ false → AreBytes fields
     → IsOperand n (pos (length text)) × (number_bytes n (pos (length text)) ≡ fields)
 
 -- a length of up to three bytes, which is unsigned
@@ -36,8 +36,8 @@ signed_length : (z : ℤ) (fields text : List ℕ) → signed_of fields ≡ z �
     → IsOperand 4 (pos (length text)) × (number_bytes 4 (pos (length text)) ≡ fields)
 signed_length (negsuc m) fields text is not_negative whole bytes size = cc
 signed_length (pos m) fields text is not_negative whole bytes size =
-    let told : told_length 242 fields ≡ pos m = ap signed_of (take_all 4 fields (omega (arith, whole))) ∙ is in
-    let len : length text ≡ m = size ∙ told_text 242 m fields refl told in
+    let told : given_length 242 fields ≡ pos m = ap signed_of (take_all 4 fields (omega (arith, whole))) ∙ is in
+    let len : length text ≡ m = size ∙ given_text 242 m fields refl told in
     let again = signed_is_written_again fields bytes (omega (arith, whole)) (omega (arith, whole)) in
     let same : signed_of fields ≡ pos (length text) = is ∙ ap pos (sym len) in
     let fits : IsSigned 4 (signed_of fields) = subst (λ k. IsSigned k (signed_of fields)) whole again.1 in
@@ -47,25 +47,25 @@ signed_length (pos m) fields text is not_negative whole bytes size =
 special_of : (n : ℕ) (fields text : List ℕ) → 1 ≤ n → n ≤ 4 → SpecialIs n fields text
 special_of n fields text low high =
     by_width (λ n. SpecialIs n fields text)
-    (λ whole size positive bytes. unsigned_length 1 fields text (omega arith) (omega arith) whole bytes (size ∙ told_text 239 (unsigned_of fields) fields refl (ap pos (short_length 1 fields whole))))
-    (λ whole size positive bytes. unsigned_length 2 fields text (omega arith) (omega arith) whole bytes (size ∙ told_text 240 (unsigned_of fields) fields refl (ap pos (short_length 2 fields whole))))
-    (λ whole size positive bytes. unsigned_length 3 fields text (omega arith) (omega arith) whole bytes (size ∙ told_text 241 (unsigned_of fields) fields refl (ap pos (short_length 3 fields whole))))
+    (λ whole size positive bytes. unsigned_length 1 fields text (omega arith) (omega arith) whole bytes (size ∙ given_text 239 (unsigned_of fields) fields refl (ap pos (short_length 1 fields whole))))
+    (λ whole size positive bytes. unsigned_length 2 fields text (omega arith) (omega arith) whole bytes (size ∙ given_text 240 (unsigned_of fields) fields refl (ap pos (short_length 2 fields whole))))
+    (λ whole size positive bytes. unsigned_length 3 fields text (omega arith) (omega arith) whole bytes (size ∙ given_text 241 (unsigned_of fields) fields refl (ap pos (short_length 3 fields whole))))
     (λ whole size positive bytes. signed_length (signed_of fields) fields text refl (sym (ap (λ (x : List ℕ). int_lt (signed_of x) (pos 0)) (take_all 4 fields (omega (arith, whole)))) ∙ positive) whole bytes size) n low high
 
 special_size : (n : ℕ) → 1 ≤ n → n ≤ 4 → fixed_size (238 + n) ≡ n
 special_size n low high = by_width (λ n. fixed_size (238 + n) ≡ n) refl refl refl refl n low high
 
-special_by : (n : ℕ) (fields text : List ℕ) → 1 ≤ n → n ≤ 4 → length fields ≡ fixed_size (238 + n) → length text ≡ text_size (238 + n) fields → tells_negative_length (238 + n) fields ≡ false → AreBytes fields
+special_by : (n : ℕ) (fields text : List ℕ) → 1 ≤ n → n ≤ 4 → length fields ≡ fixed_size (238 + n) → length text ≡ text_size (238 + n) fields → gives_negative_length (238 + n) fields ≡ false → AreBytes fields
     → Spells (Special text) ((238 + n) ∷ (fields ++ text))
 special_by n fields text low high whole size positive bytes =
     let is = special_of n fields text low high (whole ∙ special_size n low high) size positive bytes in
     (n, is.0, ap (λ x. (238 + n) ∷ (x ++ text)) (sym is.1))
 
-pub special : (op : ℕ) (fields text : List ℕ) → 238 < op → op ≤ 242 → length fields ≡ fixed_size op → length text ≡ text_size op fields → tells_negative_length op fields ≡ false → AreBytes fields
+pub special : (op : ℕ) (fields text : List ℕ) → 238 < op → op ≤ 242 → length fields ≡ fixed_size op → length text ≡ text_size op fields → gives_negative_length op fields ≡ false → AreBytes fields
     → Spells (Special text) (op ∷ (fields ++ text))
 special op fields text low high =
     let place : 238 + (op - 238) ≡ op = omega arith in
-    let P : ℕ → Type 0 = λ k. length fields ≡ fixed_size k → length text ≡ text_size k fields → tells_negative_length k fields ≡ false → AreBytes fields → Spells (Special text) (k ∷ (fields ++ text)) in
+    let P : ℕ → Type 0 = λ k. length fields ≡ fixed_size k → length text ≡ text_size k fields → gives_negative_length k fields ≡ false → AreBytes fields → Spells (Special text) (k ∷ (fields ++ text)) in
     subst P place (special_by (op - 238) fields text (omega arith) (omega arith))
 
 -- ---- definitions of fonts

@@ -7,7 +7,7 @@ use Rattle.big_endian.specs.Numbers.{AreBytes, IsSigned, number_bytes, signed_of
 use Rattle.big_endian.proofs.Bytes.{signed_is_written_again, unsigned_is_written_again}
 use Rattle.dvi_commands.specs.Spelling.{DviCommand, IsMotion, with_number, Bop, Define, Down, Eop, Font, IsOperand, Nop, Pop, Post, PostPost, Pre, Push, Put, PutRule, Right, Set, SetRule, Special, Spells, W, W0, X, X0, Y, Y0, Z, Z0, quad}
 use Rattle.dvi_commands.specs.Reading.{signed_from}
-use Rattle.dvi_commands.specs.Refusal.{fixed_size, may_stand, refusal, tells_negative_length, text_size}
+use Rattle.dvi_commands.specs.Refusal.{fixed_size, may_stand, refusal, gives_negative_length, text_size}
 use Rattle.dvi_commands.specs.SpellingLaws.{UnrefusedIsSpelled}
 use Rattle.dvi_commands.specs.declared.command.CommandFault.{CommandFault}
 use Rattle.dvi_commands.specs.declared.command.CommandFault.TheVariants.{Short}
@@ -15,7 +15,7 @@ use Rattle.dvi_commands.specs.declared.command.Context.{Context}
 use Rattle.dvi_commands.proofs.FieldNumbers.{byte_at, bytes_before, bytes_after, code_of, numbers_are, numbers_from, quad_at}
 use Rattle.dvi_commands.proofs.Motions.{bop_stored, motion, nothing, post_post_stored, post_stored, pre_stored, rule, stored}
 use Rattle.dvi_commands.proofs.Numbered.{alone, font, opcode_font, opcode_set, put, set}
-use Rattle.dvi_commands.proofs.OneCommand.{told}
+use Rattle.dvi_commands.proofs.OneCommand.{lengths_alike}
 use Rattle.dvi_commands.proofs.Opcodes.{IsRow, no_text, row_size}
 use Rattle.dvi_commands.proofs.Prefix.{by_width}
 use Rattle.dvi_commands.proofs.Texts.{definition, special}
@@ -189,7 +189,7 @@ post_post_by fields text whole after few =
     (PostPost (stored (signed_from fields 0)) (slice_index fields 4), post_post_stored (signed_from fields 0) 249 (slice_index fields 4) fields text refl whole after (byte_at fields 4 few) refl are.0 are.1)
 
 -- a command of each kind
-spelled_by : (op : ℕ) (fields text : List ℕ) → op ≤ 249 → length fields ≡ fixed_size op → length text ≡ text_size op fields → tells_negative_length op fields ≡ false → AreBytes fields → IsSpelled op fields text
+spelled_by : (op : ℕ) (fields text : List ℕ) → op ≤ 249 → length fields ≡ fixed_size op → length text ≡ text_size op fields → gives_negative_length op fields ≡ false → AreBytes fields → IsSpelled op fields text
 spelled_by op fields text known whole after positive few = elim (cases_lt 138 op) [
   | inr o138 ↦ up_to_138 op fields text whole after few o138
   | inl o138 ↦ elim (cases_lt 156 op) [
@@ -237,13 +237,13 @@ no_bytes place bytes e h = let none : Some Short ≡ None = sym (ap (refusal pla
 pub unrefused_is_spelled : UnrefusedIsSpelled
 unrefused_is_spelled place [] few h = absurd (no_bytes place [] refl h)
 unrefused_is_spelled place (op ∷ after) few h =
-    let tests = passed (nat_lt 249 op) (may_stand place op) (nat_lt (length after) (fixed_size op)) (tells_negative_length op after) (nat_lt (length after) (fixed_size op + text_size op after)) _ _ _ _ _ h in
+    let tests = passed (nat_lt 249 op) (may_stand place op) (nat_lt (length after) (fixed_size op)) (gives_negative_length op after) (nat_lt (length after) (fixed_size op + text_size op after)) _ _ _ _ _ h in
     let known : op ≤ 249 = ltb-false 249 op tests.0 in
     let room : fixed_size op ≤ length after = ltb-false (length after) (fixed_size op) tests.2 in
     let text_room : fixed_size op + text_size op after ≤ length after = ltb-false (length after) (fixed_size op + text_size op after) tests.4 in
     let fields = take (fixed_size op) after in
     let unread = drop (fixed_size op) after in
-    let same = told op after known in
+    let same = lengths_alike op after known in
     let text = take (text_size op fields) unread in
     let whole : length fields ≡ fixed_size op = length-take-le (fixed_size op) after room in
     let length_of : length text ≡ text_size op fields = length-take-le (text_size op fields) unread (omega (arith, same.0, text_room, length-drop (fixed_size op) after)) in

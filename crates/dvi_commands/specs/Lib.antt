@@ -5,4 +5,4 @@ pub mod Writing
 pub mod Reading
 pub mod SpellingLaws
 pub mod Rows
-pub mod Plain
+pub mod Skippable

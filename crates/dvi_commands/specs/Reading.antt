@@ -1,7 +1,7 @@
 -- Bytes as commands: which command a spelling is of, and which commands bytes are, one after
 -- another. Knuth, DVItype, "Device-independent file format". Since no spelling begins another and a
--- spelling tells its command, these functions are the inverse of `spelling`, as the laws say; of
--- bytes that are no commands they say nothing.
+-- spelling determines its command, these functions are the inverse of `spelling`, as the laws say;
+-- of bytes that are no commands they say nothing.
 use Rattle.std.specs.Prelude.{◌≡◌, ℕ, zero, suc, ◌+◌, ◌-◌, ◌==◌, ℤ, pos, List, [], ◌∷◌, ◌++◌, length, take, drop, nat_le, if◌then◌else◌, slice_index, IsTrue}
 use Rattle.big_endian.specs.Numbers.{unsigned_of, signed_of}
 use Rattle.dvi_commands.specs.Spelling.{DviCommand, Definition, Set, Put, SetRule, PutRule, Nop, Bop, Eop, Push, Pop, Right, W0, W, X0, X, Down, Y0, Y, Z0, Z, Font, Special, Define, Pre, Post, PostPost, Spells}

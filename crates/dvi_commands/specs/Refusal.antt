@@ -48,20 +48,20 @@ fixed_size op =
     else if nat_le op 249 then 5
     else 0
 
--- the length that a special's field tells: up to three bytes unsigned, four signed
-abbrev pub told_length : ℕ → List ℕ → ℤ
-told_length op fields =
+-- the length that a special's field gives: up to three bytes unsigned, four signed
+abbrev pub given_length : ℕ → List ℕ → ℤ
+given_length op fields =
     if op == 242 then signed_of (take 4 fields) else pos (unsigned_of (take (op - 238) fields))
 
 -- only a length of four bytes can be negative
-abbrev pub tells_negative_length : ℕ → List ℕ → Bool
-tells_negative_length op fields = op == 242 && int_lt (told_length op fields) (pos 0)
+abbrev pub gives_negative_length : ℕ → List ℕ → Bool
+gives_negative_length op fields = op == 242 && int_lt (given_length op fields) (pos 0)
 
--- how many bytes of text the fixed fields tell, none where the length is negative
+-- how many bytes of text the fixed fields give, none where the length is negative
 abbrev pub text_size : ℕ → List ℕ → ℕ
 text_size op fields =
-    if is_in_range 239 242 op then (if int_lt (told_length op fields) (pos 0) then 0
-    else unsigned_abs (told_length op fields))
+    if is_in_range 239 242 op then (if int_lt (given_length op fields) (pos 0) then 0
+    else unsigned_abs (given_length op fields))
     else if is_in_range 243 246 op then slice_index fields (op - 242 + 12) + slice_index fields
     (op - 242 + 13)
     else if op == 247 then slice_index fields 13
@@ -75,7 +75,7 @@ refusal place (op ∷ fields) =
     if nat_lt LAST_OPCODE op then Some (Undefined op)
     else if not (may_stand place op) then Some (Misplaced op)
     else if nat_lt (length fields) (fixed_size op) then Some Short
-    else if tells_negative_length op fields then Some NegativeLength
+    else if gives_negative_length op fields then Some NegativeLength
     else if nat_lt (length fields) (fixed_size op + text_size op fields) then Some Short
     else None
 

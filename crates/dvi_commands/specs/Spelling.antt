@@ -177,8 +177,8 @@ Spells c bytes = (n : ℕ) × HasWidth c n × (bytes ≡ spelling c n)
 
 -- ---- a command of the code
 
-abbrev pub seen_definition : FontDef → Definition
-seen_definition d =
+abbrev pub value_of_definition : FontDef → Definition
+value_of_definition d =
     record {
       number = d.number;
       check = d.check;
@@ -188,32 +188,32 @@ seen_definition d =
       name = d.name.now;
     }
 
-abbrev pub seen : Command → DviCommand
-seen (lent.Set c) = Set c
-seen (lent.Put c) = Put c
-seen (lent.SetRule a b) = SetRule a b
-seen (lent.PutRule a b) = PutRule a b
-seen lent.Nop = Nop
-seen (lent.Bop counts back) = Bop counts back
-seen lent.Eop = Eop
-seen lent.Push = Push
-seen lent.Pop = Pop
-seen (lent.Right b) = Right b
-seen lent.W0 = W0
-seen (lent.W b) = W b
-seen lent.X0 = X0
-seen (lent.X b) = X b
-seen (lent.Down a) = Down a
-seen lent.Y0 = Y0
-seen (lent.Y a) = Y a
-seen lent.Z0 = Z0
-seen (lent.Z a) = Z a
-seen (lent.Font k) = Font k
-seen (lent.Special text) = Special text.now
-seen (lent.Define d) = Define (seen_definition d)
-seen (lent.Pre id num den mag text) =
+abbrev pub value_of_command : Command → DviCommand
+value_of_command (lent.Set c) = Set c
+value_of_command (lent.Put c) = Put c
+value_of_command (lent.SetRule a b) = SetRule a b
+value_of_command (lent.PutRule a b) = PutRule a b
+value_of_command lent.Nop = Nop
+value_of_command (lent.Bop counts back) = Bop counts back
+value_of_command lent.Eop = Eop
+value_of_command lent.Push = Push
+value_of_command lent.Pop = Pop
+value_of_command (lent.Right b) = Right b
+value_of_command lent.W0 = W0
+value_of_command (lent.W b) = W b
+value_of_command lent.X0 = X0
+value_of_command (lent.X b) = X b
+value_of_command (lent.Down a) = Down a
+value_of_command lent.Y0 = Y0
+value_of_command (lent.Y a) = Y a
+value_of_command lent.Z0 = Z0
+value_of_command (lent.Z a) = Z a
+value_of_command (lent.Font k) = Font k
+value_of_command (lent.Special text) = Special text.now
+value_of_command (lent.Define d) = Define (value_of_definition d)
+value_of_command (lent.Pre id num den mag text) =
     Pre (record { id = id; num = num; den = den; mag = mag; text = text.now })
-seen (lent.Post back num den mag tallest widest deepest pages) =
+value_of_command (lent.Post back num den mag tallest widest deepest pages) =
     Post (record {
       back = back;
       num = num;
@@ -224,4 +224,4 @@ seen (lent.Post back num den mag tallest widest deepest pages) =
       deepest = deepest;
       pages = pages;
     })
-seen (lent.PostPost q id) = PostPost q id
+value_of_command (lent.PostPost q id) = PostPost q id

@@ -21,9 +21,9 @@ abbrev pub NoSpellingIsAProperPrefix : Type 0
 NoSpellingIsAProperPrefix =
     (c d : DviCommand) (a b : List ℕ) → Spells c a → Spells d b → IsProperPrefix a b → ⊥
 
--- the bytes tell the command
-abbrev pub SpellingTellsTheCommand : Type 0
-SpellingTellsTheCommand =
+-- the bytes determine the command
+abbrev pub SpellingDeterminesTheCommand : Type 0
+SpellingDeterminesTheCommand =
     (c d : DviCommand) (bytes : List ℕ) → Spells c bytes → Spells d bytes → c ≡ d
 
 -- what spells a command that may stand there is not refused, whatever follows

@@ -5,12 +5,12 @@ use Rattle.std.specs.Borrow.{Bor}
 use Rattle.dvi_commands.specs.Spelling.{DviCommand, Define, Pre, Special}
 
 -- the most bytes that a special may have
-abbrev pub LONGEST_SPECIAL : ℕ
-LONGEST_SPECIAL = 2 ^ 31 - 1
+abbrev pub MAX_SPECIAL_LENGTH : ℕ
+MAX_SPECIAL_LENGTH = 2 ^ 31 - 1
 
 -- the length of a special is a signed number of four bytes at most
 abbrev pub IsSpecialShort : DviCommand → Type 0
-IsSpecialShort (Special text) = length text ≤ LONGEST_SPECIAL
+IsSpecialShort (Special text) = length text ≤ MAX_SPECIAL_LENGTH
 IsSpecialShort _ = Unit {0}
 
 -- the length of a preamble's text is one byte

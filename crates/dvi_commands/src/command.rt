@@ -100,8 +100,8 @@ pub enum Command<'a> {
     },
 }
 
-/// Where a command stands: before the preamble, between pages, on a page, in the packet of a
-/// virtual font's character, or after the start of the postamble.
+/// Where a command is: before the preamble, between pages, on a page, in the packet of a virtual
+/// font's character, or after the start of the postamble.
 #[derive(Clone, Copy, Debug, PartialEq, Eq)]
 pub enum Context {
     Start,
@@ -117,10 +117,10 @@ pub enum CommandFault {
     /// The bytes end within the command, or before it.
     #[error("short")]
     Short,
-    /// The opcode, 250 to 255, is of no command.
+    /// The opcode, 250 to 255, belongs to no command.
     #[error("undefined {0}")]
     Undefined(u8),
-    /// The command with this opcode may not stand in the context.
+    /// The command with this opcode isn't allowed in the context.
     #[error("misplaced {0}")]
     Misplaced(u8),
     /// The length of a special is negative.

@@ -2,8 +2,8 @@
 
 ghost use Rattle.std.specs.Prelude.{◌≡◌, ◌≤◌, ◌+◌, ◌-◌, ◌∷◌, ◌++◌, [], false, length, slice_index, slice_range};
 ghost use Rattle.big_endian.specs.Numbers.{IsSigned, number_bytes};
-ghost use Rattle.dvi_commands.specs.Refusal.{LAST_OPCODE, fixed_size, tells_negative_length, text_size};
-ghost use Rattle.dvi_commands.specs.Spelling.{IsOperand, Spells, quad, seen};
+ghost use Rattle.dvi_commands.specs.Refusal.{LAST_OPCODE, fixed_size, gives_negative_length, text_size};
+ghost use Rattle.dvi_commands.specs.Spelling.{IsOperand, Spells, quad, value_of_command};
 
 use crate::command::{Command, FontDef};
 use big_endian::{signed, unsigned};
@@ -34,7 +34,7 @@ fn code(bytes: &[u8]) -> i32
 // The ten counts of a page and the pointer to the page before.
 fn beginning_of_page<'a>(fields: &[u8]) -> Command<'a>
     requires { length fields.now ≡ 44 }
-    ensures { Spells (seen result) (139 ∷ fields.now) }
+    ensures { Spells (value_of_command result) (139 ∷ fields.now) }
 {
     Command::Bop {
         counts: [
@@ -59,7 +59,8 @@ fn definition<'a>(fields: &[u8], name: &'a [u8]) -> Command<'a>
     requires few { length fields.now ≤ 18 }
     requires text { length name.now ≡ slice_index fields.now (length fields.now - 2)
         + slice_index fields.now (length fields.now - 1) }
-    ensures { Spells (seen result) ((228 + length fields.now) ∷ fields.now ++ name.now) }
+    ensures { Spells (value_of_command result) ((228 + length fields.now) ∷ fields.now
+        ++ name.now) }
 {
     let (number, others) = fields.split_at(fields.len() - 14);
     Command::Define(FontDef {
@@ -75,7 +76,7 @@ fn definition<'a>(fields: &[u8], name: &'a [u8]) -> Command<'a>
 fn preamble<'a>(fields: &[u8], text: &'a [u8]) -> Command<'a>
     requires whole { length fields.now ≡ 14 }
     requires text { length text.now ≡ slice_index fields.now 13 }
-    ensures { Spells (seen result) (247 ∷ fields.now ++ text.now) }
+    ensures { Spells (value_of_command result) (247 ∷ fields.now ++ text.now) }
 {
     Command::Pre {
         id: fields[0],
@@ -88,7 +89,7 @@ fn preamble<'a>(fields: &[u8], text: &'a [u8]) -> Command<'a>
 
 fn postamble<'a>(fields: &[u8]) -> Command<'a>
     requires { length fields.now ≡ 28 }
-    ensures { Spells (seen result) (248 ∷ fields.now) }
+    ensures { Spells (value_of_command result) (248 ∷ fields.now) }
 {
     Command::Post {
         back: signed_quad(fields, 0),
@@ -106,7 +107,7 @@ fn postamble<'a>(fields: &[u8]) -> Command<'a>
 #[inline(always)]
 pub(crate) fn small_character<'a>(opcode: u8) -> Command<'a>
     requires { opcode ≤ 127 }
-    ensures { Spells (seen result) (opcode ∷ []) }
+    ensures { Spells (value_of_command result) (opcode ∷ []) }
 {
     Command::Set(i32::from(opcode))
 }
@@ -116,8 +117,8 @@ pub(crate) fn command_with<'a>(opcode: u8, fields: &[u8], text: &'a [u8]) -> Com
     requires known { opcode ≤ LAST_OPCODE }
     requires whole { length fields.now ≡ fixed_size opcode }
     requires text { length text.now ≡ text_size opcode fields.now }
-    requires not_negative { tells_negative_length opcode fields.now ≡ false }
-    ensures { Spells (seen result) (opcode ∷ fields.now ++ text.now) }
+    requires not_negative { gives_negative_length opcode fields.now ≡ false }
+    ensures { Spells (value_of_command result) (opcode ∷ fields.now ++ text.now) }
 {
     match opcode {
         0..=127 => Command::Set(i32::from(opcode)),

@@ -2,8 +2,8 @@
 
 ghost use Rattle.std.specs.Prelude.{◌≡◌, ◌≤◌, ◌<◌, ◌+◌, ◌-◌, ◌∷◌, ◌++◌, ◌↔◌, ℕ, List, length, drop, slice_index, slice_range, Some, IsTrue, IfOk, IfErr, IfSome, IsNone, IsOkAnd};
 ghost use Rattle.dvi_commands.specs.Reading.{Begins, Reads, commands_of, placed, placed_from};
-ghost use Rattle.dvi_commands.specs.Refusal.{LAST_OPCODE, fixed_size, may_stand, refusal, tells_negative_length, text_size};
-ghost use Rattle.dvi_commands.specs.Spelling.{DviCommand, Spells, seen};
+ghost use Rattle.dvi_commands.specs.Refusal.{LAST_OPCODE, fixed_size, may_stand, refusal, gives_negative_length, text_size};
+ghost use Rattle.dvi_commands.specs.Spelling.{DviCommand, Spells, value_of_command};
 
 use crate::command::{Command, CommandFault, Context};
 use crate::fields::{command_with, small_character};
@@ -65,8 +65,8 @@ fn field_size(opcode: u8) -> usize
 fn text_length(opcode: u8, fields: &[u8]) -> Option<usize>
     requires known { opcode ≤ LAST_OPCODE }
     requires whole { length fields.now ≡ fixed_size opcode }
-    ensures negative { IsNone result ↔ IsTrue (tells_negative_length opcode fields.now) }
-    ensures told { IfSome result (λ n. n ≡ text_size opcode fields.now) }
+    ensures negative { IsNone result ↔ IsTrue (gives_negative_length opcode fields.now) }
+    ensures given { IfSome result (λ n. n ≡ text_size opcode fields.now) }
 {
     match opcode {
         239..=241 => Some(unsigned(fields) as usize),
@@ -83,9 +83,9 @@ fn text_length(opcode: u8, fields: &[u8]) -> Option<usize>
 /// Reads the command at a place, and gives it with the place after it.
 ///
 /// The fault is the first of these that applies: `Short` where no byte is left; `Undefined` for an
-/// opcode of no command; `Misplaced` where the command may not stand in the context; `Short` where
-/// its fields aren't all there; `NegativeLength` for a special of negative length; `Short` where
-/// its text isn't all there. Takes no memory.
+/// opcode that belongs to no command; `Misplaced` where the command isn't allowed in the context;
+/// `Short` where its fields aren't all there; `NegativeLength` for a special of negative length;
+/// `Short` where its text isn't all there. Takes no memory.
 #[inline(always)]
 pub fn read_command<'a>(
     bytes: &'a [u8],
@@ -93,7 +93,7 @@ pub fn read_command<'a>(
     context: Context,
 ) -> Result<(Command<'a>, usize), CommandFault>
     requires { at ≤ length bytes.now }
-    ensures read { IfOk result (λ r. Spells (seen r.0) (slice_range bytes.now at r.1)) }
+    ensures read { IfOk result (λ r. Spells (value_of_command r.0) (slice_range bytes.now at r.1)) }
     ensures allowed { IfOk result (λ r. IsTrue (may_stand context (slice_index bytes.now at))) }
     ensures place { IfOk result (λ r. (at < r.1) × (r.1 ≤ length bytes.now)) }
     ensures refused { IfErr result (λ fault. refusal context (drop at bytes.now) ≡ Some fault) }
@@ -101,7 +101,7 @@ pub fn read_command<'a>(
     // Whatever command the bytes begin with is read as that command.
     ensures found { (c : DviCommand) (prefix rest : List ℕ)
         → Begins context c prefix rest (drop at bytes.now)
-        → IsOkAnd result (λ r. (seen r.0 ≡ c) × (r.1 ≡ at + length prefix)) }
+        → IsOkAnd result (λ r. (value_of_command r.0 ≡ c) × (r.1 ≡ at + length prefix)) }
 {
     if at == bytes.len() {
         return Err(CommandFault::Short);
@@ -140,16 +140,16 @@ pub fn command_at<'a>(bytes: &'a [u8], at: usize, context: Context) -> (Command<
     requires inside { at < length bytes.now }
     requires readable { Reads context (drop at bytes.now) }
     ensures place { (at < result.1) × (result.1 ≤ length bytes.now) }
-    ensures spelled { Spells (seen result.0) (slice_range bytes.now at result.1) }
+    ensures spelled { Spells (value_of_command result.0) (slice_range bytes.now at result.1) }
     ensures allowed { IsTrue (may_stand context (slice_index bytes.now at)) }
     ensures readable { Reads context (drop result.1 bytes.now) }
 
     // The commands from the place on are this one and those after it, wherever the first stands.
     ensures placed { (start : ℕ) → placed_from start (drop at bytes.now)
-        ≡ placed start (seen result.0) (slice_range bytes.now at result.1)
+        ≡ placed start (value_of_command result.0) (slice_range bytes.now at result.1)
         ∷ placed_from (start + (result.1 - at)) (drop result.1 bytes.now) }
     ensures commands { commands_of (drop at bytes.now)
-        ≡ seen result.0 ∷ commands_of (drop result.1 bytes.now) }
+        ≡ value_of_command result.0 ∷ commands_of (drop result.1 bytes.now) }
 {
     match read_command(bytes, at, context) {
         Ok(read) => read,

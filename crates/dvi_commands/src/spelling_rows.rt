@@ -53,7 +53,7 @@ pub fn refused_at_the_start()
         ∷ 3 ∷ 232 ∷ 2 ∷ 72 ∷ 105 ∷ []) ≡ None }
 {}
 
-/// Which opcodes may stand where, and which may not.
+/// Which opcodes are allowed where, and which are not.
 pub fn contexts()
     ensures start { filter (may_stand context.Start) opcodes ≡ 247 ∷ [] }
     ensures between { filter (may_stand context.Between) opcodes

@@ -2,7 +2,7 @@
 
 ghost use Rattle.std.specs.Prelude.{◌≡◌, ◌++◌, OnErr, OnOk};
 ghost use Rattle.dvi_commands.specs.ShortestSpelling.{shortest_spelling};
-ghost use Rattle.dvi_commands.specs.Spelling.{Spells, seen};
+ghost use Rattle.dvi_commands.specs.Spelling.{Spells, value_of_command};
 ghost use Rattle.dvi_commands.specs.Writing.{IsAreaInName, IsRestShort, IsSpecialShort, IsTextShort};
 
 mod fields;
@@ -26,14 +26,15 @@ use std::alloc::{AllocError as NoMemory, Global};
 /// Where memory runs out, `out` is as before: the room for the whole spelling is made at once.
 /// Knuth, DVItype, "Device-independent file format".
 pub fn write_command(_alloc: Global, command: &Command, out: &mut Vec<u8>) -> Result<(), NoMemory>
-    requires special { IsSpecialShort (seen command.now) }
-    requires text { IsTextShort (seen command.now) }
-    requires area { IsAreaInName (seen command.now) }
-    requires rest { IsRestShort (seen command.now) }
+    requires special { IsSpecialShort (value_of_command command.now) }
+    requires text { IsTextShort (value_of_command command.now) }
+    requires area { IsAreaInName (value_of_command command.now) }
+    requires rest { IsRestShort (value_of_command command.now) }
     ensures written { OnOk result (out.new.items ≡ out.old.items ++ shortest_spelling
-        (seen command.now)) }
+        (value_of_command command.now)) }
     ensures unchanged { OnErr result (out.new.items ≡ out.old.items) }
-    ensures spelled { Spells (seen command.now) (shortest_spelling (seen command.now)) }
+    ensures spelled { Spells (value_of_command command.now) (shortest_spelling
+        (value_of_command command.now)) }
 {
     match *command {
         Command::Set(code @ 0..=127) => append_opcode(out, code as u8),

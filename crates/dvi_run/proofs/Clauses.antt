@@ -4,21 +4,21 @@ use Rattle.outside.specs.Library.{FileTable}
 use Rattle.page_index.specs.Document.{Reading}
 use Rattle.page_index.specs.Faults.{IsFirstFault}
 use Rattle.page_index.specs.declared.faults.DocFault.{DocFault}
-use Rattle.vf_expand.specs.Faults.{PageFaultSeen}
+use Rattle.vf_expand.specs.Faults.{PageFaultValue}
 use Rattle.vf_expand.specs.Faults as fault
 use Rattle.page_draw.specs.Values.{PageValue}
-use Rattle.dvi_run.specs.Reading.{IsAllRead, OfRead}
+use Rattle.dvi_run.specs.Reading.{IsAllRead, HoldsOfInput}
 use Rattle.dvi_run.specs.Pages.{FailingPage, Setup, IsRun, run_fault}
-use Rattle.dvi_run.specs.Endings.{EndingSeen, Written, Usage, Document, Page, Source, Input, Output, Notes, Memory, EndsPages, IsAmong, IsEnding, IsPlaced, OfRun, Stopped, Wrote, WroteBefore, WroteAll, WrotePrefix, WroteSome, page_status, status_of, statuses}
+use Rattle.dvi_run.specs.Endings.{EndingValue, Written, Usage, Document, Page, Source, Input, Output, Notes, Memory, EndsPages, IsAmong, IsEnding, IsPlaced, HoldsOfDocument, Stopped, Wrote, WroteBefore, WroteAll, WrotePrefix, WroteSome, page_status, status_of, statuses}
 use Rattle.dvi_run.specs.Promises.{GoodRunIsWhole, GoodRunIsWritten}
 use Rattle.dvi_run.specs.Laws.{OneReading, OneRun, RunsHaveNoFault}
 use Rattle.dvi_run.proofs.OneRun.{all_good, ends_once}
 
-pub of_each : (P Q : List ℕ → Type 0) (old : Option (List ℕ)) → ((bytes : List ℕ) → P bytes → Q bytes) → OfRead old P → OfRead old Q
+pub of_each : (P Q : List ℕ → Type 0) (old : Option (List ℕ)) → ((bytes : List ℕ) → P bytes → Q bytes) → HoldsOfInput old P → HoldsOfInput old Q
 of_each P Q None f p = tt
 of_each P Q (Some bytes) f p = f _ p
 
-pub of_all : (Q : List ℕ → Type 0) (old : Option (List ℕ)) → ((bytes : List ℕ) → Q bytes) → OfRead old Q
+pub of_all : (Q : List ℕ → Type 0) (old : Option (List ℕ)) → ((bytes : List ℕ) → Q bytes) → HoldsOfInput old Q
 of_all Q None f = tt
 of_all Q (Some bytes) f = f _
 
@@ -26,7 +26,7 @@ of_all Q (Some bytes) f = f _
 abbrev pub AtPage : ℕ → Type 0
 AtPage n = (n ≡ 3) ⊎ (n ≡ 4)
 
-pub at_page : (f : PageFaultSeen) → AtPage (page_status f)
+pub at_page : (f : PageFaultValue) → AtPage (page_status f)
 at_page (fault.NoFont n) = inl refl
 at_page fault.NoCurrentFont = inl refl
 at_page (fault.NoCharacter k c) = inl refl
@@ -58,7 +58,7 @@ page_is_late n (inr four) =
     (λ is. let e : 4 ≡ 6 = sym four ∙ is in cc)
 
 -- a run whose pages were begun ends neither with 1 nor with 2 nor with 6
-pub ends_late : (old new : Option (List ℕ)) (P Q : Type 0) (reading : Reading) (values : List PageValue) (e : EndingSeen) → EndsPages old new P Q e reading values
+pub ends_late : (old new : Option (List ℕ)) (P Q : Type 0) (reading : Reading) (values : List PageValue) (e : EndingValue) → EndsPages old new P Q e reading values
     → IsAmong (status_of e) (1 ∷ 2 ∷ 6 ∷ []) → ⊥
 ends_late old new P Q reading values Written h = is_no_early 0 (λ is. cc) (λ is. cc) (λ is. cc)
 ends_late old new P Q reading values Usage h = absurd h
@@ -81,13 +81,13 @@ is_none n a b c d e f h (inr (inr (inr (inr (inr (inl is)))))) = f is
 is_none n a b c d e f h (inr (inr (inr (inr (inr (inr (inl is))))))) = h is
 is_none n a b c d e f h (inr (inr (inr (inr (inr (inr (inr none))))))) = none
 
--- ---- what is owed for each, where the input tells its bytes
+-- ---- what is owed for each, where the input's bytes are known
 
 module _ (old new : Option (List ℕ)) (OutputFailed SourceFailed OutputKept InputFailed : Type 0) (g : Setup) (left rest : Option (List ℕ)) where
-  abbrev Ends : EndingSeen → Type 0
+  abbrev Ends : EndingValue → Type 0
   Ends e = IsEnding old new OutputFailed SourceFailed OutputKept InputFailed g left rest e
 
-  pub has_status : (e : EndingSeen) → Ends e → IsAmong (status_of e) statuses
+  pub has_status : (e : EndingValue) → Ends e → IsAmong (status_of e) statuses
   has_status Written h = inl refl
   has_status Usage h = absurd h
   has_status (Document fault) h = inr (inl refl)
@@ -104,77 +104,77 @@ module _ (old new : Option (List ℕ)) (OutputFailed SourceFailed OutputKept Inp
 
   module _ (reading : OneReading) (one_run : OneRun) (no_fault : RunsHaveNoFault) where
     -- a document has no fault
-    not_both : (bytes : List ℕ) (P : Reading → List PageValue → Type 0) (fault : DocFault) → OfRun g bytes P → IsFirstFault g.res bytes fault → ⊥
+    not_both : (bytes : List ℕ) (P : Reading → List PageValue → Type 0) (fault : DocFault) → HoldsOfDocument g bytes P → IsFirstFault g.res bytes fault → ⊥
     not_both bytes P fault run first = no_fault g bytes run.0 run.1 fault run.2 first
 
-    abbrev IsRefused : EndingSeen → List ℕ → Type 0
+    abbrev IsRefused : EndingValue → List ℕ → Type 0
     IsRefused e bytes = (fault : DocFault) → IsFirstFault g.res bytes fault → IsAmong (status_of e) (2 ∷ 6 ∷ 9 ∷ [])
 
-    pub refused_by : (e : EndingSeen) → Ends e → OfRead left (IsRefused e)
+    pub refused_by : (e : EndingValue) → Ends e → HoldsOfInput left (IsRefused e)
     refused_by Usage h = absurd h
     refused_by (Document fault) h = of_all (IsRefused (Document fault)) left (λ bytes f first. inl refl)
     refused_by (Page page) h =
         let P : Reading → List PageValue → Type 0 = λ _. Stopped old new page in
-        of_each (λ bytes. OfRun g bytes P) (IsRefused (Page page)) left (λ bytes run f first. absurd (not_both bytes P f run first)) h.1
+        of_each (λ bytes. HoldsOfDocument g bytes P) (IsRefused (Page page)) left (λ bytes run f first. absurd (not_both bytes P f run first)) h.1
     refused_by (Source page) h =
         let P : Reading → List PageValue → Type 0 = WroteBefore old new page in
-        of_each (λ bytes. OfRun g bytes P) (IsRefused (Source page)) left (λ bytes run f first. absurd (not_both bytes P f run first)) h.1
+        of_each (λ bytes. HoldsOfDocument g bytes P) (IsRefused (Source page)) left (λ bytes run f first. absurd (not_both bytes P f run first)) h.1
     refused_by Input h = of_all (IsRefused Input) left (λ bytes f first. inr (inl refl))
     refused_by (Output page) h =
         let P : Reading → List PageValue → Type 0 = λ _. WrotePrefix old new page in
-        of_each (λ bytes. OfRun g bytes P) (IsRefused (Output page)) left (λ bytes run f first. absurd (not_both bytes P f run first)) h.1
+        of_each (λ bytes. HoldsOfDocument g bytes P) (IsRefused (Output page)) left (λ bytes run f first. absurd (not_both bytes P f run first)) h.1
     refused_by Written h =
         let P : Reading → List PageValue → Type 0 = Wrote old new in
-        of_each (λ bytes. OfRun g bytes P) (IsRefused Written) left (λ bytes run f first. absurd (not_both bytes P f run first)) h.1
+        of_each (λ bytes. HoldsOfDocument g bytes P) (IsRefused Written) left (λ bytes run f first. absurd (not_both bytes P f run first)) h.1
     refused_by Notes h =
         let P : Reading → List PageValue → Type 0 = Wrote old new in
-        of_each (λ bytes. OfRun g bytes P) (IsRefused Notes) left (λ bytes run f first. absurd (not_both bytes P f run first)) h.1
+        of_each (λ bytes. HoldsOfDocument g bytes P) (IsRefused Notes) left (λ bytes run f first. absurd (not_both bytes P f run first)) h.1
     refused_by Memory h = of_all (IsRefused Memory) left (λ bytes f first. inr (inr (inl refl)))
 
-    module _ (files : FileTable) (told : g.library ≡ Some files) where
-      abbrev IsStopped : EndingSeen → List ℕ → Type 0
+    module _ (files : FileTable) (known : g.library ≡ Some files) where
+      abbrev IsStopped : EndingValue → List ℕ → Type 0
       IsStopped e bytes = (r : Reading) (values : List PageValue) (page : FailingPage) → IsRun g bytes r values → run_fault values ≡ Some page
           → IsAmong (status_of e) (page_status page.fault ∷ 5 ∷ 6 ∷ 7 ∷ 9 ∷ [])
 
-      pub stopped_by : (e : EndingSeen) → Ends e → OfRead left (IsStopped e)
+      pub stopped_by : (e : EndingValue) → Ends e → HoldsOfInput left (IsStopped e)
       stopped_by Usage h = absurd h
       stopped_by (Document fault) h =
           of_each (λ bytes. IsFirstFault g.res bytes fault) (IsStopped (Document fault)) left
           (λ bytes first r values page run is. absurd (no_fault g bytes r values fault run first)) h.1
       stopped_by (Page own) h =
-          of_each (λ bytes. OfRun g bytes (λ _. Stopped old new own)) (IsStopped (Page own)) left
+          of_each (λ bytes. HoldsOfDocument g bytes (λ _. Stopped old new own)) (IsStopped (Page own)) left
           (λ bytes run r values page other is.
-          let same : own ≡ page = ends_once reading one_run g files told bytes run.0 r run.1 values own page run.2 other run.3.fails is in
+          let same : own ≡ page = ends_once reading one_run g files known bytes run.0 r run.1 values own page run.2 other run.3.fails is in
           inl (ap (λ (p : FailingPage). page_status p.fault) same)) h.1
       stopped_by (Source n) h = of_all (IsStopped (Source n)) left (λ bytes r values page run is. inr (inl refl))
       stopped_by Input h = of_all (IsStopped Input) left (λ bytes r values page run is. inr (inr (inl refl)))
       stopped_by (Output n) h = of_all (IsStopped (Output n)) left (λ bytes r values page run is. inr (inr (inr (inl refl))))
       stopped_by Written h =
-          of_each (λ bytes. OfRun g bytes (Wrote old new)) (IsStopped Written) left
+          of_each (λ bytes. HoldsOfDocument g bytes (Wrote old new)) (IsStopped Written) left
           (λ bytes run r values page other is.
           let none : run_fault values ≡ None =
-          all_good reading one_run g files told bytes run.0 r run.1 values (record { run = run.2; all = run.3.all }) run.3.good other in
+          all_good reading one_run g files known bytes run.0 r run.1 values (record { run = run.2; all = run.3.all }) run.3.good other in
           let bad : Some page ≡ None = sym is ∙ none in absurd cc) h.1
       stopped_by Notes h =
-          of_each (λ bytes. OfRun g bytes (Wrote old new)) (IsStopped Notes) left
+          of_each (λ bytes. HoldsOfDocument g bytes (Wrote old new)) (IsStopped Notes) left
           (λ bytes run r values page other is.
           let none : run_fault values ≡ None =
-          all_good reading one_run g files told bytes run.0 r run.1 values (record { run = run.2; all = run.3.all }) run.3.good other in
+          all_good reading one_run g files known bytes run.0 r run.1 values (record { run = run.2; all = run.3.all }) run.3.good other in
           let bad : Some page ≡ None = sym is ∙ none in absurd cc) h.1
       stopped_by Memory h = of_all (IsStopped Memory) left (λ bytes r values page run is. inr (inr (inr (inr (inl refl)))))
 
-      abbrev IsWritten : EndingSeen → List ℕ → Type 0
+      abbrev IsWritten : EndingValue → List ℕ → Type 0
       IsWritten e = GoodRunIsWritten g (status_of e)
 
-      pub whole_by : (InputFailed → ⊥) → (SourceFailed → ⊥) → (OutputFailed → ⊥) → (e : EndingSeen) → Ends e → OfRead left (IsWritten e)
+      pub whole_by : (InputFailed → ⊥) → (SourceFailed → ⊥) → (OutputFailed → ⊥) → (e : EndingValue) → Ends e → HoldsOfInput left (IsWritten e)
       whole_by i s o Usage h = absurd h
       whole_by i s o (Document fault) h =
           of_each (λ bytes. IsFirstFault g.res bytes fault) (IsWritten (Document fault)) left
           (λ bytes first r values whole is. absurd (no_fault g bytes r values fault whole.run first)) h.1
       whole_by i s o (Page own) h =
-          of_each (λ bytes. OfRun g bytes (λ _. Stopped old new own)) (IsWritten (Page own)) left
+          of_each (λ bytes. HoldsOfDocument g bytes (λ _. Stopped old new own)) (IsWritten (Page own)) left
           (λ bytes run r values whole is.
-          let none : run_fault run.1 ≡ None = all_good reading one_run g files told bytes r run.0 values run.1 whole is run.2 in
+          let none : run_fault run.1 ≡ None = all_good reading one_run g files known bytes r run.0 values run.1 whole is run.2 in
           let bad : Some own ≡ None = sym run.3.fails ∙ none in absurd cc) h.1
       whole_by i s o (Source n) h = of_all (IsWritten (Source n)) left (λ bytes r values whole is. absurd (s h.2))
       whole_by i s o Input h = of_all (IsWritten Input) left (λ bytes r values whole is. absurd (i h.0))
@@ -189,7 +189,7 @@ module _ (old new : Option (List ℕ)) (OutputFailed SourceFailed OutputKept Inp
       not_eight status not (inr (inr (inl is))) = inr (inl is)
       not_eight status not (inr (inr (inr none))) = absurd none
 
-      pub complete_by : (InputFailed → ⊥) → (SourceFailed → ⊥) → (OutputFailed → ⊥) → (e : EndingSeen) → (status_of e ≡ 8 → ⊥) → Ends e → OfRead left (GoodRunIsWhole g (status_of e))
+      pub complete_by : (InputFailed → ⊥) → (SourceFailed → ⊥) → (OutputFailed → ⊥) → (e : EndingValue) → (status_of e ≡ 8 → ⊥) → Ends e → HoldsOfInput left (GoodRunIsWhole g (status_of e))
       complete_by i s o e n h =
           of_each (IsWritten e) (GoodRunIsWhole g (status_of e)) left
           (λ bytes written r values whole is. not_eight (status_of e) n (written r values whole is)) (whole_by i s o e h)
@@ -199,31 +199,31 @@ module _ (old new : Option (List ℕ)) (OutputFailed SourceFailed OutputKept Inp
   abbrev HasFault : List ℕ → Type 0
   HasFault bytes = (fault : DocFault) × IsFirstFault g.res bytes fault
 
-  pub document_by : (e : EndingSeen) → status_of e ≡ 2 → Ends e → OfRead left HasFault × OutputKept
-  document_by Written is h = cc
-  document_by Usage is h = cc
-  document_by (Document fault) is h = (of_each (λ bytes. IsFirstFault g.res bytes fault) HasFault left (λ bytes first. (fault, first)) h.1, h.2)
-  document_by (Page page) is h = no_other page 2 is (λ three. cc) (λ four. cc)
-  document_by (Source page) is h = cc
-  document_by Input is h = cc
-  document_by (Output page) is h = cc
-  document_by Notes is h = cc
-  document_by Memory is h = cc
+  pub document_for_sample : (e : EndingValue) → status_of e ≡ 2 → Ends e → HoldsOfInput left HasFault × OutputKept
+  document_for_sample Written is h = cc
+  document_for_sample Usage is h = cc
+  document_for_sample (Document fault) is h = (of_each (λ bytes. IsFirstFault g.res bytes fault) HasFault left (λ bytes first. (fault, first)) h.1, h.2)
+  document_for_sample (Page page) is h = no_other page 2 is (λ three. cc) (λ four. cc)
+  document_for_sample (Source page) is h = cc
+  document_for_sample Input is h = cc
+  document_for_sample (Output page) is h = cc
+  document_for_sample Notes is h = cc
+  document_for_sample Memory is h = cc
 
   abbrev HasPage : ℕ → List ℕ → Type 0
-  HasPage status bytes = (page : FailingPage) × (status ≡ page_status page.fault) × OfRun g bytes (λ _. Stopped old new page)
+  HasPage status bytes = (page : FailingPage) × (status ≡ page_status page.fault) × HoldsOfDocument g bytes (λ _. Stopped old new page)
 
   not_page : {A : Type 0} (n : ℕ) → (n ≡ 3 → ⊥) → (n ≡ 4 → ⊥) → IsAmong n (3 ∷ 4 ∷ []) → A
   not_page n not_three not_four (inl three) = absurd (not_three three)
   not_page n not_three not_four (inr (inl four)) = absurd (not_four four)
   not_page n not_three not_four (inr (inr none)) = absurd none
 
-  pub page_by : (e : EndingSeen) → IsAmong (status_of e) (3 ∷ 4 ∷ []) → Ends e → OfRead left (HasPage (status_of e))
+  pub page_by : (e : EndingValue) → IsAmong (status_of e) (3 ∷ 4 ∷ []) → Ends e → HoldsOfInput left (HasPage (status_of e))
   page_by Written is h = not_page 0 (λ three. cc) (λ four. cc) is
   page_by Usage is h = not_page 1 (λ three. cc) (λ four. cc) is
   page_by (Document fault) is h = not_page 2 (λ three. cc) (λ four. cc) is
   page_by (Page page) is h =
-      of_each (λ bytes. OfRun g bytes (λ _. Stopped old new page)) (HasPage (page_status page.fault)) left (λ bytes run. (page, refl, run)) h.1
+      of_each (λ bytes. HoldsOfDocument g bytes (λ _. Stopped old new page)) (HasPage (page_status page.fault)) left (λ bytes run. (page, refl, run)) h.1
   page_by (Source page) is h = not_page 5 (λ three. cc) (λ four. cc) is
   page_by Input is h = not_page 6 (λ three. cc) (λ four. cc) is
   page_by (Output page) is h = not_page 7 (λ three. cc) (λ four. cc) is
@@ -231,20 +231,20 @@ module _ (old new : Option (List ℕ)) (OutputFailed SourceFailed OutputKept Inp
   page_by Memory is h = not_page 9 (λ three. cc) (λ four. cc) is
 
   abbrev HasBefore : List ℕ → Type 0
-  HasBefore bytes = (page : ℕ) × OfRun g bytes (WroteBefore old new page)
+  HasBefore bytes = (page : ℕ) × HoldsOfDocument g bytes (WroteBefore old new page)
 
-  pub source_by : (e : EndingSeen) → status_of e ≡ 5 → Ends e → OfRead left HasBefore × SourceFailed
+  pub source_by : (e : EndingValue) → status_of e ≡ 5 → Ends e → HoldsOfInput left HasBefore × SourceFailed
   source_by Written is h = cc
   source_by Usage is h = cc
   source_by (Document fault) is h = cc
   source_by (Page page) is h = no_other page 5 is (λ three. cc) (λ four. cc)
-  source_by (Source page) is h = (of_each (λ bytes. OfRun g bytes (WroteBefore old new page)) HasBefore left (λ bytes run. (page, run)) h.1, h.2)
+  source_by (Source page) is h = (of_each (λ bytes. HoldsOfDocument g bytes (WroteBefore old new page)) HasBefore left (λ bytes run. (page, run)) h.1, h.2)
   source_by Input is h = cc
   source_by (Output page) is h = cc
   source_by Notes is h = cc
   source_by Memory is h = cc
 
-  pub input_by : (e : EndingSeen) → status_of e ≡ 6 → Ends e → InputFailed × OutputKept
+  pub input_by : (e : EndingValue) → status_of e ≡ 6 → Ends e → InputFailed × OutputKept
   input_by Written is h = cc
   input_by Usage is h = cc
   input_by (Document fault) is h = cc
@@ -256,16 +256,16 @@ module _ (old new : Option (List ℕ)) (OutputFailed SourceFailed OutputKept Inp
   input_by Memory is h = cc
 
   abbrev HasPrefix : List ℕ → Type 0
-  HasPrefix bytes = (page : ℕ) × OfRun g bytes (λ _. WrotePrefix old new page)
+  HasPrefix bytes = (page : ℕ) × HoldsOfDocument g bytes (λ _. WrotePrefix old new page)
 
-  pub output_by : (e : EndingSeen) → status_of e ≡ 7 → Ends e → OfRead left HasPrefix × OutputFailed
+  pub output_by : (e : EndingValue) → status_of e ≡ 7 → Ends e → HoldsOfInput left HasPrefix × OutputFailed
   output_by Written is h = cc
   output_by Usage is h = cc
   output_by (Document fault) is h = cc
   output_by (Page page) is h = no_other page 7 is (λ three. cc) (λ four. cc)
   output_by (Source page) is h = cc
   output_by Input is h = cc
-  output_by (Output page) is h = (of_each (λ bytes. OfRun g bytes (λ _. WrotePrefix old new page)) HasPrefix left (λ bytes run. (page, run)) h.1, h.2)
+  output_by (Output page) is h = (of_each (λ bytes. HoldsOfDocument g bytes (λ _. WrotePrefix old new page)) HasPrefix left (λ bytes run. (page, run)) h.1, h.2)
   output_by Notes is h = cc
   output_by Memory is h = cc
 
@@ -273,7 +273,7 @@ module _ (old new : Option (List ℕ)) (OutputFailed SourceFailed OutputKept Inp
   not_all n not_zero not_eight (inl is) = absurd (not_zero is)
   not_all n not_zero not_eight (inr is) = absurd (not_eight is)
 
-  pub written_by : (e : EndingSeen) → WroteAll (status_of e) → Ends e → OfRead left (λ bytes. OfRun g bytes (Wrote old new))
+  pub written_by : (e : EndingValue) → WroteAll (status_of e) → Ends e → HoldsOfInput left (λ bytes. HoldsOfDocument g bytes (Wrote old new))
   written_by Written is h = h.1
   written_by Usage is h = not_all 1 (λ zero. cc) (λ eight. cc) is
   written_by (Document fault) is h = not_all 2 (λ zero. cc) (λ eight. cc) is
@@ -284,7 +284,7 @@ module _ (old new : Option (List ℕ)) (OutputFailed SourceFailed OutputKept Inp
   written_by Notes is h = h.1
   written_by Memory is h = not_all 9 (λ zero. cc) (λ eight. cc) is
 
-  pub memory_by : (e : EndingSeen) → status_of e ≡ 9 → Ends e → (OutputKept ⊎ OfRead left (λ bytes. OfRun g bytes (λ _. WroteSome old new)))
+  pub memory_by : (e : EndingValue) → status_of e ≡ 9 → Ends e → (OutputKept ⊎ HoldsOfInput left (λ bytes. HoldsOfDocument g bytes (λ _. WroteSome old new)))
   memory_by Written is h = cc
   memory_by Usage is h = cc
   memory_by (Document fault) is h = cc
@@ -296,7 +296,7 @@ module _ (old new : Option (List ℕ)) (OutputFailed SourceFailed OutputKept Inp
   memory_by Memory is h = h
 
   -- the input was read, but where it failed or memory ran out
-  pub read_by : (e : EndingSeen) → IsAmong (status_of e) (0 ∷ 2 ∷ 3 ∷ 4 ∷ 5 ∷ 7 ∷ 8 ∷ []) → Ends e → IsAllRead left rest
+  pub read_by : (e : EndingValue) → IsAmong (status_of e) (0 ∷ 2 ∷ 3 ∷ 4 ∷ 5 ∷ 7 ∷ 8 ∷ []) → Ends e → IsAllRead left rest
   read_by Written is h = h.0
   read_by Usage is h = absurd h
   read_by (Document fault) is h = h.0
@@ -308,7 +308,7 @@ module _ (old new : Option (List ℕ)) (OutputFailed SourceFailed OutputKept Inp
   read_by Memory is h = absurd (is_none 9 (λ e. cc) (λ e. cc) (λ e. cc) (λ e. cc) (λ e. cc) (λ e. cc) (λ e. cc) is)
 
   -- what the line says is so
-  pub placed_by : (e : EndingSeen) → Ends e → IsPlaced g e left old new
+  pub placed_by : (e : EndingValue) → Ends e → IsPlaced g e left old new
   placed_by (Document fault) h = h.1
   placed_by (Page page) h = h.1
   placed_by (Source page) h = h.1

@@ -10,7 +10,7 @@ use Rattle.page_draw.specs.Members.{Finding, looks_of}
 use Rattle.page_draw.specs.Drawn.{IsBroken}
 use Rattle.page_draw.specs.declared.sheet.Sheet.{Sheet}
 use Rattle.page_workers.specs.declared.bench.Bench.{Bench}
-use Rattle.page_workers.specs.Seats.{Fits, asked_at}
+use Rattle.page_workers.specs.Seats.{BenchFits, asked_at}
 use Rattle.dvi_run.specs.Looked.{BrokenLooks, IsLookedUp, IsLookedUpSoFar, WholeLooks}
 use Rattle.dvi_run.specs.Rounds.{keys_of}
 
@@ -27,9 +27,9 @@ broken_more Finds indexed sheet pages keys p more w one =
 
 -- ---- the keys of a seat
 
-pub keys_are : (told : Option FileTable) (bench : Bench) (seat : Option SeatView) → Fits told bench seat → asked_at seat ≡ Some (keys_of seat)
-keys_are told bench None fits = absurd fits
-keys_are told bench (Some s) fits = refl
+pub keys_are : (known : Option FileTable) (bench : Bench) (seat : Option SeatView) → BenchFits known bench seat → asked_at seat ≡ Some (keys_of seat)
+keys_are known bench None fits = absurd fits
+keys_are known bench (Some s) fits = refl
 
 -- the keys by which a seat's grew
 pub keys_grew : (old new : Option SeatView) (more : List FontKey) → asked_at old ≡ Some (keys_of old) → asked_at new ≡ Some (keys_of new) → GrewBy (asked_at old) (asked_at new) more

@@ -1,4 +1,4 @@
--- Bytes are one document, and over told font files each page has one value.
+-- Bytes are one document, and over known font files each page has one value.
 use Rattle.std.proofs.Common.{◌≡◌, ◌≤◌, ℕ, suc, List, [], ◌∷◌, ◌++◌, length, append-nil, arith, refl, sym, ap, ap₂, subst, ◌∙◌, inl, inr, Option, Some, None}
 use Rattle.std.specs.Prelude.{IsSome, unwrap_or}
 use Rattle.std.proofs.lemmas.Bool.{cases_lt}
@@ -38,7 +38,7 @@ prefixes g bytes reading values rest run = record {
 
 -- ---- one value
 
-module _ (one : PagesHaveOneValue) (g : Setup) (files : FileTable) (told : g.library ≡ Some files) where
+module _ (one : PagesHaveOneValue) (g : Setup) (files : FileTable) (known : g.library ≡ Some files) where
   abbrev indexed : Reading → Indexed
   indexed r = record { res = g.res; reading = r }
 
@@ -46,7 +46,7 @@ module _ (one : PagesHaveOneValue) (g : Setup) (files : FileTable) (told : g.lib
       → IsPageValue (IsFontOf g.library (document_units g.res r)) (indexed r) g.sheet i v looks → IsPageValue (IsFontIn files u) (indexed r) g.sheet i v looks
   found r i v looks u is value =
       subst (λ (m : Option Units). IsPageValue (IsFontOf (Some files) m) (indexed r) g.sheet i v looks) is
-      (subst (λ (o : Option FileTable). IsPageValue (IsFontOf o (document_units g.res r)) (indexed r) g.sheet i v looks) told value)
+      (subst (λ (o : Option FileTable). IsPageValue (IsFontOf o (document_units g.res r)) (indexed r) g.sheet i v looks) known value)
 
   same_value : (r : Reading) (i : ℕ) (v w : PageValue) → IsValueOf g r i v → IsValueOf g r i w → v ≡ w
   same_value r i v w a b =
@@ -62,13 +62,13 @@ module _ (one : PagesHaveOneValue) (g : Setup) (files : FileTable) (told : g.lib
       (more.0, ap₂ (λ (p : PageValue) (ps : List PageValue). p ∷ ps) (same_value r i y x b.0 a.0) more.1)
 
 pub one_run : PagesHaveOneValue → OneReading → OneRun
-one_run one reading g files bytes r s v w told a b le =
+one_run one reading g files bytes r s v w known a b le =
     let same : r ≡ s = reading g bytes r s v w a b in
-    longer one g files told s 0 v w (subst (λ (x : Reading). HaveValues g x 0 v) same a.pages.are) b.pages.are le
+    longer one g files known s 0 v w (subst (λ (x : Reading). HaveValues g x 0 v) same a.pages.are) b.pages.are le
 
 -- ---- two lists of one run
 
-module _ (reading : OneReading) (one : OneRun) (g : Setup) (files : FileTable) (told : g.library ≡ Some files) (bytes : List ℕ) where
+module _ (reading : OneReading) (one : OneRun) (g : Setup) (files : FileTable) (known : g.library ≡ Some files) (bytes : List ℕ) where
   -- one fails where the other does
   pub ends_once : (r s : Reading) (v w : List PageValue) (p q : FailingPage) → IsRun g bytes r v → IsRun g bytes s w → run_fault v ≡ Some p → run_fault w ≡ Some q → p ≡ q
   ends_once r s v w p q a b is other = elim (cases_lt (length v) (length w)) [
@@ -79,7 +79,7 @@ module _ (reading : OneReading) (one : OneRun) (g : Setup) (files : FileTable) (
       shorter_first : (r s : Reading) (v w : List PageValue) (p q : FailingPage) → IsRun g bytes r v → IsRun g bytes s w → run_fault v ≡ Some p → run_fault w ≡ Some q
           → length v ≤ length w → p ≡ q
       shorter_first r s v w p q a b is other le =
-          let more = one g files bytes r s v w told a b le in
+          let more = one g files bytes r s v w known a b le in
           let same : Some p ≡ Some q = sym (faults_end_the_run v more.0 p is).0 ∙ ap run_fault (sym more.1) ∙ other in
           cc
 
@@ -88,7 +88,7 @@ module _ (reading : OneReading) (one : OneRun) (g : Setup) (files : FileTable) (
   all_good r s v w a good b =
       let same : r ≡ s = reading g bytes r s v w a.run b in
       let few : length w ≤ length v = rw a.all (rw same b.pages.few) in
-      let more = one g files bytes s r w v told b a.run few in
+      let more = one g files bytes s r w v known b a.run few in
       prefix_is_good w more.0 (ap run_fault (sym more.1) ∙ good)
 
 -- ---- what two runs wrote
@@ -97,14 +97,14 @@ none_after : (v rest : List PageValue) → length (v ++ rest) ≤ length v → r
 none_after v [] le = ap run_text (append-nil v)
 none_after v (x ∷ rest) le = let size = length-append v (x ∷ rest) in absurd (omega (arith, le, size))
 
-module _ (reading : OneReading) (one : OneRun) (g : Setup) (files : FileTable) (told : g.library ≡ Some files) (bytes : List ℕ) where
+module _ (reading : OneReading) (one : OneRun) (g : Setup) (files : FileTable) (known : g.library ≡ Some files) (bytes : List ℕ) where
   -- all pages
   all_alike : (r s : Reading) (v w : List PageValue) → IsRun g bytes r v → IsRun g bytes s w → length v ≡ pages_begun r → length w ≡ pages_begun s → run_text v ≡ run_text w
   all_alike r s v w a b all other =
       let same = ap pages_begun (reading g bytes r s v w a b) in
       let le : length v ≤ length w = omega (arith, all, other, same) in
       let ge : length w ≤ length v = omega (arith, all, other, same) in
-      let more = one g files bytes r s v w told a b le in
+      let more = one g files bytes r s v w known a b le in
       sym (none_after v more.0 (subst (λ (l : List PageValue). length l ≤ length v) more.1 ge)) ∙ ap run_text (sym more.1)
 
   -- the pages before the first without a bitmap
@@ -116,24 +116,24 @@ module _ (reading : OneReading) (one : OneRun) (g : Setup) (files : FileTable) (
     where
       shorter_alike : (r s : Reading) (v w : List PageValue) (p : FailingPage) → IsRun g bytes r v → IsRun g bytes s w → run_fault v ≡ Some p → length v ≤ length w → run_text v ≡ run_text w
       shorter_alike r s v w p a b is le =
-          let more = one g files bytes r s v w told a b le in
+          let more = one g files bytes r s v w known a b le in
           sym (faults_end_the_run v more.0 p is).1 ∙ ap run_text (sym more.1)
 
 pub good_alike : OneReading → OneRun → GoodRunsWriteAlike
-good_alike reading one g files bytes old new other later told a b = (
+good_alike reading one g files bytes old new other later known a b = (
   run_text a.1,
   a.3.grew,
   subst (λ (t : List ℕ). Appends other later t)
-      (sym (all_alike reading one g files told bytes a.0 b.0 a.1 b.1 a.2 b.2 a.3.all b.3.all)) b.3.grew,
+      (sym (all_alike reading one g files known bytes a.0 b.0 a.1 b.1 a.2 b.2 a.3.all b.3.all)) b.3.grew,
 )
 
 pub refused_alike : OneReading → OneRun → StoppedRunsWriteAlike
-refused_alike reading one g files bytes old new other later p q told a b = (
-  ends_once reading one g files told bytes a.0 b.0 a.1 b.1 p q a.2 b.2 a.3.fails b.3.fails,
+refused_alike reading one g files bytes old new other later p q known a b = (
+  ends_once reading one g files known bytes a.0 b.0 a.1 b.1 p q a.2 b.2 a.3.fails b.3.fails,
   (
     run_text a.1,
     a.3.grew,
     subst (λ (t : List ℕ). Appends other later t)
-        (sym (stopped_alike reading one g files told bytes a.0 b.0 a.1 b.1 p q a.2 b.2 a.3.fails b.3.fails)) b.3.grew,
+        (sym (stopped_alike reading one g files known bytes a.0 b.0 a.1 b.1 p q a.2 b.2 a.3.fails b.3.fails)) b.3.grew,
   ),
 )

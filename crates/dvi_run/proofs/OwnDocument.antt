@@ -2,9 +2,9 @@
 use Rattle.std.proofs.Common.{◌≡◌, ◌∙◌, inl, inr, ℕ, ◌≤◌, List, [], ◌∷◌, length, Option, Some, None, refl, sym, append-nil, arith}
 use Rattle.page_index.specs.Faults.{IsFirstFault}
 use Rattle.page_index.specs.declared.faults.DocFault.{DocFault}
-use Rattle.dvi_run.specs.Reading.{IsRead, OfRead, read_of}
+use Rattle.dvi_run.specs.Reading.{IsRead, HoldsOfInput, read_of}
 use Rattle.dvi_run.specs.Pages.{Setup}
-use Rattle.dvi_run.specs.Endings.{EndingSeen, Written, Usage, Document, Page, Source, Input, Output, Notes, Memory, EndsBytes, IsAmong, IsEnding, page_status, status_of}
+use Rattle.dvi_run.specs.Endings.{EndingValue, Written, Usage, Document, Page, Source, Input, Output, Notes, Memory, EndsBytes, IsAmong, IsEnding, page_status, status_of}
 use Rattle.dvi_run.proofs.Clauses.{AtPage, at_page}
 use Rattle.dvi_run.proofs.Outcomes.{bytes_end}
 
@@ -13,7 +13,7 @@ pub all_taken : (bytes : List ℕ) → length bytes ≤ 67108864 → IsRead (Som
 all_taken bytes few = record { taken = sym (append-nil bytes); few = omega (arith, few); ends = inr refl }
 
 -- no source failed
-pub ends_without : (old new : Option (List ℕ)) (OutputFailed SourceFailed OutputKept : Type 0) (g : Setup) (bytes : List ℕ) → (SourceFailed → ⊥) → (e : EndingSeen)
+pub ends_without : (old new : Option (List ℕ)) (OutputFailed SourceFailed OutputKept : Type 0) (g : Setup) (bytes : List ℕ) → (SourceFailed → ⊥) → (e : EndingValue)
     → EndsBytes old new OutputFailed SourceFailed OutputKept g bytes e → EndsBytes old new OutputFailed ⊥ OutputKept g bytes e
 ends_without old new O S K g bytes none Written h = h
 ends_without old new O S K g bytes none Usage h = h
@@ -33,7 +33,7 @@ page_answers : (n : ℕ) → AtPage n → Answers n
 page_answers n (inl three) = inr (inl three)
 page_answers n (inr four) = inr (inr (inl four))
 
-pub answers_of : (old new : Option (List ℕ)) (OutputFailed OutputKept : Type 0) (g : Setup) (bytes : List ℕ) → ((fault : DocFault) → IsFirstFault g.res bytes fault → ⊥) → (e : EndingSeen)
+pub answers_of : (old new : Option (List ℕ)) (OutputFailed OutputKept : Type 0) (g : Setup) (bytes : List ℕ) → ((fault : DocFault) → IsFirstFault g.res bytes fault → ⊥) → (e : EndingValue)
     → EndsBytes old new OutputFailed ⊥ OutputKept g bytes e → Answers (status_of e)
 answers_of old new O K g bytes good Written h = inl refl
 answers_of old new O K g bytes good Usage h = absurd h

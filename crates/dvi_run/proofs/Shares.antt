@@ -4,7 +4,7 @@ use Rattle.std.specs.List.Sorted.{IsStrictlyIncreasing}
 use Rattle.std.proofs.lemmas.Bool.{cases_lt}
 use Rattle.std.proofs.lemmas.List.{get_or_append_left, get_or-append-add, length-append}
 use Rattle.std.proofs.lemmas.List.Elements.{Contains-get_or, Contains-append_left, Contains-append_right, Contains-append_cases}
-use Rattle.dvi_run.specs.Shares.{AreShared}
+use Rattle.dvi_run.specs.Shares.{ArePartitioned}
 
 -- numbers that rise, and then others above them
 pub rising_more : (xs ys : List ℕ) (mid : ℕ) → IsStrictlyIncreasing xs → IsStrictlyIncreasing ys → ((p : ℕ) → Contains xs p → p < mid) → ((p : ℕ) → Contains ys p → mid ≤ p)
@@ -37,7 +37,7 @@ rising_more xs ys mid rx ry low high k lt =
     ]
 
 -- none were drawn yet
-pub none_shared : (n : ℕ) (pages : ℕ → List ℕ) → ((k : ℕ) → k < n → pages k ≡ []) → AreShared 0 n pages
+pub none_shared : (n : ℕ) (pages : ℕ → List ℕ) → ((k : ℕ) → k < n → pages k ≡ []) → ArePartitioned 0 n pages
 none_shared n pages none = record {
   rising = λ k lt. subst IsStrictlyIncreasing (sym (none k lt)) (λ i more. absurd (omega arith));
   inside = λ k page lt h. let has : Contains [] page = subst (λ (l : List ℕ). Contains l page) (none k lt) h in let less : has.0 < 0 = has.1 in absurd (omega arith);
@@ -45,7 +45,7 @@ none_shared n pages none = record {
 }
 
 -- the same pages
-pub shared_as : (total n : ℕ) (old new : ℕ → List ℕ) → ((k : ℕ) → k < n → new k ≡ old k) → AreShared total n old → AreShared total n new
+pub shared_as : (total n : ℕ) (old new : ℕ → List ℕ) → ((k : ℕ) → k < n → new k ≡ old k) → ArePartitioned total n old → ArePartitioned total n new
 shared_as total n old new same s = record {
   rising = λ k lt. subst IsStrictlyIncreasing (sym (same k lt)) (s.rising k lt);
   inside = λ k page lt h. s.inside k page lt (subst (λ (l : List ℕ). Contains l page) (same k lt) h);
@@ -55,7 +55,7 @@ shared_as total n old new same s = record {
 }
 
 -- a round more, of m pages
-module _ (total m n : ℕ) (old new drawn : ℕ → List ℕ) (grew : (k : ℕ) → k < n → new k ≡ old k ++ drawn k) (s : AreShared total n old) (rising : (k : ℕ) → k < n → IsStrictlyIncreasing (drawn k))
+module _ (total m n : ℕ) (old new drawn : ℕ → List ℕ) (grew : (k : ℕ) → k < n → new k ≡ old k ++ drawn k) (s : ArePartitioned total n old) (rising : (k : ℕ) → k < n → IsStrictlyIncreasing (drawn k))
     (inside : (k page : ℕ) → k < n → Contains (drawn k) page → (total ≤ page) × (page < total + m))
     (shared : (i : ℕ) → i < m → (k : ℕ) × (k < n) × Contains (drawn k) (total + i) × ((j : ℕ) → j < n → Contains (drawn j) (total + i) → j ≡ k)) where
   in_new : (k page : ℕ) → k < n → Contains (new k) page → Contains (old k) page ⊎ Contains (drawn k) page
@@ -82,7 +82,7 @@ module _ (total m n : ℕ) (old new drawn : ℕ → List ℕ) (grew : (k : ℕ) 
         λ j lt h. elim (in_new j (total + i) lt h) [ inl was ↦ absurd (let low = s.inside j (total + i) lt was in omega arith) | inr now ↦ one.3 j lt now ],
       )
 
-  pub shared_more : AreShared (total + m) n new
+  pub shared_more : ArePartitioned (total + m) n new
   shared_more = record {
     rising = λ k lt. subst IsStrictlyIncreasing (sym (grew k lt))
         (rising_more (old k) (drawn k) total (s.rising k lt) (rising k lt) (λ p h. s.inside k p lt h) (λ p h. (inside k p lt h).0));

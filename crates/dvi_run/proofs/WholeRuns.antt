@@ -1,4 +1,4 @@
--- Over told files of bytes a document has one list of the values of all its pages.
+-- Over known files of bytes a document has one list of the values of all its pages.
 use Rattle.std.proofs.Common.{◌≡◌, ◌<◌, ℕ, zero, suc, List, [], ◌∷◌, ◌++◌, length, append-nil, arith, refl, sym, ap, subst, ◌∙◌, eqb-true, Option, Some, None}
 use Rattle.std.specs.Prelude.{IsSome, slice_index}
 use Rattle.std.specs.Option.{option_map}
@@ -7,7 +7,7 @@ use Rattle.outside.specs.Library.{FileTable}
 use Rattle.pixel_round.specs.declared.units.Units.{Units}
 use Rattle.dvi_commands.specs.Spelling.{DviCommand, Preamble, Pre, Spells}
 use Rattle.dvi_commands.specs.Reading.{Placed, command_of}
-use Rattle.dvi_commands.proofs.Told.{told_by_bytes}
+use Rattle.dvi_commands.proofs.Determined.{determined_by_bytes}
 use Rattle.page_index.specs.Document.{IsDocument, Reading, Sound, pages_begun, preamble_of, preamble_or, units_of}
 use Rattle.page_index.specs.Pages.{Indexed, document_units}
 use Rattle.font_decode.specs.Decoding.{IsFontOf}
@@ -27,7 +27,7 @@ first_is (b ∷ fields) op some e = (fields, ap (λ x. x ∷ fields) e)
 is_pre : (c : DviCommand) (bytes : List ℕ) → Spells c bytes → slice_index bytes 0 ≡ 247 → (p : Preamble) × (c ≡ Pre p)
 is_pre c bytes h e =
     let first = first_is bytes 247 (omega arith) e in
-    (_, told_by_bytes c bytes h ∙ ap command_of first.1)
+    (_, determined_by_bytes c bytes h ∙ ap command_of first.1)
 
 keeps : (o : Option Preamble) (c : DviCommand) → IsSome o → IsSome (preamble_or o c)
 keeps o (Pre x) some = refl
@@ -52,7 +52,7 @@ has_units res bytes (p ∷ before) d =
 
 -- ---- a value for each page
 
-module _ (exactly : EachPageHasOneValue) (g : Setup) (files : FileTable) (told : g.library ≡ Some files) (byte_files : AreByteFiles files)
+module _ (exactly : EachPageHasOneValue) (g : Setup) (files : FileTable) (known : g.library ≡ Some files) (byte_files : AreByteFiles files)
     (r : Reading) (u : Units) (is : document_units g.res r ≡ Some u) where
   abbrev indexed : Indexed
   indexed = record { res = g.res; reading = r }
@@ -63,7 +63,7 @@ module _ (exactly : EachPageHasOneValue) (g : Setup) (files : FileTable) (told :
         one.value,
         (
           one.looks,
-          subst (λ (o : Option FileTable). IsPageValue (IsFontOf o (document_units g.res r)) indexed g.sheet i one.value one.looks) (sym told)
+          subst (λ (o : Option FileTable). IsPageValue (IsFontOf o (document_units g.res r)) indexed g.sheet i one.value one.looks) (sym known)
               (subst (λ (m : Option Units). IsPageValue (IsFontOf (Some files) m) indexed g.sheet i one.value one.looks) (sym is) one.has),
         ),
       )
@@ -79,8 +79,8 @@ module _ (exactly : EachPageHasOneValue) (g : Setup) (files : FileTable) (told :
 
 same_length : (one : OneRun) (g : Setup) (files : FileTable) (bytes : List ℕ) (r s : Reading) (v w : List PageValue) → g.library ≡ Some files
     → IsRun g bytes r v → IsRun g bytes s w → length v ≡ length w → w ≡ v
-same_length one g files bytes r s v w told a b same =
-    let more = one g files bytes r s v w told a b (omega (arith, same)) in
+same_length one g files bytes r s v w known a b same =
+    let more = one g files bytes r s v w known a b (omega (arith, same)) in
     by more.0 more.1
   where
     by : (rest : List PageValue) → w ≡ v ++ rest → w ≡ v
@@ -88,9 +88,9 @@ same_length one g files bytes r s v w told a b same =
     by (x ∷ rest) e = absurd (omega (arith, same, ap length e, length-append v (x ∷ rest)))
 
 pub each_has_one : EachPageHasOneValue → OneReading → OneRun → EachDocumentHasOneRun
-each_has_one exactly reading one g files bytes r byte_files told d =
+each_has_one exactly reading one g files bytes r byte_files known d =
     let units = has_units g.res bytes r d in
-    let made = values_from exactly g files told byte_files r units.0 units.1 (pages_begun r) 0 in
+    let made = values_from exactly g files known byte_files r units.0 units.1 (pages_begun r) 0 in
     let size : length made.0 ≡ pages_begun r = made.1 in
     let run : IsRun g bytes r made.0 = record { document = d; pages = record { few = omega (arith, size); are = made.2 } } in
     record {
@@ -98,5 +98,5 @@ each_has_one exactly reading one g files bytes r byte_files told d =
       whole = record { run = run; all = size };
       only = λ s others other.
           let same : r ≡ s = reading g bytes r s made.0 others run other.run in
-          same_length one g files bytes r s made.0 others told run other.run (size ∙ ap pages_begun same ∙ sym other.all);
+          same_length one g files bytes r s made.0 others known run other.run (size ∙ ap pages_begun same ∙ sym other.all);
     }

@@ -8,11 +8,11 @@ use Rattle.packed_rows.specs.Bitmap.{Bitmap}
 use Rattle.page_index.specs.Document.{Reading, pages_begun}
 use Rattle.page_index.specs.Faults.{IsFirstFault}
 use Rattle.page_index.specs.declared.faults.DocFault.{DocFault}
-use Rattle.vf_expand.specs.Faults.{PageFaultSeen, Font, seen_fault}
+use Rattle.vf_expand.specs.Faults.{PageFaultValue, Font, value_of_fault}
 use Rattle.page_draw.specs.Values.{PageValue, fault_at}
 use Rattle.page_draw.specs.declared.stop.PageStop.TheVariants as draw
 use Rattle.pbm_output.specs.Pbm.{page_text}
-use Rattle.dvi_run.specs.Reading.{IsAllRead, OfRead}
+use Rattle.dvi_run.specs.Reading.{IsAllRead, HoldsOfInput}
 use Rattle.dvi_run.specs.Pages.{FailingPage, Setup, IsRun, run_fault, run_text, whole_pages}
 use Rattle.dvi_run.specs.declared.ending.Ending.{Ending}
 use Rattle.dvi_run.specs.declared.ending.Ending.TheVariants as code
@@ -23,31 +23,31 @@ use Rattle.dvi_run.specs.declared.pages.WriteStop.TheVariants as stop
 -- document; a page has no bitmap; the source of the fonts failed at a page, or the input, or the
 -- output at a page; all pages were written, and the notes failed to take the report; or memory ran
 -- out. Pages are counted from 1
-pub data EndingSeen : Type 0 where
-  Written : EndingSeen
-  Usage : EndingSeen
-  Document : DocFault → EndingSeen
-  Page : FailingPage → EndingSeen
-  Source : ℕ → EndingSeen
-  Input : EndingSeen
-  Output : ℕ → EndingSeen
-  Notes : EndingSeen
-  Memory : EndingSeen
+pub data EndingValue : Type 0 where
+  Written : EndingValue
+  Usage : EndingValue
+  Document : DocFault → EndingValue
+  Page : FailingPage → EndingValue
+  Source : ℕ → EndingValue
+  Input : EndingValue
+  Output : ℕ → EndingValue
+  Notes : EndingValue
+  Memory : EndingValue
 
-abbrev pub seen_ending : Ending → EndingSeen
-seen_ending code.Written = Written
-seen_ending code.Usage = Usage
-seen_ending (code.Document fault) = Document fault
-seen_ending (code.Page page fault at) =
-    Page (record { page = page; fault = seen_fault fault; at = at })
-seen_ending (code.Source page) = Source page
-seen_ending code.Input = Input
-seen_ending (code.Output page) = Output page
-seen_ending code.Memory = Memory
+abbrev pub value_of_ending : Ending → EndingValue
+value_of_ending code.Written = Written
+value_of_ending code.Usage = Usage
+value_of_ending (code.Document fault) = Document fault
+value_of_ending (code.Page page fault at) =
+    Page (record { page = page; fault = value_of_fault fault; at = at })
+value_of_ending (code.Source page) = Source page
+value_of_ending code.Input = Input
+value_of_ending (code.Output page) = Output page
+value_of_ending code.Memory = Memory
 
 -- how a run ends that came to such an end, by whether the notes took its report. That they fail
 -- matters only where all pages were written
-abbrev pub with_notes : EndingSeen → (taken : Bool) → EndingSeen
+abbrev pub with_notes : EndingValue → (taken : Bool) → EndingValue
 with_notes Written true = Written
 with_notes Written false = Notes
 with_notes e taken = e
@@ -55,11 +55,11 @@ with_notes e taken = e
 -- ---- statuses
 
 -- of a page without a bitmap: 4 where its fault is that of a font's files
-abbrev pub page_status : PageFaultSeen → ℕ
+abbrev pub page_status : PageFaultValue → ℕ
 page_status (Font k f) = 4
 page_status _ = 3
 
-abbrev pub status_of : EndingSeen → ℕ
+abbrev pub status_of : EndingValue → ℕ
 status_of Written = 0
 status_of Usage = 1
 status_of (Document fault) = 2
@@ -124,8 +124,8 @@ pub record WroteSome (old new : Option (List ℕ)) (values : List PageValue) : T
   pub grew : Appends old new (flat_map page_text (take count (whole_pages values)))
 
 -- the bytes are a document, and its reading and the values of its first pages have P
-abbrev pub OfRun : Setup → List ℕ → (Reading → List PageValue → Type 0) → Type 0
-OfRun g bytes P =
+abbrev pub HoldsOfDocument : Setup → List ℕ → (Reading → List PageValue → Type 0) → Type 0
+HoldsOfDocument g bytes P =
     (reading : Reading) × (values : List PageValue) × IsRun g bytes reading values
     × P reading values
 
@@ -139,59 +139,60 @@ module _ {F : Type 0} (faults : F → ℕ) where
 
 -- ---- the line and its cause
 
--- what the line says is so, where the input tells its bytes
-abbrev pub IsPlaced : Setup → EndingSeen → Option (List ℕ) → Option (List ℕ) → Option (List ℕ)
+-- what the line says is so, where the input's bytes are known
+abbrev pub IsPlaced : Setup → EndingValue → Option (List ℕ) → Option (List ℕ) → Option (List ℕ)
     → Type 0
-IsPlaced g (Document fault) left old new = OfRead left (λ bytes. IsFirstFault g.res bytes fault)
+IsPlaced g (Document fault) left old new =
+    HoldsOfInput left (λ bytes. IsFirstFault g.res bytes fault)
 IsPlaced g (Page page) left old new =
-    OfRead left (λ bytes. OfRun g bytes (λ _. Stopped old new page))
+    HoldsOfInput left (λ bytes. HoldsOfDocument g bytes (λ _. Stopped old new page))
 IsPlaced g (Source page) left old new =
-    OfRead left (λ bytes. OfRun g bytes (WroteBefore old new page))
+    HoldsOfInput left (λ bytes. HoldsOfDocument g bytes (WroteBefore old new page))
 IsPlaced g (Output page) left old new =
-    OfRead left (λ bytes. OfRun g bytes (λ _. WrotePrefix old new page))
+    HoldsOfInput left (λ bytes. HoldsOfDocument g bytes (λ _. WrotePrefix old new page))
 IsPlaced g _ left old new = Unit {0}
 
 -- the text was written, or a prefix of it, never all, where the count rose
-abbrev pub Tells : Option (List ℕ) → Option (List ℕ) → ℕ → ℕ → List ℕ → Type 0
-Tells old new before now text =
+abbrev pub Prints : Option (List ℕ) → Option (List ℕ) → ℕ → ℕ → List ℕ → Type 0
+Prints old new before now text =
     Appends old new text ⊎ (AppendsPrefix old new text × Rose before now)
 
 -- and the count didn't fall
-pub record IsTold (old new : Option (List ℕ)) (before now : ℕ) (text : List ℕ) : Type 0 where
-  pub tells : Tells old new before now text
+pub record IsPrinted (old new : Option (List ℕ)) (before now : ℕ) (text : List ℕ) : Type 0 where
+  pub prints : Prints old new before now text
   pub count : before ≤ now
 
 -- what the notes took of the report of a run that ends so: where all pages were written the end
 -- says whether all of it
-abbrev pub TellsBy : EndingSeen → Option (List ℕ) → Option (List ℕ) → ℕ → ℕ → List ℕ → Type 0
-TellsBy Written old new before now text = Appends old new text
-TellsBy Notes old new before now text = AppendsPrefix old new text × Rose before now
-TellsBy _ old new before now text = Tells old new before now text
+abbrev pub PrintsBy : EndingValue → Option (List ℕ) → Option (List ℕ) → ℕ → ℕ → List ℕ → Type 0
+PrintsBy Written old new before now text = Appends old new text
+PrintsBy Notes old new before now text = AppendsPrefix old new text × Rose before now
+PrintsBy _ old new before now text = Prints old new before now text
 
 -- ---- the parts of a run
 
 -- how a run ends that doesn't write the page with this number, from 1
-abbrev pub ending_at : ℕ → WriteStop → EndingSeen
+abbrev pub ending_at : ℕ → WriteStop → EndingValue
 ending_at page (stop.Draw (draw.Fault fault at)) =
-    Page (record { page = page; fault = seen_fault fault; at = at })
+    Page (record { page = page; fault = value_of_fault fault; at = at })
 ending_at page (stop.Draw draw.SourceFault) = Source page
 ending_at page (stop.Draw draw.NoMemory) = Memory
 ending_at page stop.Output = Output page
 
--- what is told before and after, and whether the output and the source failed
+-- what is known before and after, and whether the output and the source failed
 module _ (old new : Option (List ℕ)) (OutputFailed SourceFailed : Type 0) where
   -- why a page was not written, which was drawn so or was broken off; only a failed write leaves
   -- something of it
   abbrev pub IsWriteStop : (Draws : PageValue → Type 0) (Breaks : Type 0) → WriteStop → Type 0
   IsWriteStop Draws Breaks (stop.Draw (draw.Fault fault at)) =
-      Draws (fault_at (seen_fault fault) at) × (new ≡ old)
+      Draws (fault_at (value_of_fault fault) at) × (new ≡ old)
   IsWriteStop Draws Breaks (stop.Draw draw.SourceFault) = SourceFailed × Breaks × (new ≡ old)
   IsWriteStop Draws Breaks (stop.Draw draw.NoMemory) = Breaks × (new ≡ old)
   IsWriteStop Draws Breaks stop.Output =
       (page : Bitmap) × Draws (Ok page) × AppendsPrefix old new (page_text page) × OutputFailed
 
   -- how the writing of a document's pages ended
-  abbrev pub EndsPages : EndingSeen → Reading → List PageValue → Type 0
+  abbrev pub EndsPages : EndingValue → Reading → List PageValue → Type 0
   EndsPages Written reading values = Wrote old new reading values
   EndsPages (Page page) reading values = Stopped old new page values
   EndsPages (Source page) reading values = WroteBefore old new page reading values × SourceFailed
@@ -202,37 +203,39 @@ module _ (old new : Option (List ℕ)) (OutputFailed SourceFailed : Type 0) wher
 
   -- what holds of bytes that were read and led to this end; nothing was written where the output is
   -- kept
-  abbrev pub EndsBytes : (OutputKept : Type 0) → Setup → List ℕ → EndingSeen → Type 0
-  EndsBytes OutputKept g bytes Written = OfRun g bytes (Wrote old new)
+  abbrev pub EndsBytes : (OutputKept : Type 0) → Setup → List ℕ → EndingValue → Type 0
+  EndsBytes OutputKept g bytes Written = HoldsOfDocument g bytes (Wrote old new)
   EndsBytes OutputKept g bytes (Document fault) = IsFirstFault g.res bytes fault × OutputKept
-  EndsBytes OutputKept g bytes (Page page) = OfRun g bytes (λ _. Stopped old new page)
+  EndsBytes OutputKept g bytes (Page page) = HoldsOfDocument g bytes (λ _. Stopped old new page)
   EndsBytes OutputKept g bytes (Source page) =
-      OfRun g bytes (WroteBefore old new page) × SourceFailed
+      HoldsOfDocument g bytes (WroteBefore old new page) × SourceFailed
   EndsBytes OutputKept g bytes (Output page) =
-      OfRun g bytes (λ _. WrotePrefix old new page) × OutputFailed
-  EndsBytes OutputKept g bytes Notes = OfRun g bytes (Wrote old new)
-  EndsBytes OutputKept g bytes Memory = OutputKept ⊎ OfRun g bytes (λ _. WroteSome old new)
+      HoldsOfDocument g bytes (λ _. WrotePrefix old new page) × OutputFailed
+  EndsBytes OutputKept g bytes Notes = HoldsOfDocument g bytes (Wrote old new)
+  EndsBytes OutputKept g bytes Memory =
+      OutputKept ⊎ HoldsOfDocument g bytes (λ _. WroteSome old new)
   EndsBytes OutputKept g bytes _ = ⊥
 
   -- what holds of a run that ends so; `left` and `rest` are what the input has left before and
   -- after
   abbrev pub IsEnding : (OutputKept InputFailed : Type 0) → Setup → Option (List ℕ)
-      → Option (List ℕ) → EndingSeen → Type 0
+      → Option (List ℕ) → EndingValue → Type 0
   IsEnding OutputKept InputFailed g left rest Written =
-      IsAllRead left rest × OfRead left (λ bytes. OfRun g bytes (Wrote old new))
+      IsAllRead left rest × HoldsOfInput left (λ bytes. HoldsOfDocument g bytes (Wrote old new))
   IsEnding OutputKept InputFailed g left rest Usage = ⊥
   IsEnding OutputKept InputFailed g left rest (Document fault) =
-      IsAllRead left rest × OfRead left (λ bytes. IsFirstFault g.res bytes fault) × OutputKept
+      IsAllRead left rest × HoldsOfInput left (λ bytes. IsFirstFault g.res bytes fault) × OutputKept
   IsEnding OutputKept InputFailed g left rest (Page page) =
-      IsAllRead left rest × OfRead left (λ bytes. OfRun g bytes (λ _. Stopped old new page))
+      IsAllRead left rest × HoldsOfInput left (λ bytes. HoldsOfDocument g bytes
+      (λ _. Stopped old new page))
   IsEnding OutputKept InputFailed g left rest (Source page) =
-      IsAllRead left rest × OfRead left (λ bytes. OfRun g bytes (WroteBefore old new page))
-      × SourceFailed
+      IsAllRead left rest × HoldsOfInput left (λ bytes. HoldsOfDocument g bytes
+      (WroteBefore old new page)) × SourceFailed
   IsEnding OutputKept InputFailed g left rest Input = InputFailed × OutputKept
   IsEnding OutputKept InputFailed g left rest (Output page) =
-      IsAllRead left rest × OfRead left (λ bytes. OfRun g bytes (λ _. WrotePrefix old new page))
-      × OutputFailed
+      IsAllRead left rest × HoldsOfInput left (λ bytes. HoldsOfDocument g bytes
+      (λ _. WrotePrefix old new page)) × OutputFailed
   IsEnding OutputKept InputFailed g left rest Notes =
-      IsAllRead left rest × OfRead left (λ bytes. OfRun g bytes (Wrote old new))
+      IsAllRead left rest × HoldsOfInput left (λ bytes. HoldsOfDocument g bytes (Wrote old new))
   IsEnding OutputKept InputFailed g left rest Memory =
-      OutputKept ⊎ OfRead left (λ bytes. OfRun g bytes (λ _. WroteSome old new))
+      OutputKept ⊎ HoldsOfInput left (λ bytes. HoldsOfDocument g bytes (λ _. WroteSome old new))

@@ -5,14 +5,14 @@ use Rattle.dvi_commands.specs.declared.command.CommandFault.TheVariants as comma
 use Rattle.page_index.specs.declared.faults.DocFault.{DocFault}
 use Rattle.page_index.specs.declared.faults.DocFault.TheVariants as doc
 use Rattle.page_index.specs.declared.faults.PostField.TheVariants as field
-use Rattle.vf_expand.specs.Faults.{PageFaultSeen}
+use Rattle.vf_expand.specs.Faults.{PageFaultValue}
 use Rattle.vf_expand.specs.Faults as page
 use Rattle.dvi_run.specs.Pages.{FailingPage}
-use Rattle.dvi_run.specs.Endings.{EndingSeen, Written, Usage, Document, Page, Source, Input, Output, Notes, Memory}
+use Rattle.dvi_run.specs.Endings.{EndingValue, Written, Usage, Document, Page, Source, Input, Output, Notes, Memory}
 use Rattle.dvi_run.specs.Lines.{line_of}
 
 -- a page counted from 1, its fault, and the byte where that stands
-abbrev pub failing : ℕ → PageFaultSeen → ℕ → EndingSeen
+abbrev pub failing : ℕ → PageFaultValue → ℕ → EndingValue
 failing number fault at = Page (record { page = number; fault = fault; at = at })
 
 -- a good end has no line, nor has one at which the notes failed

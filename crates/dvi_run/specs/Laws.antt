@@ -13,8 +13,8 @@ use Rattle.page_draw.specs.Values.{PageValue, PlacedFault}
 use Rattle.pbm_output.specs.Pbm.{page_text}
 use Rattle.sample_maker.specs.Sample.{sample_document}
 use Rattle.dvi_run.specs.Reading.{read_of}
-use Rattle.dvi_run.specs.Shares.{AreShared, EachPageIsDrawnOnce}
-use Rattle.dvi_run.specs.Endings.{OfRun, Stopped, Wrote}
+use Rattle.dvi_run.specs.Shares.{ArePartitioned, EachPageIsDrawnOnce}
+use Rattle.dvi_run.specs.Endings.{HoldsOfDocument, Stopped, Wrote}
 use Rattle.dvi_run.specs.Pages.{FailingPage, Setup, IsRun, IsWholeRun, failing_page, run_fault, run_text}
 
 abbrev pub good : Bitmap → PageValue
@@ -47,7 +47,7 @@ abbrev pub OneReading : Type 0
 OneReading = (g : Setup) (bytes : List ℕ) (r s : Reading) (v w : List PageValue) → IsRun g bytes r v
     → IsRun g bytes s w → r ≡ s
 
--- where the font files are told, its pages have one value each: of two lists the longer one begins
+-- where the font files are known, its pages have one value each: of two lists the longer one begins
 -- with the other
 abbrev pub OneRun : Type 0
 OneRun = (g : Setup) (files : FileTable) (bytes : List ℕ) (r s : Reading) (v w : List PageValue)
@@ -62,7 +62,7 @@ pub record HasOneRun (g : Setup) (bytes : List ℕ) (reading : Reading) : Type 0
   pub only : (s : Reading) (others : List PageValue) → IsWholeRun g bytes s others
       → others ≡ values
 
--- where the font files are told, and are files of bytes, a document has exactly one list of the
+-- where the font files are known, and are files of bytes, a document has exactly one list of the
 -- values of all its pages
 abbrev pub EachDocumentHasOneRun : Type 0
 EachDocumentHasOneRun = (g : Setup) (files : FileTable) (bytes : List ℕ) (reading : Reading)
@@ -96,13 +96,13 @@ RunsHaveNoFault =
 abbrev pub GrewAlike : (old new other later : Option (List ℕ)) → Type 0
 GrewAlike old new other later = (text : List ℕ) × Appends old new text × Appends other later text
 
--- where the font files are told, runs over one document for one sheet that end well wrote one text,
--- whatever their workers, caches and schedules
+-- where the font files are known, runs over one document for one sheet that end well wrote one
+-- text, whatever their workers, caches and schedules
 abbrev pub GoodRunsWriteAlike : Type 0
 GoodRunsWriteAlike =
     (g : Setup) (files : FileTable) (bytes : List ℕ) (old new other later : Option (List ℕ))
     → g.library ≡ Some files
-    → OfRun g bytes (Wrote old new) → OfRun g bytes (Wrote other later)
+    → HoldsOfDocument g bytes (Wrote old new) → HoldsOfDocument g bytes (Wrote other later)
     → GrewAlike old new other later
 
 -- and those that end at a page without a bitmap end at the same one, by the same fault, and wrote
@@ -111,8 +111,8 @@ abbrev pub StoppedRunsWriteAlike : Type 0
 StoppedRunsWriteAlike =
     (g : Setup) (files : FileTable) (bytes : List ℕ) (old new other later : Option (List ℕ))
     (p q : FailingPage) → g.library ≡ Some files
-    → OfRun g bytes (λ _. Stopped old new p) → OfRun g bytes (λ _. Stopped other later q)
-    → (p ≡ q) × GrewAlike old new other later
+    → HoldsOfDocument g bytes (λ _. Stopped old new p) → HoldsOfDocument g bytes
+    (λ _. Stopped other later q) → (p ≡ q) × GrewAlike old new other later
 
 -- ---- the sample
 
@@ -126,4 +126,4 @@ SamplesAreReadWhole = (pages : ℕ) → pages ≤ 1000
 -- pages that workers share are the numbers from 0 to one less than their count, each once
 abbrev pub PagesAreShared : Type 0
 PagesAreShared = (total n : ℕ) (pages : ℕ → List ℕ)
-    → AreShared total n pages → EachPageIsDrawnOnce total n pages
+    → ArePartitioned total n pages → EachPageIsDrawnOnce total n pages

@@ -3,7 +3,7 @@
 use Rattle.std.specs.Prelude.{ℕ, List, [], ◌++◌, codes, decimal}
 use Rattle.page_index.specs.declared.faults.DocFault.{DocFault}
 use Rattle.dvi_run.specs.Pages.{FailingPage}
-use Rattle.dvi_run.specs.Endings.{EndingSeen, Written, Usage, Document, Page, Source, Input, Output, Notes, Memory}
+use Rattle.dvi_run.specs.Endings.{EndingValue, Written, Usage, Document, Page, Source, Input, Output, Notes, Memory}
 use Rattle.dvi_run.specs.DocTexts.{doc_place, doc_text}
 use Rattle.dvi_run.specs.PageTexts.{fault_text}
 
@@ -24,7 +24,7 @@ source_line page = codes "dvipbm: page " ++ decimal page ++ codes ": font source
 abbrev pub output_line : ℕ → List ℕ
 output_line page = codes "dvipbm: page " ++ decimal page ++ codes ": output failed\n"
 
-abbrev pub line_of : EndingSeen → List ℕ
+abbrev pub line_of : EndingValue → List ℕ
 line_of Written = []
 line_of Usage = codes "dvipbm: usage\n"
 line_of (Document fault) = document_line fault

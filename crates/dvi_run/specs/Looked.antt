@@ -6,7 +6,7 @@ use Rattle.page_draw.specs.Members.{Finding}
 use Rattle.page_draw.specs.Values.{PageValue}
 use Rattle.page_draw.specs.Drawn.{IsBroken, IsPageValue}
 use Rattle.page_draw.specs.declared.sheet.Sheet.{Sheet}
-use Rattle.dvi_run.specs.Endings.{EndingSeen, Written, Page, Source, Output, Notes, Memory}
+use Rattle.dvi_run.specs.Endings.{EndingValue, Written, Page, Source, Output, Notes, Memory}
 
 -- all look-ups of a page that came to its value
 abbrev pub IsLookedUp : Finding → Indexed → Sheet → ℕ → List FontKey → Type 0
@@ -39,28 +39,28 @@ pub record BrokenLooks (Finds : Finding) (indexed : Indexed) (sheet : Sheet) (pa
 -- ---- by the end of the run
 
 -- neither the source failed nor did memory run out
-abbrev pub IsUnbroken : EndingSeen → Type 0
-IsUnbroken (Source page) = ⊥
-IsUnbroken Memory = ⊥
-IsUnbroken _ = Unit {0}
+abbrev pub WasNotCutOff : EndingValue → Type 0
+WasNotCutOff (Source page) = ⊥
+WasNotCutOff Memory = ⊥
+WasNotCutOff _ = Unit {0}
 
 -- all pages were written
-abbrev pub IsAllWritten : EndingSeen → Type 0
+abbrev pub IsAllWritten : EndingValue → Type 0
 IsAllWritten Written = Unit {0}
 IsAllWritten Notes = Unit {0}
 IsAllWritten _ = ⊥
 
 -- each page that was drawn came to its end: all were written, or there is one worker, and neither
 -- its source failed nor was memory wanting
-abbrev pub IsDrawnThrough : ℕ → EndingSeen → Type 0
-IsDrawnThrough n e = IsAllWritten e ⊎ ((n ≡ 1) × IsUnbroken e)
+abbrev pub EveryPageCameToItsEnd : ℕ → EndingValue → Type 0
+EveryPageCameToItsEnd n e = IsAllWritten e ⊎ ((n ≡ 1) × WasNotCutOff e)
 
 -- by its status: neither the source failed (5) nor did memory run out (9)
-abbrev pub IsUnbrokenBy : ℕ → Type 0
-IsUnbrokenBy status = (status ≢ 5) × (status ≢ 9)
+abbrev pub WasNotCutOffBy : ℕ → Type 0
+WasNotCutOffBy status = (status ≢ 5) × (status ≢ 9)
 
 -- an end before the first page
-abbrev pub IsIdle : EndingSeen → Type 0
+abbrev pub IsIdle : EndingValue → Type 0
 IsIdle Written = ⊥
 IsIdle (Page page) = ⊥
 IsIdle (Source page) = ⊥

@@ -6,23 +6,23 @@ use Rattle.cache_core.specs.declared.calls.Call.{Call}
 use Rattle.page_workers.specs.declared.worker.Worker.{Worker}
 use Rattle.command_line.specs.declared.settings.Settings.{Settings}
 use Rattle.dvi_run.specs.Pages.{Setup}
-use Rattle.dvi_run.specs.Sampled.{setup_to}
+use Rattle.dvi_run.specs.Sampled.{setup_for_settings}
 
 -- ---- the task
 
 -- the settings, and all the font files, where the sources of the workers tell them
 pub record Task : Type 0 where
   pub settings : Settings
-  pub told : Option FileTable
+  pub known : Option FileTable
 
 -- with the files that its settings give it
 abbrev pub setup_of : Task → Setup
-setup_of task = setup_to task.told task.settings
+setup_of task = setup_for_settings task.known task.settings
 
 -- that of settings that ask for a sample of so many pages, or for none, whatever else they say
-abbrev pub task_for_sample : Option ℕ → (told : Option FileTable) → Settings → Task
-task_for_sample sample told settings =
-    record { settings = record settings { sample = sample }; told = told }
+abbrev pub task_for_sample : Option ℕ → (known : Option FileTable) → Settings → Task
+task_for_sample sample known settings =
+    record { settings = record settings { sample = sample }; known = known }
 
 -- ---- streams
 

@@ -3,7 +3,7 @@ use Rattle.std.specs.Prelude.{ℕ, List, ◌++◌, Some, None, codes}
 use Rattle.std.specs.Fmt.{signed_decimal}
 use Rattle.drift_rules.specs.declared.faults.PenFault.{PenFault}
 use Rattle.drift_rules.specs.declared.faults.PenFault.TheVariants as pen
-use Rattle.vf_expand.specs.Faults.{PageFaultSeen}
+use Rattle.vf_expand.specs.Faults.{PageFaultValue}
 use Rattle.vf_expand.specs.Faults as page
 use Rattle.run_report.specs.Keys.{key_text}
 use Rattle.dvi_run.specs.FontTexts.{font_text}
@@ -14,7 +14,7 @@ pen_text pen.StackEmpty = codes "stack empty"
 pen_text pen.StackDeep = codes "stack deep"
 pen_text pen.StackLeft = codes "stack left"
 
-abbrev pub fault_text : PageFaultSeen → List ℕ
+abbrev pub fault_text : PageFaultValue → List ℕ
 fault_text (page.NoFont number) = codes "no font " ++ signed_decimal number
 fault_text page.NoCurrentFont = codes "no current font"
 fault_text (page.NoCharacter k c) =

@@ -8,7 +8,7 @@ use Rattle.packed_rows.specs.Bitmap.{Bitmap}
 use Rattle.page_index.specs.Document.{IsDocument, Reading, pages_begun}
 use Rattle.page_index.specs.Pages.{document_units}
 use Rattle.font_decode.specs.Decoding.{IsFontOf}
-use Rattle.vf_expand.specs.Faults.{PageFaultSeen}
+use Rattle.vf_expand.specs.Faults.{PageFaultValue}
 use Rattle.page_draw.specs.Members.{Finding}
 use Rattle.page_draw.specs.Values.{PageValue, PlacedFault}
 use Rattle.page_draw.specs.Drawn.{IsPageValue}
@@ -16,15 +16,16 @@ use Rattle.page_draw.specs.declared.sheet.Sheet.{Sheet}
 use Rattle.pbm_output.specs.Pbm.{page_text}
 use Rattle.command_line.specs.declared.settings.Settings.{Settings}
 
--- what a run is given besides its document: all the font files, where they are told, the dots for
+-- what a run is given besides its document: all the font files, where they are known, the dots for
 -- an inch, and the sheet
 pub record Setup : Type 0 where
   pub library : Option FileTable
   pub res : ℕ
   pub sheet : Sheet
 
-abbrev pub setup_by : Option FileTable → Settings → Setup
-setup_by library settings = record { library = library; res = settings.res; sheet = settings.sheet }
+abbrev pub setup_with : Option FileTable → Settings → Setup
+setup_with library settings =
+    record { library = library; res = settings.res; sheet = settings.sheet }
 
 -- ---- the values of the pages
 
@@ -32,7 +33,7 @@ setup_by library settings = record { library = library; res = settings.res; shee
 abbrev pub finding : Setup → Reading → Finding
 finding g reading = IsFontOf g.library (document_units g.res reading)
 
--- the page with a number, from 0, has this value, by some look-ups. Where the font files are told
+-- the page with a number, from 0, has this value, by some look-ups. Where the font files are known
 -- it has no other
 abbrev pub IsValueOf : Setup → Reading → ℕ → PageValue → Type 0
 IsValueOf g reading i value =
@@ -78,7 +79,7 @@ first_fault (Err f ∷ values) = Some f
 -- a page without a bitmap, counted from 1, with its fault and the place
 pub record FailingPage : Type 0 where
   pub page : ℕ
-  pub fault : PageFaultSeen
+  pub fault : PageFaultValue
   pub at : ℕ
 
 abbrev pub failing_page : ℕ → PlacedFault → FailingPage

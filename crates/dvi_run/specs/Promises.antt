@@ -8,17 +8,17 @@ use Rattle.page_index.specs.Faults.{IsFirstFault}
 use Rattle.page_index.specs.declared.faults.DocFault.{DocFault}
 use Rattle.page_draw.specs.Values.{PageValue}
 use Rattle.command_line.specs.declared.settings.Settings.{Settings}
-use Rattle.dvi_run.specs.Reading.{IsAllRead, OfRead}
+use Rattle.dvi_run.specs.Reading.{IsAllRead, HoldsOfInput}
 use Rattle.dvi_run.specs.Pages.{FailingPage, Setup, IsRun, IsWholeRun, run_fault}
 use Rattle.dvi_run.specs.Lines.{line_of}
 use Rattle.dvi_run.specs.Report.{loads_of, report_text}
 use Rattle.dvi_run.specs.Tally.{CountsTo}
-use Rattle.dvi_run.specs.Endings.{EndingSeen, Source, IsAmong, IsPlaced, OfRun, Stopped, Tells, TellsBy, Wrote, WroteAll, WroteBefore, WrotePrefix, WroteSome, page_status, status_of, statuses}
+use Rattle.dvi_run.specs.Endings.{EndingValue, Source, IsAmong, IsPlaced, HoldsOfDocument, Stopped, Prints, PrintsBy, Wrote, WroteAll, WroteBefore, WrotePrefix, WroteSome, page_status, status_of, statuses}
 use Rattle.dvi_run.specs.Rounds.{FailedAt}
-use Rattle.dvi_run.specs.Shares.{AreShares}
-use Rattle.dvi_run.specs.Sampled.{FailedTo, UsesTheSample, document_to, rest_to}
+use Rattle.dvi_run.specs.Shares.{PartitionPages}
+use Rattle.dvi_run.specs.Sampled.{FailedForSettings, UsesTheSample, document_for_settings, rest_for_settings}
 use Rattle.dvi_run.specs.Outside.{FaultsRose, Run, StreamChange, Streams, drawing_of, setup_of}
-use Rattle.dvi_run.specs.Together.{DrewTogether, EachUsed, IsOneHistory, RestIsKept, SomeUsed, SourceRose, Worked}
+use Rattle.dvi_run.specs.Together.{PagesMatchHistory, EachUsed, IsOneHistory, RestIsKept, SomeUsed, SourceRose, WorkerDone}
 use Rattle.dvi_run.specs.declared.tally.Tally.{Tally}
 
 -- ---- parts of the claims: what holds of the bytes that were read
@@ -35,7 +35,7 @@ FaultIsNamed g status bytes =
 -- they are a document with a page that has no bitmap, which has this status
 abbrev pub HasFailingPage : Setup → ℕ → List ℕ → Type 0
 HasFailingPage g status bytes = (page : FailingPage) × (status ≡ page_status page.fault)
-    × OfRun g bytes (λ _ values. run_fault values ≡ Some page)
+    × HoldsOfDocument g bytes (λ _ values. run_fault values ≡ Some page)
 
 -- if they are a document with a page that has no bitmap the status is the first such page's, or
 -- something failed before
@@ -60,54 +60,55 @@ GoodRunIsWhole g status bytes = (reading : Reading) (values : List PageValue)
 -- else
 abbrev pub StoppedAt : Setup → ℕ → (output : StreamChange) → List ℕ → Type 0
 StoppedAt g status output bytes = (page : FailingPage) × (status ≡ page_status page.fault)
-    × OfRun g bytes (λ _. Stopped output.before.bytes output.after.bytes page)
+    × HoldsOfDocument g bytes (λ _. Stopped output.before.bytes output.after.bytes page)
 
 -- they are a document, and the pages before some page were written, which have bitmaps
 abbrev pub StoppedBefore : Setup → (output : StreamChange) → List ℕ → Type 0
 StoppedBefore g output bytes =
-    (page : ℕ) × OfRun g bytes (WroteBefore output.before.bytes output.after.bytes page)
+    (page : ℕ) × HoldsOfDocument g bytes (WroteBefore output.before.bytes output.after.bytes page)
 
 -- they are a document, and the pages before some page were written, and a prefix of its own text;
 -- it and they have bitmaps
 abbrev pub StoppedIn : Setup → (output : StreamChange) → List ℕ → Type 0
 StoppedIn g output bytes =
-    (page : ℕ) × OfRun g bytes (λ _. WrotePrefix output.before.bytes output.after.bytes page)
+    (page : ℕ) × HoldsOfDocument g bytes (λ _. WrotePrefix output.before.bytes output.after.bytes
+    page)
 
 -- ---- what a run is given by its settings
 
--- the bytes of its document, where they are told
+-- the bytes of its document, where they are known
 abbrev pub document_of : {F : Type 0} → Run F → Option (List ℕ)
-document_of run = document_to run.task.settings run.streams.input.before.bytes
+document_of run = document_for_settings run.task.settings run.streams.input.before.bytes
 
 -- and what is left of them afterwards
 abbrev pub rest_of : {F : Type 0} → Run F → Option (List ℕ)
-rest_of run = rest_to run.task.settings run.streams.input.after.bytes
+rest_of run = rest_for_settings run.task.settings run.streams.input.after.bytes
 
 -- the input failed, if it is used
 abbrev pub InputFailed : {F : Type 0} → Run F → Type 0
-InputFailed run = FailedTo run.task.settings (FaultsRose run.streams.input)
+InputFailed run = FailedForSettings run.task.settings (FaultsRose run.streams.input)
 
 -- the source of a used worker failed, if any is used
 abbrev pub SourceFailed : {F : Type 0} → Run F → Type 0
-SourceFailed run = FailedTo run.task.settings
+SourceFailed run = FailedForSettings run.task.settings
     (SomeUsed run.task.settings.workers run.before run.after (SourceRose run.sources.faults))
 
 -- ---- the claims
 
 -- The causes of each status, both ways. Notes that fail decide nothing but between 0 and 8:
 -- `refused`, `stopped` and `whole` don't ask about them.
-pub record IsCaused {F : Type 0} (run : Run F) (status : ℕ) : Type 0 where
+pub record StatusIsTrue {F : Type 0} (run : Run F) (status : ℕ) : Type 0 where
   -- which statuses there are
   pub answers : IsAmong status statuses
   -- 2: exactly where the bytes that were read have a first fault
-  pub document : status ≡ 2 → OfRead (document_of run) (HasFault (setup_of run.task))
-  pub refused : OfRead (document_of run) (FaultIsNamed (setup_of run.task) status)
+  pub document : status ≡ 2 → HoldsOfInput (document_of run) (HasFault (setup_of run.task))
+  pub refused : HoldsOfInput (document_of run) (FaultIsNamed (setup_of run.task) status)
   -- 3 and 4: exactly where a page of the document has no bitmap, 4 where the fault is its font's,
   -- and neither a write nor the source failed before
   pub page : IsAmong status (3 ∷ 4 ∷ [])
-      → OfRead (document_of run) (HasFailingPage (setup_of run.task) status)
+      → HoldsOfInput (document_of run) (HasFailingPage (setup_of run.task) status)
   pub stopped : (files : FileTable) → (setup_of run.task).library ≡ Some files
-      → OfRead (document_of run) (FailingPageIsNamed (setup_of run.task) status)
+      → HoldsOfInput (document_of run) (FailingPageIsNamed (setup_of run.task) status)
   -- 5: only where the source failed
   pub source : status ≡ 5 → SourceFailed run
   -- 6: only where the input failed
@@ -119,18 +120,19 @@ pub record IsCaused {F : Type 0} (run : Run F) (status : ℕ) : Type 0 where
   -- 0 or 8, but for want of memory: where all pages have a bitmap and nothing failed but the notes
   pub whole : (files : FileTable) → (setup_of run.task).library ≡ Some files
       → ¬ InputFailed run → ¬ SourceFailed run → ¬ FaultsRose run.streams.output
-      → OfRead (document_of run) (GoodRunIsWritten (setup_of run.task) status)
+      → HoldsOfInput (document_of run) (GoodRunIsWritten (setup_of run.task) status)
   -- 0, but for want of memory: where all pages have a bitmap and nothing failed
   pub complete : (files : FileTable) → (setup_of run.task).library ≡ Some files
       → ¬ InputFailed run → ¬ SourceFailed run → ¬ FaultsRose run.streams.output
       → ¬ FaultsRose run.streams.notes
-      → OfRead (document_of run) (GoodRunIsWhole (setup_of run.task) status)
+      → HoldsOfInput (document_of run) (GoodRunIsWhole (setup_of run.task) status)
 
 -- What was read, and written where the run ended well.
 pub record IsWritten {F : Type 0} (run : Run F) (status : ℕ) : Type 0 where
   -- 0 and 8: exactly the texts of all pages, which have a bitmap
-  pub whole : WroteAll status → OfRead (document_of run) (λ bytes. OfRun (setup_of run.task) bytes
-      (Wrote run.streams.output.before.bytes run.streams.output.after.bytes))
+  pub whole : WroteAll status → HoldsOfInput (document_of run)
+      (λ bytes. HoldsOfDocument (setup_of run.task) bytes (Wrote run.streams.output.before.bytes
+      run.streams.output.after.bytes))
   -- 0, 2 to 5, 7 and 8: the input was read to its end, or to the limit of a document and one byte
   -- more
   pub read : IsAmong status (0 ∷ 2 ∷ 3 ∷ 4 ∷ 5 ∷ 7 ∷ 8 ∷ [])
@@ -142,32 +144,32 @@ pub record IsCutShort {F : Type 0} (run : Run F) (status : ℕ) : Type 0 where
   pub nothing : IsAmong status (2 ∷ 6 ∷ []) → run.streams.output.Kept
   -- 3 and 4: all pages before the first that has no bitmap, and nothing else
   pub stopped : IsAmong status (3 ∷ 4 ∷ [])
-      → OfRead (document_of run) (StoppedAt (setup_of run.task) status run.streams.output)
+      → HoldsOfInput (document_of run) (StoppedAt (setup_of run.task) status run.streams.output)
   -- 5: the pages before some page, which have bitmaps, and nothing of that page
   pub before : status ≡ 5
-      → OfRead (document_of run) (StoppedBefore (setup_of run.task) run.streams.output)
+      → HoldsOfInput (document_of run) (StoppedBefore (setup_of run.task) run.streams.output)
   -- 7: the pages before some page with a bitmap, and a prefix of its own text
   pub prefix : status ≡ 7
-      → OfRead (document_of run) (StoppedIn (setup_of run.task) run.streams.output)
+      → HoldsOfInput (document_of run) (StoppedIn (setup_of run.task) run.streams.output)
   -- 9: nothing, or some pages from the first on, each whole
   pub memory : status ≡ 9 → run.streams.output.Kept
-      ⊎ OfRead (document_of run) (λ bytes. OfRun (setup_of run.task) bytes
+      ⊎ HoldsOfInput (document_of run) (λ bytes. HoldsOfDocument (setup_of run.task) bytes
       (λ _. WroteSome run.streams.output.before.bytes run.streams.output.after.bytes))
 
 -- What the notes took of the report of a run that ends so, and that its last line is true.
-pub record IsNoted {F : Type 0} (run : Run F) (e : EndingSeen) (report : List ℕ) : Type 0 where
+pub record IsNoted {F : Type 0} (run : Run F) (e : EndingValue) (report : List ℕ) : Type 0 where
   -- what the line names is the document's: its first fault, its page without a bitmap with the
   -- fault and its place, or the page that the source or the output failed at
   pub placed : IsPlaced (setup_of run.task) e (document_of run) run.streams.output.before.bytes
       run.streams.output.after.bytes
   -- 0: the notes grew by the report; 8: they failed, and grew by a prefix of it, never all; else
   -- they grew by it, or by a prefix of it where they failed
-  pub told : TellsBy e run.streams.notes.before.bytes run.streams.notes.after.bytes
+  pub printed : PrintsBy e run.streams.notes.before.bytes run.streams.notes.after.bytes
       run.streams.notes.before.faults run.streams.notes.after.faults report
 
 -- The end of a run over the workers that its settings name: what it noted, whose source failed,
 -- what was written whole, and what was drawn.
-pub record HasEnded {F : Type 0} (run : Run F) (status : ℕ) (e : EndingSeen)
+pub record ReportMatchesRun {F : Type 0} (run : Run F) (status : ℕ) (e : EndingValue)
     (tally : Option Tally) : Type 0 where
   -- the notes took the report of this end: the history's lines and the summary where they are asked
   -- for, with the tally and all loads of the used workers, and the line of the end, which is true
@@ -179,13 +181,14 @@ pub record HasEnded {F : Type 0} (run : Run F) (status : ℕ) (e : EndingSeen)
   -- 5: the count that rose is that of the source whose worker drew the page named, as its last one
   pub failed : (page : ℕ) → e ≡ Source page
       → SomeUsed run.task.settings.workers run.before run.after (FailedAt run.sources.faults page)
-  -- nothing was drawn where no cache was made. Else each look-up found what the files told have for
-  -- its key: the pages have the values that this gives them, which say what was written; the
+  -- nothing was drawn where no cache was made. Else each look-up found what the known files have
+  -- for its key: the pages have the values that this gives them, which say what was written; the
   -- workers drew the first pages, each page once, to the end of the round of the page named at
   -- most, or of the next one where its write failed; the calls of each worker answer what its pages
   -- looked up; and the tally is that of the pages written whole, with their black pixels if the
   -- summary is asked for
-  pub drew : OfRead (document_of run) (DrewTogether run.task (drawing_of run) status e tally)
+  pub drew : HoldsOfInput (document_of run) (PagesMatchHistory run.task (drawing_of run) status e
+      tally)
 
 -- The counts of faults of the input, the output and the notes didn't fall.
 pub record NoCountFalls (streams : Streams) : Type 0 where
@@ -198,22 +201,22 @@ pub record NoCountFalls (streams : Streams) : Type 0 where
 -- What a run with such settings promises, by its status.
 pub record KeepsPromises {F : Type 0} (run : Run F) (status : ℕ) : Type 0 where
   -- why it ended so: the causes of each status, both ways
-  pub caused : IsCaused run status
+  pub caused : StatusIsTrue run status
   -- the bytes written where it ended well
   pub written : IsWritten run status
   -- the report in the notes, what was written whole, the worker whose source failed, and the pages
   -- drawn, with what each look-up found and the calls that it made, of one and the same end
-  pub ended : (ending : EndingSeen) × (tally : Option Tally) × (status ≡ status_of ending)
-      × HasEnded run status ending tally
+  pub ended : (ending : EndingValue) × (tally : Option Tally) × (status ≡ status_of ending)
+      × ReportMatchesRun run status ending tally
   -- the history, one legal list
   pub history : IsOneHistory run.task.settings status run.history
   -- each call of each used worker, once, and its loads
   pub called : EachUsed run.task.settings.workers run.before run.after
-      (λ k was now. Worked run.task run.sources status (own (k + 1) run.history) was now)
+      (λ k was now. WorkerDone run.task run.sources status (own (k + 1) run.history) was now)
   -- what was written where it was refused: pages from the first on, and a prefix of one at most
   pub cut_short : IsCutShort run status
   -- the pages that were drawn, the first n, each once and by one worker
-  pub shares : (total : ℕ) × AreShares total run.task.settings.workers run.after
+  pub shares : (total : ℕ) × PartitionPages total run.task.settings.workers run.after
   -- the workers that aren't used are as they were
   pub rest : RestIsKept run.task.settings.workers run.before run.after
   -- with the sample neither the input nor a source of the workers is used
@@ -236,6 +239,6 @@ pub record WasRefused (streams : Streams) (WorkersKept HistoryKept : Type 0) (st
   pub workers : WorkersKept
   pub history : HistoryKept
   -- the notes grew by the line of this end alone, or by a prefix of it where they failed
-  pub told : (e : EndingSeen) × (status ≡ status_of e)
-      × Tells streams.notes.before.bytes streams.notes.after.bytes streams.notes.before.faults
+  pub printed : (e : EndingValue) × (status ≡ status_of e)
+      × Prints streams.notes.before.bytes streams.notes.after.bytes streams.notes.before.faults
       streams.notes.after.faults (line_of e)

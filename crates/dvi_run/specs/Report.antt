@@ -1,4 +1,4 @@
--- What a run tells in its notes: the trace, the summary and the line of its end.
+-- What a run prints in its notes: the trace, the summary and the line of its end.
 use Rattle.std.specs.Prelude.{ℕ, Bool, true, false, List, [], ◌++◌, take, Option, Some, None}
 use Rattle.std.specs.List.{sum_by}
 use Rattle.cache_core.specs.declared.calls.Call.{Call}
@@ -6,7 +6,7 @@ use Rattle.page_workers.specs.declared.worker.Worker.{Worker}
 use Rattle.run_report.specs.Trace.{trace_text}
 use Rattle.run_report.specs.Summary.{summary_text}
 use Rattle.run_report.specs.declared.counts.Counts.{Counts}
-use Rattle.dvi_run.specs.Endings.{EndingSeen}
+use Rattle.dvi_run.specs.Endings.{EndingValue}
 use Rattle.dvi_run.specs.Lines.{line_of}
 use Rattle.command_line.specs.declared.settings.Settings.{Settings}
 use Rattle.dvi_run.specs.declared.tally.Tally.{Tally}
@@ -24,12 +24,13 @@ if_asked true text = text
 if_asked false text = []
 
 -- the trace where it is asked for, and then the summary where it is
-abbrev pub told_text : Settings → Tally → (loads : ℕ) → List Call → List ℕ
-told_text settings t loads history =
+abbrev pub trace_and_summary : Settings → Tally → (loads : ℕ) → List Call → List ℕ
+trace_and_summary settings t loads history =
     if_asked settings.trace (trace_text history)
     ++ if_asked settings.summary (summary_text (counts_of t loads) history)
 
 -- and last the line of the end. A run that ended before a cache was made has that line alone
-abbrev pub report_text : Settings → Option Tally → (loads : ℕ) → List Call → EndingSeen → List ℕ
+abbrev pub report_text : Settings → Option Tally → (loads : ℕ) → List Call → EndingValue → List ℕ
 report_text settings None loads history e = line_of e
-report_text settings (Some t) loads history e = told_text settings t loads history ++ line_of e
+report_text settings (Some t) loads history e =
+    trace_and_summary settings t loads history ++ line_of e

@@ -13,7 +13,7 @@ use Rattle.turn_lock.specs.Seats.{SeatView}
 use Rattle.cache_core.specs.declared.calls.Call.{Call}
 use Rattle.cache_core.specs.Histories.{own, SeatCalls, NoneReleased, looks}
 use Rattle.font_decode.specs.Desks.{TrailGrew, ReleasedLast, Loaded, misses}
-use Rattle.vf_expand.specs.Faults.{seen_fault}
+use Rattle.vf_expand.specs.Faults.{value_of_fault}
 use Rattle.page_draw.specs.Values.{fault_at}
 use Rattle.page_draw.specs.declared.sheet.Sheet.{Sheet}
 use Rattle.page_draw.specs.declared.stop.PageStop.{PageStop}
@@ -21,15 +21,15 @@ use Rattle.page_draw.specs.declared.stop.PageStop.TheVariants as draw
 use Rattle.pbm_output.specs.Pbm.{page_text}
 use Rattle.page_workers.specs.declared.bench.Bench.{Bench}
 use Rattle.page_workers.specs.declared.worker.Worker.{Worker}
-use Rattle.page_workers.specs.Seats.{Fits, asked_at, library_at, units_at, room_at, own_calls}
-use Rattle.page_workers.specs.Paper.{HasNoPaper}
+use Rattle.page_workers.specs.Seats.{BenchFits, asked_at, library_at, units_at, room_at, own_calls}
+use Rattle.page_workers.specs.SparePages.{HasNoSparePages}
 use Rattle.page_workers.specs.Rounds.{trail_of}
 use Rattle.dvi_run.specs.Pages.{Setup, IsValueOf, finding}
 use Rattle.dvi_run.specs.Looked.{BrokenLooks, WholeLooks}
 use Rattle.dvi_run.specs.declared.pages.WriteStop.{WriteStop}
 use Rattle.dvi_run.specs.declared.pages.WriteStop.TheVariants as stop
-use Rattle.page_index.specs.Limits.{MOST_PAGES}
-use Rattle.vf_expand.specs.Course.{MOST_FLAT}
+use Rattle.page_index.specs.Limits.{MAX_PAGES}
+use Rattle.vf_expand.specs.Limits.{MAX_FLAT_COMMANDS}
 
 -- what all of a run's rounds have in common
 pub record Site (F : Type 0) : Type 0 where
@@ -43,13 +43,13 @@ pub record Site (F : Type 0) : Type 0 where
 abbrev pub site : {F : Type 0} → (F → Option FileTable) → (F → ℕ) → (F → ℕ) → Bench
     → Option FileTable
     → Indexed → Sheet → Site F
-site library faults loads bench told indexed sheet =
+site library faults loads bench known indexed sheet =
     record {
       library = library;
       faults = faults;
       loads = loads;
       bench = bench;
-      given = record { library = told; res = indexed.res; sheet = sheet };
+      given = record { library = known; res = indexed.res; sheet = sheet };
       reading =
           indexed.reading;
     }
@@ -65,14 +65,14 @@ indexed_of g reading = record { res = g.res; reading = reading }
 abbrev pub IsOutcomeOf : Setup → Reading → ℕ → Result Bitmap PageStop → Type 0
 IsOutcomeOf g reading i (Ok page) = IsValueOf g reading i (Ok page)
 IsOutcomeOf g reading i (Err (draw.Fault fault at)) =
-    IsValueOf g reading i (fault_at (seen_fault fault) at)
+    IsValueOf g reading i (fault_at (value_of_fault fault) at)
 IsOutcomeOf g reading i (Err draw.SourceFault) = Unit {0}
 IsOutcomeOf g reading i (Err draw.NoMemory) = Unit {0}
 
 module _ {F : Type 0} (s : Site F) where
   -- what holds of a worker throughout
   pub record IsSteady (start now : Worker F) : Type 0 where
-    pub fits : Fits (s.library now.source) s.bench now.seat
+    pub fits : BenchFits (s.library now.source) s.bench now.seat
     pub library : library_at now.seat ≡ library_at start.seat
     pub units : units_at now.seat ≡ units_at start.seat
     pub faults : s.faults start.source ≤ s.faults now.source
@@ -83,7 +83,7 @@ module _ {F : Type 0} (s : Site F) where
       (trail_of s.loads now)
 
   -- the worker has no result, and each page that it drew had a bitmap
-  pub record Settled (start now : Worker F) : Type 0 where
+  pub record BetweenRounds (start now : Worker F) : Type 0 where
     pub kept : IsSteady start now
     pub none : now.results.items ≡ []
     pub counter : now.counter ≡ None
@@ -92,7 +92,7 @@ module _ {F : Type 0} (s : Site F) where
         (indexed_of s.given s.reading) s.given.sheet now.pages.items (keys_of now.seat)
 
   -- what is so of a worker when the rounds are over
-  pub record Ended (start now : Worker F) : Type 0 where
+  pub record AfterRounds (start now : Worker F) : Type 0 where
     pub kept : IsSteady start now
     pub none : now.results.items ≡ []
     pub counter : now.counter ≡ None
@@ -104,14 +104,14 @@ module _ {F : Type 0} (s : Site F) where
 
 -- a worker that may begin: it has a seat, and nothing was looked up, drawn or kept
 pub record MayBegin {F : Type 0} (s : Site F) (w : Worker F) : Type 0 where
-  pub fits : Fits (s.library w.source) s.bench w.seat
+  pub fits : BenchFits (s.library w.source) s.bench w.seat
   pub library : library_at w.seat ≡ s.given.library
   pub units : units_at w.seat ≡ document_units s.given.res s.reading
   pub none : w.results.items ≡ []
   pub counter : w.counter ≡ None
   pub pages : w.pages.items ≡ []
   pub keys : keys_of w.seat ≡ []
-  pub room : MOST_PAGES * MOST_FLAT ≤ room_at w.loads w.seat
+  pub room : MAX_PAGES * MAX_FLAT_COMMANDS ≤ room_at w.loads w.seat
 
 -- ---- a result that is written
 
@@ -127,8 +127,8 @@ WroteOutcome counted old new OutputFails (Ok page) (Err (stop.Draw reason)) = �
 WroteOutcome counted old new OutputFails (Ok page) (Err stop.Output) =
     AppendsPrefix old new (page_text page) × OutputFails
 WroteOutcome counted old new OutputFails (Err reason) (Ok black) = ⊥
-WroteOutcome counted old new OutputFails (Err reason) (Err (stop.Draw told)) =
-    (told ≡ reason) × (new ≡ old)
+WroteOutcome counted old new OutputFails (Err reason) (Err (stop.Draw cause)) =
+    (cause ≡ reason) × (new ≡ old)
 WroteOutcome counted old new OutputFails (Err reason) (Err stop.Output) = ⊥
 
 -- a worker but for its results
@@ -153,10 +153,10 @@ pub record FailedAt {F : Type 0} (faults : F → ℕ) (page : ℕ) (start now : 
 
 -- ---- a whole run's pages
 
--- a worker that was not used yet; it tells what the run is told
-pub record IsFresh {F : Type 0} (library : F → Option FileTable) (told : Option FileTable)
+-- a worker that was not used yet; its source has the library that the run knows
+pub record IsFresh {F : Type 0} (library : F → Option FileTable) (known : Option FileTable)
     (w : Worker F) : Type 0 where
-  pub tells : IfSome told (λ l. library w.source ≡ Some l)
+  pub knows_library : IfSome known (λ l. library w.source ≡ Some l)
   pub none : w.results.items ≡ []
   pub counter : w.counter ≡ None
   pub loads : w.loads ≡ 0
@@ -165,15 +165,16 @@ pub record IsFresh {F : Type 0} (library : F → Option FileTable) (told : Optio
 -- what a worker did in a run, by the calls of its seat in the history: they answer the look-ups of
 -- the pages that it drew, a claim is given up at their end alone, and nowhere where the run is
 -- whole, nor is a page broken off then, and it loaded at most five files for each look that was no
--- hit. It has neither a seat nor a result any more, and its source tells what the run was told
-pub record Ran {F : Type 0} (Whole : Type 0) (library : F → Option FileTable) (faults loads : F → ℕ)
-    (g : Setup) (reading : Reading) (history : List Call) (number : ℕ)
+-- hit. It has neither a seat nor a result any more, and its source has the library that the run
+-- knows
+pub record WorkerRan {F : Type 0} (Whole : Type 0) (library : F → Option FileTable)
+    (faults loads : F → ℕ) (g : Setup) (reading : Reading) (history : List Call) (number : ℕ)
     (before after : Worker F) : Type 0 where
   pub seat : after.seat ≡ None
   pub none : after.results.items ≡ []
   pub counter : after.counter ≡ None
-  pub paper : HasNoPaper before → HasNoPaper after
-  pub tells : IfSome g.library (λ l. library after.source ≡ Some l)
+  pub spare_pages : HasNoSparePages before → HasNoSparePages after
+  pub knows_library : IfSome g.library (λ l. library after.source ≡ Some l)
   pub faults_rose : faults before.source ≤ faults after.source
   pub keys : List FontKey
   pub looked : WholeLooks (finding g reading) (indexed_of g reading) g.sheet after.pages.items keys

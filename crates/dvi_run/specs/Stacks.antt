@@ -8,7 +8,7 @@ use Rattle.page_index.specs.Document.{pages_begun}
 use Rattle.page_index.specs.Pages.{Indexed}
 use Rattle.page_draw.specs.declared.sheet.Sheet.{Sheet}
 use Rattle.page_draw.specs.declared.stop.PageStop.TheVariants as draw
-use Rattle.page_workers.specs.Rounds.{DrewRound, MayDraw, Rested, pages_of}
+use Rattle.page_workers.specs.Rounds.{DrewRound, MayDraw, DrewNothing, pages_of}
 use Rattle.page_workers.specs.declared.bench.Bench.{Bench}
 use Rattle.page_workers.specs.declared.worker.PageResult.{PageResult}
 use Rattle.page_workers.specs.declared.worker.Worker.{Worker}
@@ -16,7 +16,8 @@ use Rattle.dvi_run.specs.Rounds.{WasCleared, WroteOutcome}
 use Rattle.dvi_run.specs.declared.pages.WriteStop.{WriteStop}
 use Rattle.dvi_run.specs.declared.pages.WriteStop.TheVariants as stop
 use Rattle.dvi_run.specs.declared.tally.Tally.{Tally}
-use Rattle.raster_page.specs.Limits.{LONGEST_PAGE_SIDE}
+use Rattle.raster_page.specs.Limits.{MAX_PAGE_SIDE}
+use Rattle.page_workers.specs.Limits.{MAX_WORKERS}
 
 -- ---- a round's results, taken out of the workers
 
@@ -63,7 +64,7 @@ pub record Collected {F : Type 0} (first count : ℕ) (before after : List (Work
 pub record MayDrawRound {F : Type 0} (library : F → Option FileTable) (bench : Bench)
     (indexed : Indexed) (first count : ℕ) (workers : List (Worker F)) : Type 0 where
   pub some_worker : 1 ≤ length workers
-  pub few_workers : length workers ≤ 32
+  pub few_workers : length workers ≤ MAX_WORKERS
   pub inside : first + count ≤ pages_begun indexed.reading
   pub ready : (k : ℕ) (d : Worker F) → k < length workers
       → MayDraw library bench count (slice_index_or workers k d)
@@ -86,7 +87,7 @@ module _ {F : Type 0} (library : F → Option FileTable) (faults loads : F → �
 
 -- no page has more black pixels than the largest sheet has dots
 abbrev pub HasFewDots : PageResult → Type 0
-HasFewDots r = IfOk r.outcome (λ page. black_count page ≤ LONGEST_PAGE_SIDE * LONGEST_PAGE_SIDE)
+HasFewDots r = IfOk r.outcome (λ page. black_count page ≤ MAX_PAGE_SIDE * MAX_PAGE_SIDE)
 
 -- the texts of these results' pages were written, one after another, with n black pixels,
 -- where they are counted
@@ -119,9 +120,9 @@ pub record WroteUpTo (counted : Bool) (old new : Option (List ℕ)) (OutputFails
 -- ---- a round at hand, written while the next one is drawn
 
 -- no worker drew anything
-abbrev pub AllRested : {F : Type 0} (before after : List (Worker F)) → Type 0
-AllRested {F} before after = (k : ℕ) (d : Worker F) → k < length before
-    → Rested (slice_index_or before k d) (slice_index_or after k d)
+abbrev pub AllDrewNothing : {F : Type 0} (before after : List (Worker F)) → Type 0
+AllDrewNothing {F} before after = (k : ℕ) (d : Worker F) → k < length before
+    → DrewNothing (slice_index_or before k d) (slice_index_or after k d)
 
 -- Why the next round isn't at hand: a page of this one wasn't written, while several workers may
 -- have drawn the next one, but one none; or all were, and there was no memory for the next one.
@@ -131,6 +132,6 @@ abbrev pub StoppedAhead : {F : Type 0} (DrewNext : List PageResult → Type 0) (
 StoppedAhead DrewNext counted old new OutputFails results tally_before tally_after before after
     why =
     (WroteUpTo counted old new OutputFails results tally_before tally_after why
-    × (AllRested before after ⊎ ((2 ≤ length before) × (later : List PageResult) × DrewNext later)))
-    ⊎ (WroteWhole counted old new results tally_before tally_after
-    × (why ≡ stop.Draw draw.NoMemory) × AllRested before after)
+    × (AllDrewNothing before after ⊎ ((2 ≤ length before) × (later : List PageResult)
+    × DrewNext later))) ⊎ (WroteWhole counted old new results tally_before tally_after
+    × (why ≡ stop.Draw draw.NoMemory) × AllDrewNothing before after)

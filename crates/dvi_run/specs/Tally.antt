@@ -6,13 +6,13 @@ use Rattle.packed_rows.specs.Changes.{black_count}
 use Rattle.page_draw.specs.Values.{PageValue}
 use Rattle.pbm_output.specs.Pbm.{page_text}
 use Rattle.dvi_run.specs.Pages.{whole_pages}
-use Rattle.dvi_run.specs.Endings.{EndingSeen, Written, Usage, Document, Page, Source, Input}
+use Rattle.dvi_run.specs.Endings.{EndingValue, Written, Usage, Document, Page, Source, Input}
 use Rattle.dvi_run.specs.Endings.{Output, Notes, Memory}
 use Rattle.dvi_run.specs.Looked.{IsIdle}
 use Rattle.dvi_run.specs.declared.tally.Tally.{Tally}
 
 -- the page that the end names, from 1, is the one after n
-abbrev pub IsAfter : ℕ → EndingSeen → Type 0
+abbrev pub IsAfter : ℕ → EndingValue → Type 0
 IsAfter pages (Page page) = page.page ≡ suc pages
 IsAfter pages (Source page) = page ≡ suc pages
 IsAfter pages (Output page) = page ≡ suc pages
@@ -20,7 +20,7 @@ IsAfter pages _ = Unit {0}
 
 -- n pages are what was written: all of them where all were, and where memory ran out the output
 -- grew by the texts of these alone
-abbrev pub AreWritten : (old new : Option (List ℕ)) → ℕ → EndingSeen → List PageValue
+abbrev pub AreWritten : (old new : Option (List ℕ)) → ℕ → EndingValue → List PageValue
     → Type 0
 AreWritten old new pages Written values = pages ≡ length (whole_pages values)
 AreWritten old new pages Notes values = pages ≡ length (whole_pages values)
@@ -30,7 +30,7 @@ AreWritten old new pages _ values = Unit {0}
 
 -- what was written whole of a document whose first pages have these values, in a run that ended so;
 -- black pixels where they were counted
-pub record IsTally (counted : Bool) (old new : Option (List ℕ)) (t : Tally) (e : EndingSeen)
+pub record TallyMatches (counted : Bool) (old new : Option (List ℕ)) (t : Tally) (e : EndingValue)
     (values : List PageValue) : Type 0 where
   pub few : t.pages ≤ length (whole_pages values)
   pub black : counted ≡ true
@@ -39,13 +39,13 @@ pub record IsTally (counted : Bool) (old new : Option (List ℕ)) (t : Tally) (e
   pub written : AreWritten old new t.pages e values
 
 -- and there is no tally where no cache was made, since memory ran out before
-abbrev pub Tallied : Bool → (old new : Option (List ℕ)) → Option Tally → EndingSeen
+abbrev pub TallyMatchesRun : Bool → (old new : Option (List ℕ)) → Option Tally → EndingValue
     → List PageValue → Type 0
-Tallied counted old new None e values = (e ≡ Memory) × (new ≡ old)
-Tallied counted old new (Some t) e values = IsTally counted old new t e values
+TallyMatchesRun counted old new None e values = (e ≡ Memory) × (new ≡ old)
+TallyMatchesRun counted old new (Some t) e values = TallyMatches counted old new t e values
 
 -- a cache was made before a run ended so, or may have been
-abbrev pub HadCache : EndingSeen → Type 0
+abbrev pub HadCache : EndingValue → Type 0
 HadCache Usage = ⊥
 HadCache (Document fault) = ⊥
 HadCache Input = ⊥
@@ -53,6 +53,6 @@ HadCache _ = Unit {0}
 
 -- whatever was read: there is no tally where the run ended before a cache was made, and else pages
 -- are counted up to the one that the end names
-abbrev pub CountsTo : Option Tally → EndingSeen → Type 0
+abbrev pub CountsTo : Option Tally → EndingValue → Type 0
 CountsTo None e = IsIdle e
 CountsTo (Some t) e = HadCache e × IsAfter t.pages e

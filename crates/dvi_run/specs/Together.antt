@@ -12,16 +12,16 @@ use Rattle.turn_lock.specs.Histories.{AllMade}
 use Rattle.font_decode.specs.Desks.{ReleasedLast, misses}
 use Rattle.page_index.specs.Document.{Reading, pages_begun}
 use Rattle.page_draw.specs.Values.{PageValue}
-use Rattle.page_workers.specs.Paper.{HasNoPaper}
+use Rattle.page_workers.specs.SparePages.{HasNoSparePages}
 use Rattle.page_workers.specs.declared.worker.Worker.{Worker}
 use Rattle.command_line.specs.declared.settings.Settings.{Settings}
 use Rattle.dvi_run.specs.Pages.{AreValues, finding}
-use Rattle.dvi_run.specs.Endings.{EndingSeen, Source, EndsPages, IsAmong, OfRun, WroteAll, status_of}
-use Rattle.dvi_run.specs.Looked.{BrokenLooks, IsDrawnThrough, IsIdle, IsUnbrokenBy, WholeLooks}
-use Rattle.dvi_run.specs.Rounds.{FailedAt, IsFresh, Ran, indexed_of}
-use Rattle.dvi_run.specs.Shares.{AreShares, DrewShares}
-use Rattle.dvi_run.specs.Tally.{CountsTo, Tallied}
-use Rattle.dvi_run.specs.Sampled.{LoadedBy}
+use Rattle.dvi_run.specs.Endings.{EndingValue, Source, EndsPages, IsAmong, HoldsOfDocument, WroteAll, status_of}
+use Rattle.dvi_run.specs.Looked.{BrokenLooks, EveryPageCameToItsEnd, IsIdle, WasNotCutOffBy, WholeLooks}
+use Rattle.dvi_run.specs.Rounds.{FailedAt, IsFresh, WorkerRan, indexed_of}
+use Rattle.dvi_run.specs.Shares.{PartitionPages, WorkersDrew}
+use Rattle.dvi_run.specs.Tally.{CountsTo, TallyMatchesRun}
+use Rattle.dvi_run.specs.Sampled.{LoadedForSample}
 use Rattle.dvi_run.specs.Outside.{Drawing, FaultsRose, Sources, Task, setup_of}
 use Rattle.dvi_run.specs.declared.tally.Tally.{Tally}
 
@@ -46,19 +46,19 @@ module _ {F : Type 0} (n : ℕ) (before after : List (Worker F)) where
 abbrev pub SourceRose : {F : Type 0} → (F → ℕ) → Worker F → Worker F → Type 0
 SourceRose faults before after = Rose (faults before.source) (faults after.source)
 
--- a worker that a run may use: it has no seat, and was not used yet, and where the run is told a
--- library its source tells it
-pub record IsReady {F : Type 0} (library : F → Option FileTable) (told : Option FileTable)
+-- a worker that a run may use: it has no seat, and was not used yet, and where the run is known a
+-- library its source has it
+pub record IsReadyWorker {F : Type 0} (library : F → Option FileTable) (known : Option FileTable)
     (w : Worker F) : Type 0 where
-  pub fresh : IsFresh library told w
+  pub fresh : IsFresh library known w
   pub seat : w.seat ≡ None
 
 -- ---- by the status of the run
 
 -- each page that was drawn came to its end: all were written, or there is one worker, and neither
 -- its source failed nor was memory wanting
-abbrev pub IsDrawnThroughBy : (n status : ℕ) → Type 0
-IsDrawnThroughBy n status = WroteAll status ⊎ ((n ≡ 1) × IsUnbrokenBy status)
+abbrev pub EveryPageCameToItsEndBy : (n status : ℕ) → Type 0
+EveryPageCameToItsEndBy n status = WroteAll status ⊎ ((n ≡ 1) × WasNotCutOffBy status)
 
 -- ---- the history
 
@@ -78,25 +78,25 @@ pub record IsOneHistory (settings : Settings) (status : ℕ) (history : List Cal
 
 -- What a used worker did, by the calls of its seat, in a run of the sample or of what the outside
 -- gives.
-pub record Worked {F : Type 0} (task : Task) (sources : Sources F) (status : ℕ)
+pub record WorkerDone {F : Type 0} (task : Task) (sources : Sources F) (status : ℕ)
     (calls : List Call) (before after : Worker F) : Type 0 where
-  -- it has neither a seat nor a result any more, and no paper, unless it had some before
+  -- it has neither a seat nor a result any more, and no spare page, unless it had some before
   pub seat : after.seat ≡ None
   pub none : after.results.items ≡ []
   pub counter : after.counter ≡ None
-  pub paper : HasNoPaper before → HasNoPaper after
-  -- its source tells what the run was told, and its count of faults didn't fall
-  pub tells : IfSome task.told (λ l. sources.library after.source ≡ Some l)
+  pub spare_pages : HasNoSparePages before → HasNoSparePages after
+  -- its source has the library that the run knows, and its count of faults didn't fall
+  pub knows_library : IfSome task.known (λ l. sources.library after.source ≡ Some l)
   pub count : sources.faults before.source ≤ sources.faults after.source
   -- each of its calls is there once: they answer the keys that it asked for, one after another
   pub keys : List FontKey
   pub answered : SeatCalls keys calls
   -- a claim is given up at their end alone, and nowhere in a run that ends well
   pub last : ReleasedLast calls
-  pub kept : IsDrawnThroughBy task.settings.workers status → NoneReleased calls
+  pub kept : EveryPageCameToItsEndBy task.settings.workers status → NoneReleased calls
   -- it loaded at most five files for each look that was no hit, and its source counts as many,
   -- other than for the sample
-  pub loaded : LoadedBy task.settings.sample (5 * misses calls) (sources.loads before.source)
+  pub loaded : LoadedForSample task.settings.sample (5 * misses calls) (sources.loads before.source)
       (sources.loads after.source) before.loads after.loads
 
 -- the calls of a used worker's seat answer the look-ups of the pages that it drew, one page after
@@ -109,13 +109,13 @@ pub record Answered {F : Type 0} (task : Task) (reading : Reading) (history : Li
       task.settings.sheet after.pages.items keys
       ⊎ BrokenLooks (finding (setup_of task) reading) (indexed_of (setup_of task) reading)
       task.settings.sheet after.pages.items keys
-  pub through : IsDrawnThroughBy task.settings.workers status
+  pub through : EveryPageCameToItsEndBy task.settings.workers status
       → WholeLooks (finding (setup_of task) reading) (indexed_of (setup_of task) reading)
       task.settings.sheet after.pages.items keys
   pub answered : SeatCalls keys (own (place + 1) history)
   -- the calls of one worker are one list, given these keys, unless the source failed (5) or
   -- memory ran out (9)
-  pub one : task.settings.workers ≡ 1 → IsUnbrokenBy status
+  pub one : task.settings.workers ≡ 1 → WasNotCutOffBy status
       → history ≡ solo_history task.settings.cache 1 keys
 
 -- What was drawn of these bytes in a run that ended so: nothing where no cache was made. Else they
@@ -124,41 +124,41 @@ pub record Answered {F : Type 0} (task : Task) (reading : Reading) (history : Li
 -- that were written and the one named, and none after its round, or where its write failed after
 -- the next one; the calls of each answer what its pages looked up; and the tally is that of the
 -- pages written whole, with their black pixels where the settings ask for the summary.
-abbrev pub DrewTogether : {F : Type 0} → Task → Drawing F → (status : ℕ) → EndingSeen
+abbrev pub PagesMatchHistory : {F : Type 0} → Task → Drawing F → (status : ℕ) → EndingValue
     → Option Tally → (bytes : List ℕ) → Type 0
-DrewTogether task drawing status e tally bytes =
+PagesMatchHistory task drawing status e tally bytes =
     (IsIdle e × (tally ≡ None) × (drawing.history ≡ []) × (drawing.after ≡ drawing.before))
-    ⊎ OfRun (setup_of task) bytes (λ reading values.
+    ⊎ HoldsOfDocument (setup_of task) bytes (λ reading values.
     EndsPages drawing.output.before.bytes drawing.output.after.bytes (Unit {0}) (Unit {0}) e
     reading values
-    × Tallied task.settings.summary drawing.output.before.bytes drawing.output.after.bytes tally e
-    values
-    × DrewShares (pages_begun reading) task.settings.workers e tally drawing.after
+    × TallyMatchesRun task.settings.summary drawing.output.before.bytes drawing.output.after.bytes
+    tally e values
+    × WorkersDrew (pages_begun reading) task.settings.workers e tally drawing.after
     × EachUsed task.settings.workers drawing.before drawing.after
     (λ k _ now. Answered task reading drawing.history status k now))
 
 -- ---- the parts of a run
 
 -- the pages of a document were drawn by the workers that the settings name, and it ended so
-pub record DrewPages {F : Type 0} (task : Task) (reading : Reading) (drawing : Drawing F)
-    (e : EndingSeen) (tally : Option Tally) : Type 0 where
+pub record DrewDocument {F : Type 0} (task : Task) (reading : Reading) (drawing : Drawing F)
+    (e : EndingValue) (tally : Option Tally) : Type 0 where
   pub ends : (values : List PageValue) × AreValues (setup_of task) reading values
       × EndsPages drawing.output.before.bytes drawing.output.after.bytes
       (FaultsRose drawing.output) (Unit {0}) e reading values
-      × Tallied task.settings.summary drawing.output.before.bytes drawing.output.after.bytes tally
-      e values
+      × TallyMatchesRun task.settings.summary drawing.output.before.bytes drawing.output.after.bytes
+      tally e values
   pub failed : (page : ℕ) → e ≡ Source page
       → SomeUsed task.settings.workers drawing.before drawing.after
       (FailedAt drawing.sources.faults page)
-  pub shares : DrewShares (pages_begun reading) task.settings.workers e tally drawing.after
+  pub shares : WorkersDrew (pages_begun reading) task.settings.workers e tally drawing.after
   pub one : IsOneHistory task.settings (status_of e) drawing.history
   pub ran : EachUsed task.settings.workers drawing.before drawing.after
-      (λ k was now. Ran (IsDrawnThrough task.settings.workers e) drawing.sources.library
-      drawing.sources.faults drawing.sources.loads (setup_of task) reading drawing.history (k + 1)
-      was now)
+      (λ k was now. WorkerRan (EveryPageCameToItsEnd task.settings.workers e)
+      drawing.sources.library drawing.sources.faults drawing.sources.loads (setup_of task) reading
+      drawing.history (k + 1) was now)
 
 -- what holds of the workers after any run that ended so
-pub record AreDone {F : Type 0} (task : Task) (drawing : Drawing F) (e : EndingSeen)
+pub record WorkersAreDone {F : Type 0} (task : Task) (drawing : Drawing F) (e : EndingValue)
     (tally : Option Tally) : Type 0 where
   pub counts : CountsTo tally e
   pub failed : (page : ℕ) → e ≡ Source page
@@ -166,6 +166,7 @@ pub record AreDone {F : Type 0} (task : Task) (drawing : Drawing F) (e : EndingS
       (FailedAt drawing.sources.faults page)
   pub one : IsOneHistory task.settings (status_of e) drawing.history
   pub worked : EachUsed task.settings.workers drawing.before drawing.after
-      (λ k was now. Worked task drawing.sources (status_of e) (own (k + 1) drawing.history) was now)
-  pub shares : (total : ℕ) × AreShares total task.settings.workers drawing.after
+      (λ k was now. WorkerDone task drawing.sources (status_of e) (own (k + 1) drawing.history) was
+      now)
+  pub shares : (total : ℕ) × PartitionPages total task.settings.workers drawing.after
   pub rest : RestIsKept task.settings.workers drawing.before drawing.after

@@ -1,9 +1,9 @@
-//! The results of a round are taken out of the workers.
+//! Takes the results of a round out of the workers.
 ghost use Rattle.std.specs.Prelude.{◌≡◌, ◌↔◌, ℕ, ◌+◌, ◌^◌, ◌<◌, ◌≤◌, ◌++◌, ◌∷◌, [], List, None, IfSome, IsTrue, length, slice_index_or, vec_len, vec_capacity};
 ghost use Rattle.page_workers.specs.declared.worker.PageResult.{PageResult};
 ghost use Rattle.dvi_run.specs.Rounds.{SameBut};
 ghost use Rattle.dvi_run.specs.Stacks.{AreResults, Collected, HasOnTop};
-ghost use Rattle.page_index.specs.Limits.{MOST_PAGES};
+ghost use Rattle.page_index.specs.Limits.{MAX_PAGES};
 
 use outside::FontSource;
 use page_workers::{PageResult, Worker};
@@ -56,7 +56,7 @@ pub fn collect<F: FontSource>(
     count: usize,
     stack: &mut Vec<PageResult>,
 )
-    requires pages { first + count ≤ MOST_PAGES }
+    requires pages { first + count ≤ MAX_PAGES }
     requires empty { stack.old.items ≡ [] }
     requires room { vec_len stack.old + count ≤ vec_capacity stack.old }
     ensures { (pages : ℕ) → pages ≤ count → AreResults first pages workers.old

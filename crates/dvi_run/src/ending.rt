@@ -10,7 +10,7 @@ use vf_expand::PageFault;
 pub enum Ending {
     /// All pages were written.
     Written,
-    /// The words are no line.
+    /// The arguments aren't a command line.
     Usage,
     /// The bytes that were read aren't a document.
     Document(DocFault),

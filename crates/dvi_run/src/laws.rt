@@ -11,7 +11,7 @@ pub fn texts()
     ensures ended { FaultsEndTheRun }
 {}
 
-/// A document has one reading, and over told font files one value for each page, up to the page's
+/// A document has one reading, and over known font files one value for each page, up to the page's
 /// end. No bytes are both a document and a file with a fault. However many workers there are,
 /// whatever the cache and the schedule, all runs over one document that end well write one text,
 /// and so do those that end at a page.
@@ -29,8 +29,8 @@ pub fn runs()
     page_draw::laws::values();
 }
 
-/// Over font files that are told each document has exactly one list of the values of its pages, so
-/// that each run of it is that of the first of them.
+/// Over known font files each document has exactly one list of the values of its pages, so that
+/// each run of it is that of the first of them.
 pub fn whole_runs()
     ensures { EachDocumentHasOneRun }
 {

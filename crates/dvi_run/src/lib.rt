@@ -1,24 +1,24 @@
 //! One run: reads a document, draws its pages, writes their images, and says how it ended.
 //!
 //! The public calls are `run_with`, for a test or another program, and `dvipbm_run`, for the
-//! arguments of a command line. Below them stand the reading of the input, the rounds of pages that
+//! arguments of a command line. Below them are the reading of the input, the rounds of pages that
 //! workers draw and that are written, and the notes, each a part of its own that the calls'
 //! contracts don't name.
 #![tactic(auto)]
 
-mod at_once;
 mod collecting;
 mod ending;
-mod handing;
 pub mod laws;
 mod note;
 mod opening;
+mod own_workers;
 mod pages;
 mod reading;
 mod report;
 mod rounds;
 mod run;
 mod sampled;
+mod shared_cache;
 mod stages;
 mod tally;
 mod texts;

@@ -1,8 +1,8 @@
 //! The line of a run's end.
 ghost use Rattle.std.specs.Prelude.{[]};
-ghost use Rattle.vf_expand.specs.Faults.{seen_fault};
+ghost use Rattle.vf_expand.specs.Faults.{value_of_fault};
 ghost use Rattle.run_report.specs.Puts.{Puts};
-ghost use Rattle.dvi_run.specs.Endings.{seen_ending};
+ghost use Rattle.dvi_run.specs.Endings.{value_of_ending};
 ghost use Rattle.dvi_run.specs.Lines.{document_line, line_of, output_line, page_line, source_line};
 
 use crate::ending::Ending;
@@ -36,7 +36,7 @@ fn put_page<N: Output>(
 )
     ensures { Puts gather.old gather.new (N.written notes.old) (N.written notes.new)
         (N.faults notes.old) (N.faults notes.new)
-        (page_line (record { page = page; fault = seen_fault fault.now; at = at })) }
+        (page_line (record { page = page; fault = value_of_fault fault.now; at = at })) }
 {
     put(gather, notes, b"dvipbm: page ");
     put_number(gather, notes, page);
@@ -78,7 +78,7 @@ fn put_none<N: Output>(gather: &mut Gather, notes: &mut N)
 /// Puts the line of a run's end.
 pub fn put_end<N: Output>(gather: &mut Gather, notes: &mut N, ending: &Ending)
     ensures { Puts gather.old gather.new (N.written notes.old) (N.written notes.new)
-        (N.faults notes.old) (N.faults notes.new) (line_of (seen_ending ending.now)) }
+        (N.faults notes.old) (N.faults notes.new) (line_of (value_of_ending ending.now)) }
 {
     match ending {
         Ending::Written => put_none(gather, notes),

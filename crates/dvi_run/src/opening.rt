@@ -2,13 +2,15 @@
 ghost use Rattle.std.specs.Prelude.{◌≡◌, ◌≤◌, IfOk};
 ghost use Rattle.cache_core.specs.declared.common.Common.{Common};
 ghost use Rattle.turn_lock.specs.Views.{opening_view};
+ghost use Rattle.cache_core.specs.Limits.{MAX_CACHED_FONTS};
 
 use cache_core::Stands;
 use font_cache::{CacheSeat, FontCache};
 use pixel_round::Units;
 use std::alloc::{AllocError as NoMemory, Global};
 
-/// An empty cache for the fonts of a document with these units, and seat 0 of it.
+/// An empty cache for the fonts of a document with these units, and seat 0 of it. `_units` is there
+/// for the proof: the units of the seat's common part.
 pub fn open_cache<T: Stands>(
     alloc: Global,
     capacity: usize,
@@ -16,7 +18,7 @@ pub fn open_cache<T: Stands>(
 ) -> Result<(FontCache<T>, CacheSeat<T>), NoMemory>
     ghost part: { Common }
     requires some_font { 1 ≤ capacity }
-    requires few_fonts { capacity ≤ 256 }
+    requires few_fonts { capacity ≤ MAX_CACHED_FONTS }
     requires capacity { capacity ≡ part.capacity }
     requires units { _units.now ≡ part.units }
     ensures lock { IfOk result (λ made. made.1.lock ≡ made.0) }

@@ -2,11 +2,11 @@
 ghost use Rattle.std.specs.Prelude.{◌≡◌, ◌<◌, ◌≤◌, ◌+◌, ◌*◌, All, IfErr, IfOk, OnOk, length, reverse};
 ghost use Rattle.std.proofs.Props.{props};
 ghost use Rattle.outside.specs.Counts.{Rose};
-ghost use Rattle.dvi_run.specs.Endings.{ending_at, seen_ending};
+ghost use Rattle.dvi_run.specs.Endings.{ending_at, value_of_ending};
 ghost use Rattle.dvi_run.specs.Rounds.{WroteOutcome};
 ghost use Rattle.dvi_run.specs.Stacks.{HasFewDots, WroteUpTo, WroteWhole};
-ghost use Rattle.raster_page.specs.Limits.{LONGEST_PAGE_SIDE};
-ghost use Rattle.page_index.specs.Limits.{MOST_PAGES};
+ghost use Rattle.raster_page.specs.Limits.{MAX_PAGE_SIDE};
+ghost use Rattle.page_index.specs.Limits.{MAX_PAGES};
 
 use crate::ending::Ending;
 use crate::tally::Tally;
@@ -68,16 +68,16 @@ pub struct Press {
     /// Whether black pixels are counted.
     pub counted: bool,
     /// Pages that were written, on whose memory others may be drawn.
-    pub spare: Vec<Page>,
+    pub written_pages: Vec<Page>,
     ghost dots: { All HasFewDots stack.items } by { Prim.hlevel props },
-    ghost few: { tally.pages + length stack.items ≤ MOST_PAGES },
-    ghost black: { tally.black ≤ tally.pages * (LONGEST_PAGE_SIDE * LONGEST_PAGE_SIDE) },
+    ghost few: { tally.pages + length stack.items ≤ MAX_PAGES },
+    ghost black: { tally.black ≤ tally.pages * (MAX_PAGE_SIDE * MAX_PAGE_SIDE) },
 }
 
 // How a run ends that doesn't write the page with this number, from 0.
-pub(crate) fn stopped(i: usize, stop: WriteStop) -> Ending
-    requires { i < MOST_PAGES }
-    ensures { seen_ending result ≡ ending_at (i + 1) stop }
+pub(crate) fn ending_of_stop(i: usize, stop: WriteStop) -> Ending
+    requires { i < MAX_PAGES }
+    ensures { value_of_ending result ≡ ending_at (i + 1) stop }
 {
     let page = i + 1;
     match stop {
@@ -89,8 +89,8 @@ pub(crate) fn stopped(i: usize, stop: WriteStop) -> Ending
 }
 
 impl Press {
-    // Writes a page, which is spare then, and answers how many of its pixels are black, where they
-    // are counted. A spare page that there is no memory to note is dropped.
+    // Writes a page, whose memory is then for other pages, and answers how many of its pixels are
+    // black, where they are counted. A written page that there is no memory to note is dropped.
     fn write_one<O: Output>(&mut self, drawn: PageResult, out: &mut O) -> Result<u64, WriteStop>
         ensures wrote { WroteOutcome self.old.counted (O.written out.old) (O.written out.new)
             (Rose (O.faults out.old) (O.faults out.new)) drawn.outcome result }
@@ -102,7 +102,7 @@ impl Press {
         let page = drawn.outcome?;
         write_page(out, &page)?;
         let black = if self.counted { page.count() } else { 0 };
-        let _noted = self.spare.push(page);
+        let _noted = self.written_pages.push(page);
         Ok(black)
     }
 

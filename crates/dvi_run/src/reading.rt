@@ -2,14 +2,14 @@
 ghost use Rattle.std.specs.Prelude.{◌≡◌, ◌+◌, ◌<◌, ◌≤◌, IfOk, IsErr, IsErrOf, OnOk, drop, length, take};
 ghost use Rattle.std.specs.Io.KnownBytes.{Consumes, IsAtEnd, ReadConsumes};
 ghost use Rattle.outside.specs.Counts.{HasCause};
-ghost use Rattle.dvi_run.specs.Reading.{IsRead, most_read};
+ghost use Rattle.dvi_run.specs.Reading.{IsRead, MAX_READ};
 ghost use Rattle.dvi_run.specs.declared.reading.ReadStop.TheVariants.{Failed as HasFailed, NoMemory};
 
 use outside::{Failed, Input};
 use std::alloc::{AllocError, Global};
 
 // One byte more than a document may have.
-const LONGEST_INPUT_READ: usize = 67_108_865;
+const MAX_INPUT_READ: usize = 67_108_865;
 
 // How much room a first read has, in bytes.
 const PIECE: usize = 65_536;
@@ -51,14 +51,14 @@ fn read_after<I: Input>(input: &mut I, bytes: &mut [u8], len: usize) -> Result<u
 // Makes room after the first `len` bytes: twice as much as is used.
 fn make_room(bytes: &mut Vec<u8>, len: usize) -> Result<(), AllocError>
     requires inside { len ≤ length bytes.old.items }
-    requires few { length bytes.old.items ≤ most_read }
-    requires below { len < most_read }
+    requires few { length bytes.old.items ≤ MAX_READ }
+    requires below { len < MAX_READ }
     ensures kept { take len bytes.new.items ≡ take len bytes.old.items }
-    ensures few { length bytes.new.items ≤ most_read }
+    ensures few { length bytes.new.items ≤ MAX_READ }
     ensures room { OnOk result (len < length bytes.new.items) }
 {
     if bytes.len() == len {
-        bytes.resize((2 * len).max(PIECE).min(LONGEST_INPUT_READ), 0u8)?;
+        bytes.resize((2 * len).max(PIECE).min(MAX_INPUT_READ), 0u8)?;
     }
     Ok(())
 }
@@ -66,10 +66,10 @@ fn make_room(bytes: &mut Vec<u8>, len: usize) -> Result<(), AllocError>
 // Reads more after the first `len` bytes.
 fn read_more<I: Input>(input: &mut I, bytes: &mut Vec<u8>, len: usize) -> Result<usize, ReadStop>
     requires inside { len ≤ length bytes.old.items }
-    requires few { length bytes.old.items ≤ most_read }
-    requires below { len < most_read }
+    requires few { length bytes.old.items ≤ MAX_READ }
+    requires below { len < MAX_READ }
     ensures kept { take len bytes.new.items ≡ take len bytes.old.items }
-    ensures few { length bytes.new.items ≤ most_read }
+    ensures few { length bytes.new.items ≤ MAX_READ }
     ensures bound { IfOk result (λ n. len + n ≤ length bytes.new.items) }
     ensures bytes { IfOk result (λ n. Consumes (I.left input.old) (I.left input.new)
         (take n (drop len bytes.new.items)) × (n ≡ 0 → IsAtEnd (I.left input.new))) }
@@ -89,7 +89,7 @@ pub fn read_all<I: Input>(alloc: Global, input: &mut I) -> Result<Vec<u8>, ReadS
 {
     let mut bytes = Vec::new(alloc);
     let mut len: usize = 0;
-    while len < LONGEST_INPUT_READ {
+    while len < MAX_INPUT_READ {
         let n = read_more(input, &mut bytes, len)?;
         if n == 0 {
             bytes.truncate(len);

@@ -1,4 +1,4 @@
-//! What a run tells in its notes, as one text.
+//! What a run prints in its notes, as one text.
 ghost use Rattle.std.specs.Prelude.{◌≡◌, ◌≤◌, length, true};
 ghost use Rattle.std.specs.List.{sum_by};
 ghost use Rattle.outside.specs.Streams.{Writes};
@@ -6,9 +6,10 @@ ghost use Rattle.cache_core.specs.Views.{calls_of};
 ghost use Rattle.run_report.specs.Puts.{Puts};
 ghost use Rattle.run_report.specs.Summary.{summary_text};
 ghost use Rattle.run_report.specs.Trace.{trace_text};
-ghost use Rattle.dvi_run.specs.Endings.{IsTold, seen_ending, status_of, with_notes};
+ghost use Rattle.dvi_run.specs.Endings.{IsPrinted, value_of_ending, status_of, with_notes};
 ghost use Rattle.dvi_run.specs.Lines.{line_of};
-ghost use Rattle.dvi_run.specs.Report.{counts_of, if_asked, report_text, told_text};
+ghost use Rattle.dvi_run.specs.Report.{counts_of, if_asked, report_text, trace_and_summary};
+ghost use Rattle.page_workers.specs.Limits.{MAX_WORKERS};
 
 use crate::ending::Ending;
 use crate::note::put_end;
@@ -21,7 +22,7 @@ use run_report::{Counts, put_summary, put_trace};
 
 /// How many loads were asked of the sources of these workers, all of them together.
 pub fn loads_asked<F: FontSource>(workers: &[Worker<F>]) -> u128
-    requires few { length workers.now ≤ 32 }
+    requires few { length workers.now ≤ MAX_WORKERS }
     ensures { result ≡ sum_by (λ w. w.loads) workers.now }
 {
     let mut loads: u128 = 0;
@@ -66,7 +67,7 @@ fn put_counts<N: Output>(
 }
 
 // Puts the trace and the summary, as far as they are asked for.
-fn put_told<N: Output>(
+fn put_trace_and_summary<N: Output>(
     gather: &mut Gather,
     notes: &mut N,
     settings: &Settings,
@@ -76,13 +77,13 @@ fn put_told<N: Output>(
 )
     ensures { Puts gather.old gather.new (N.written notes.old) (N.written notes.new)
         (N.faults notes.old) (N.faults notes.new)
-        (told_text settings.now tally.now loads (calls_of history.now)) }
+        (trace_and_summary settings.now tally.now loads (calls_of history.now)) }
 {
     put_lines(gather, notes, settings.trace, history);
     put_counts(gather, notes, settings.summary, tally, loads, history);
 }
 
-// Puts all that a run tells as it ends.
+// Puts the whole report of a run that ends.
 fn put_report<N: Output>(
     gather: &mut Gather,
     notes: &mut N,
@@ -94,19 +95,20 @@ fn put_report<N: Output>(
 )
     ensures { Puts gather.old gather.new (N.written notes.old) (N.written notes.new)
         (N.faults notes.old) (N.faults notes.new)
-        (report_text settings.now tally.now loads (calls_of history.now) (seen_ending ending.now)) }
+        (report_text settings.now tally.now loads (calls_of history.now)
+        (value_of_ending ending.now)) }
 {
     match tally {
         None => put_end(gather, notes, ending),
         Some(tally) => {
-            put_told(gather, notes, settings, tally, loads, history);
+            put_trace_and_summary(gather, notes, settings, tally, loads, history);
             put_end(gather, notes, ending);
         }
     }
 }
 
-/// Prints what a run tells as it ends: the trace and the summary, as far as they are asked for and
-/// a cache was made, and the line of its end.
+/// Prints the report of a run that ends: the trace and the summary, as far as they are asked for
+/// and a cache was made, and the line of its end.
 pub fn print<N: Output>(
     notes: &mut N,
     settings: &Settings,
@@ -117,7 +119,7 @@ pub fn print<N: Output>(
 ) -> Result<(), Failed>
     ensures { Writes (N.written notes.old) (N.written notes.new) (N.faults notes.old)
         (N.faults notes.new) (report_text settings.now tally.now loads (calls_of history.now)
-        (seen_ending ending.now)) result }
+        (value_of_ending ending.now)) result }
 {
     let mut gather = Gather::new();
     put_report(&mut gather, notes, settings, tally, loads, history, ending);
@@ -126,10 +128,10 @@ pub fn print<N: Output>(
 
 /// Prints the line of a run that ends before anything was read, and that line alone. Answers its
 /// status.
-pub fn tell<N: Output>(notes: &mut N, ending: &Ending) -> u8
-    ensures status { result ≡ status_of (with_notes (seen_ending ending.now) true) }
-    ensures told { IsTold (N.written notes.old) (N.written notes.new) (N.faults notes.old)
-        (N.faults notes.new) (line_of (seen_ending ending.now)) }
+pub fn print_line<N: Output>(notes: &mut N, ending: &Ending) -> u8
+    ensures status { result ≡ status_of (with_notes (value_of_ending ending.now) true) }
+    ensures printed { IsPrinted (N.written notes.old) (N.written notes.new) (N.faults notes.old)
+        (N.faults notes.new) (line_of (value_of_ending ending.now)) }
 {
     let mut gather = Gather::new();
     put_end(&mut gather, notes, ending);

@@ -6,16 +6,17 @@ ghost use Rattle.page_index.specs.Document.{pages_begun};
 ghost use Rattle.page_draw.specs.Values.{PageValue};
 ghost use Rattle.page_workers.specs.Rounds.{HasBitmap};
 ghost use Rattle.dvi_run.specs.Pages.{AreValues};
-ghost use Rattle.dvi_run.specs.Endings.{EndsPages, Source, seen_ending};
-ghost use Rattle.dvi_run.specs.Looked.{IsDrawnThrough};
-ghost use Rattle.dvi_run.specs.Shares.{DrewShares};
-ghost use Rattle.dvi_run.specs.Stacks.{AllRested, DrewStack, MayDrawRound, NoCounters, StoppedAhead, WroteUpTo, WroteWhole};
-ghost use Rattle.dvi_run.specs.Tally.{IsTally};
-ghost use Rattle.dvi_run.specs.Rounds.{Ended, FailedAt, MayBegin, Settled, site};
+ghost use Rattle.dvi_run.specs.Endings.{EndsPages, Source, value_of_ending};
+ghost use Rattle.dvi_run.specs.Looked.{EveryPageCameToItsEnd};
+ghost use Rattle.dvi_run.specs.Shares.{WorkersDrew};
+ghost use Rattle.dvi_run.specs.Stacks.{AllDrewNothing, DrewStack, MayDrawRound, NoCounters, StoppedAhead, WroteUpTo, WroteWhole};
+ghost use Rattle.dvi_run.specs.Tally.{TallyMatches};
+ghost use Rattle.dvi_run.specs.Rounds.{AfterRounds, FailedAt, MayBegin, BetweenRounds, site};
+ghost use Rattle.page_workers.specs.Limits.{MAX_WORKERS};
 
 use crate::collecting::collect;
 use crate::ending::Ending;
-use crate::pages::{Press, WriteStop, stopped};
+use crate::pages::{Press, WriteStop, ending_of_stop};
 use crate::tally::Tally;
 use outside::{FontSource, Output};
 use page_workers::{Job, PageRange, PageResult, Worker, draw_round_on};
@@ -47,26 +48,26 @@ fn draw_stack<R: Threads + Wait + Sync, F: FontSource + Send>(
     workers: &mut [Worker<F>],
     job: &Job,
     pages: PageRange,
-    paper: &mut Vec<Page>,
+    spare_pages: &mut Vec<Page>,
 ) -> Result<Vec<PageResult>, NoMemory>
     requires { MayDrawRound F.library job.now.bench.now job.now.index.now pages.first pages.count
         workers.old }
     ensures drawn { IfOk result (λ stack. DrewStack F.library F.faults F.loads job.now.bench.now
         job.now.index.now job.now.sheet.now pages.first pages.count workers.old workers.new
         stack.items) }
-    ensures refused { OnErr result (AllRested workers.old workers.new) }
+    ensures refused { OnErr result (AllDrewNothing workers.old workers.new) }
     ensures no_counter { NoCounters workers.new }
 {
     let _few = job.index.pages();
     let mut stack = Vec::with_capacity(alloc, pages.count)?;
-    draw_round_on(rt, alloc, workers, job, pages, paper)?;
+    draw_round_on(rt, alloc, workers, job, pages, spare_pages)?;
     collect(workers, pages.first, pages.count, &mut stack);
     Ok(stack)
 }
 
 // Draws a round on the memory of spare pages, and writes the pages of another one in the meantime,
-// which are spare then.
-fn draw_beside<R: Threads + Wait + Sync, F: FontSource + Send, O: Output>(
+// whose memory is then for other pages.
+fn draw_while_writing<R: Threads + Wait + Sync, F: FontSource + Send, O: Output>(
     rt: &R,
     alloc: Global,
     workers: &mut [Worker<F>],
@@ -80,7 +81,7 @@ fn draw_beside<R: Threads + Wait + Sync, F: FontSource + Send, O: Output>(
     ensures drawn { IfOk result.0 (λ later. DrewStack F.library F.faults F.loads job.now.bench.now
         job.now.index.now job.now.sheet.now pages.first pages.count workers.old workers.new
         later.items) }
-    ensures refused { OnErr result.0 (AllRested workers.old workers.new) }
+    ensures refused { OnErr result.0 (AllDrewNothing workers.old workers.new) }
     ensures no_counter { NoCounters workers.new }
     ensures written { OnOk result.1 (WroteWhole press.old.counted (O.written out.old)
         (O.written out.new) (reverse press.old.stack.items) press.old.tally press.new.tally) }
@@ -90,7 +91,7 @@ fn draw_beside<R: Threads + Wait + Sync, F: FontSource + Send, O: Output>(
     ensures counted { press.new.counted ≡ press.old.counted }
     ensures output { O.faults out.old ≤ O.faults out.new }
 {
-    let mut paper = mem::replace(&mut press.spare, Vec::new(alloc));
+    let mut spare_pages = mem::replace(&mut press.written_pages, Vec::new(alloc));
     thread::join_mut(
         rt,
         &mut ||
@@ -99,9 +100,9 @@ fn draw_beside<R: Threads + Wait + Sync, F: FontSource + Send, O: Output>(
             ensures drawn { IfOk result (λ later. DrewStack F.library F.faults F.loads
                 job.entry.now.bench.now job.entry.now.index.now job.entry.now.sheet.now
                 pages.first pages.count workers.entry.now workers.exit.now later.items) }
-            ensures refused { OnErr result (AllRested workers.entry.now workers.exit.now) }
+            ensures refused { OnErr result (AllDrewNothing workers.entry.now workers.exit.now) }
             ensures no_counter { NoCounters workers.exit.now }
-        { draw_stack(rt, alloc, workers, job, pages, &mut paper) },
+        { draw_stack(rt, alloc, workers, job, pages, &mut spare_pages) },
         &mut || press.write_stack(out),
     )
 }
@@ -110,8 +111,8 @@ fn draw_beside<R: Threads + Wait + Sync, F: FontSource + Send, O: Output>(
 // workers, so that the output doesn't make them wait. What the writing came to decides first. A
 // round is drawn on the memory of the pages that were written before it is begun: by one worker on
 // that of the page before, by several on that of the round before the last. So in memory are at
-// most the round that is drawn, the one that is written, and paper for another one; where each
-// worker draws its share, the pages of two rounds.
+// most the round that is drawn, the one that is written, and spare pages for another one; where
+// each worker draws its share, the pages of two rounds.
 fn write_and_draw<R: Threads + Wait + Sync, F: FontSource + Send, O: Output>(
     rt: &R,
     alloc: Global,
@@ -140,9 +141,9 @@ fn write_and_draw<R: Threads + Wait + Sync, F: FontSource + Send, O: Output>(
 {
     if workers.len() == 1 {
         press.write_stack(out)?;
-        return Ok(draw_stack(rt, alloc, workers, job, pages, &mut press.spare)?);
+        return Ok(draw_stack(rt, alloc, workers, job, pages, &mut press.written_pages)?);
     }
-    let (drawn, written) = draw_beside(rt, alloc, workers, job, pages, press, out);
+    let (drawn, written) = draw_while_writing(rt, alloc, workers, job, pages, press, out);
     written?;
     Ok(drawn?)
 }
@@ -166,35 +167,35 @@ pub fn write_rounds<R: Threads + Wait + Sync, F: FontSource + Send, O: Output>(
     out: &mut O,
     counted: bool,
 ) -> (Ending, Tally)
-    ghost told: { Option FileTable }
+    ghost known: { Option FileTable }
     requires some { 1 ≤ length workers.old }
-    requires few { length workers.old ≤ 32 }
+    requires few { length workers.old ≤ MAX_WORKERS }
     requires ready { (k : ℕ) (d : _) → k < length workers.old
-        → MayBegin (site F.library F.faults F.loads job.now.bench.now told job.now.index.now
+        → MayBegin (site F.library F.faults F.loads job.now.bench.now known job.now.index.now
         job.now.sheet.now)
         (slice_index_or workers.old k d) }
     ensures ends { (values : List PageValue)
         × AreValues
-        (record { library = told; res = job.now.index.now.res; sheet = job.now.sheet.now })
+        (record { library = known; res = job.now.index.now.res; sheet = job.now.sheet.now })
         job.now.index.now.reading values
         × EndsPages (O.written out.old) (O.written out.new)
         (Rose (O.faults out.old) (O.faults out.new))
-        (Unit {0}) (seen_ending result.0) job.now.index.now.reading values
-        × IsTally counted (O.written out.old) (O.written out.new) result.1 (seen_ending result.0)
-        values }
-    ensures whole { IsDrawnThrough (length workers.old) (seen_ending result.0) → (k : ℕ) (d : _)
-        → k < length workers.old
-        → Settled (site F.library F.faults F.loads job.now.bench.now told job.now.index.now
+        (Unit {0}) (value_of_ending result.0) job.now.index.now.reading values
+        × TallyMatches counted (O.written out.old) (O.written out.new) result.1
+        (value_of_ending result.0) values }
+    ensures whole { EveryPageCameToItsEnd (length workers.old) (value_of_ending result.0)
+        → (k : ℕ) (d : _) → k < length workers.old
+        → BetweenRounds (site F.library F.faults F.loads job.now.bench.now known job.now.index.now
         job.now.sheet.now)
         (slice_index_or workers.old k d) (slice_index_or workers.new k d) }
-    ensures cause { (page : ℕ) → seen_ending result.0 ≡ Source page
+    ensures cause { (page : ℕ) → value_of_ending result.0 ≡ Source page
         → (k : ℕ) × (k < length workers.old)
         × ((d : _) → FailedAt F.faults page (slice_index_or workers.old k d)
         (slice_index_or workers.new k d)) }
-    ensures shares { DrewShares (pages_begun job.now.index.now.reading) (length workers.old)
-        (seen_ending result.0) (Some result.1) workers.new }
+    ensures shares { WorkersDrew (pages_begun job.now.index.now.reading) (length workers.old)
+        (value_of_ending result.0) (Some result.1) workers.new }
     ensures workers { (k : ℕ) (d : _) → k < length workers.old
-        → Ended (site F.library F.faults F.loads job.now.bench.now told job.now.index.now
+        → AfterRounds (site F.library F.faults F.loads job.now.bench.now known job.now.index.now
         job.now.sheet.now)
         (slice_index_or workers.old k d) (slice_index_or workers.new k d) }
     ensures output { O.faults out.old ≤ O.faults out.new }
@@ -205,7 +206,7 @@ pub fn write_rounds<R: Threads + Wait + Sync, F: FontSource + Send, O: Output>(
         stack: Vec::new(alloc),
         tally: Tally { pages: 0, black: 0 },
         counted,
-        spare: Vec::new(alloc),
+        written_pages: Vec::new(alloc),
     };
     let mut first = 0;
     while first < pages && have_bitmaps(&press.stack) {
@@ -213,12 +214,12 @@ pub fn write_rounds<R: Threads + Wait + Sync, F: FontSource + Send, O: Output>(
         let range = PageRange { first, count };
         match write_and_draw(rt, alloc, workers, job, range, &mut press, out) {
             Ok(later) => press.stack = later,
-            Err(stop) => return (stopped(press.tally.pages, stop), press.tally),
+            Err(stop) => return (ending_of_stop(press.tally.pages, stop), press.tally),
         }
         first += count;
     }
     match press.write_stack(out) {
         Ok(()) => (Ending::Written, press.tally),
-        Err(stop) => (stopped(press.tally.pages, stop), press.tally),
+        Err(stop) => (ending_of_stop(press.tally.pages, stop), press.tally),
     }
 }

@@ -5,12 +5,13 @@ ghost use Rattle.cache_core.specs.Views.{calls_of};
 ghost use Rattle.command_line.specs.Line.{settings_of};
 ghost use Rattle.command_line.specs.Settings.{AreSettings};
 ghost use Rattle.dvi_run.specs.Outside.{change_of};
-ghost use Rattle.dvi_run.specs.Together.{IsReady};
+ghost use Rattle.dvi_run.specs.Together.{IsReadyWorker};
 ghost use Rattle.dvi_run.specs.Promises.{ForSettings, KeepsPromises, NoCountFalls, WasRefused};
+ghost use Rattle.page_workers.specs.Limits.{MAX_WORKERS};
 
 use crate::ending::Ending;
 use crate::laws::runs;
-use crate::report::{loads_asked, print, tell};
+use crate::report::{loads_asked, print, print_line};
 use crate::sampled::draw_asked;
 use cache_core::Entry;
 use command_line::laws::given_settings;
@@ -23,47 +24,49 @@ use std::thread::Threads;
 
 /// Reads a DVI document from `input`, draws its pages by `workers`, each with the fonts of its
 /// source, and writes them to `out` in the order of the file, each as a PBM bitmap, as soon as it
-/// and all before it are whole. `settings` name the resolution, the sheet, how many workers are
-/// used, from the first on, how many fonts their cache keeps, and what `notes` are told beside the
-/// end. The answer is an exit status, and every other than 0 and 8 prints one line to `notes`.
+/// and all before it are whole. `settings` give the resolution, the sheet, how many workers are
+/// used (the first ones), how many fonts their cache keeps, and what is printed to `notes` besides
+/// the line of the end. The answer is an exit status; with each but 0 and 8 a line is printed to
+/// `notes`.
 ///
-/// The input is read to its end or, where it is longer than a document may be (67,108,864 bytes),
-/// to one byte more; it may fail (6). What is no document has a first fault, which the line names
-/// with its byte (2). Then the pages are drawn in rounds, of one page where one worker is used and
-/// else of 32, and a round is written while the next one is drawn, which is begun only where each
-/// page before it has a bitmap. The first that has none ends the run, whatever came of the pages
-/// after it: with 4 where a font that it uses is at fault, whose name, size and design size the
-/// line gives with what is wrong with its files; with 3 where a font isn't defined, none is
-/// current, or a character isn't in its font, where a page has more than 2^24 commands, or where
-/// one of its commands leads the pen too far, restores registers where none are saved, or saves
-/// them where 1000 are, or its end finds some saved. The line names the page, counted from 1, and
+/// The input is read to its end, or to one byte more than a document may have (67,108,864 bytes);
+/// it may fail (6). Bytes that aren't a document have a first fault, which the line names with its
+/// position (2). Then the pages are drawn in rounds, of one page where one worker is used and else
+/// of 32. A round is written while the next one is drawn, which is begun only where each page
+/// before it has a bitmap. The first page without a bitmap ends the run, whatever came of the pages
+/// after it: with 4 where a font that it uses has a fault, and the line then gives the font's name,
+/// size and design size and what is wrong with its files; with 3 where a font isn't defined, no
+/// font is current, a character isn't in its font, the page has more than 2^24 commands, a command
+/// leads the pen too far, restores registers where none are saved or saves them where 1000 are
+/// saved already, or the page ends with some saved. The line names the page, counted from 1, and
 /// the command's position in the file. A source that fails to load a font ends the run too (5), and
-/// so does a failed write (7), before which the output took the pages before whole, and a prefix of
-/// the page that the line names. Memory may run out in place of any answer (9); no page is then
-/// written in part.
+/// so does a failed write (7): the output then took the pages before the one that the line names,
+/// whole, and a prefix of that one. In place of any of these the answer may be that memory ran out
+/// (9); no page is then written in part.
 ///
-/// At the end the notes are told, piece by piece: with `trace` a line for each call of the cache,
-/// in their order; with `summary` nine lines of counts, of the pages written whole, the calls of
-/// each kind, the loads asked of the used sources, and the black pixels of the pages written whole;
-/// and then the line of the end, which stands alone where the run ended before a cache was made.
-/// Notes that fail decide only between 0 and 8: all pages were written, and the notes took all of
-/// this, or they failed and took a prefix of it.
+/// At the end the report is written to the notes, piece by piece: with `trace` a line for each call
+/// of the cache, in their order; with `summary` nine lines of counts, of the pages written whole,
+/// the calls of each kind, the loads asked of the used sources, and the black pixels of the pages
+/// written whole; and then the line of the end, which is alone where the run ended before a cache
+/// was made. Notes that fail decide only between 0 and 8, where all pages were written: at 0 the
+/// notes took all of this, and at 8 they failed and took a prefix of it.
 ///
-/// `history` is empty when handed in, and is then the list of the cache's calls, in order: those of
-/// worker k, counted from 1, bear the number k. The list stays empty where no page was begun. Any
-/// worker may draw any page: its `pages`, which count from 0, are those that it drew, in rising
-/// order, and all used workers' together are the first n, each once. A worker that is used
-/// has neither a seat nor results when handed in, and its counts are those of no work.
+/// `history` is empty when handed in. Afterwards it is the list of the cache's calls, in order,
+/// where those of worker k, counted from 1, have the number k. The list stays empty where no page
+/// was begun. Any worker may draw any page: its `pages`, counted from 0, are those that it drew, in
+/// rising order, and those of all used workers together are the first n, each once. A worker that
+/// is used has neither a seat nor results when handed in, and has drawn and loaded nothing.
 ///
 /// With `sample` the run makes the document and its font files itself, as `sample_maker::sample`
 /// says, and draws them over workers of its own, as many as are used: `input` isn't read, and no
 /// file is loaded from the sources of `workers`. What its own worker k drew and how often it loaded
-/// are handed to worker k, and all else is as above, but that the run never ends with 2, 5 or 6.
+/// are handed to worker k of the call. All else is as above, except that the run never ends with 2,
+/// 5 or 6.
 ///
 /// Knuth, DVItype, "Device-independent file format" and "Translation to symbolic form"; Netpbm, the
-/// raw form of PBM. Clauses on bytes hold where the input, the output or the notes tell theirs, and
-/// what they say of fonts holds for the files `told`, which the source of each used worker tells.
-/// The sample is told always.
+/// raw form of PBM. Clauses on bytes hold where the contents of the input, the output or the notes
+/// are known, and what they say of fonts holds for the files `told`, where the source of each used
+/// worker is known to have these. The sample and its files are always known.
 pub fn run_with<R: Threads + Wait + Sync, I: Input, F: FontSource + Send, O: Output, N: Output>(
     rt: &R,
     alloc: Global,
@@ -78,13 +81,13 @@ pub fn run_with<R: Threads + Wait + Sync, I: Input, F: FontSource + Send, O: Out
     requires settings { AreSettings settings.now }
     requires there { settings.now.workers ≤ length workers.old }
     requires ready { (k : ℕ) (d : _) → k < settings.now.workers
-        → IsReady F.library told (slice_index_or workers.old k d) }
+        → IsReadyWorker F.library told (slice_index_or workers.old k d) }
     requires empty { history.old.items ≡ [] }
 
     // Why it ended so, what was read, written and noted, what each worker drew and loaded, and the
     // calls of the cache.
     ensures promises { KeepsPromises (record {
-      task = record { settings = settings.now; told = told };
+      task = record { settings = settings.now; known = told };
       streams = record {
         input = change_of I.left I.faults input.old input.new;
         output = change_of O.written O.faults out.old out.new;
@@ -103,7 +106,8 @@ pub fn run_with<R: Threads + Wait + Sync, I: Input, F: FontSource + Send, O: Out
       notes = change_of N.written N.faults notes.old notes.new;
     }) }
 {
-    // Bytes that have a fault are no document, and a document's pages have one value each.
+    // For the proof: bytes that have a fault are no document, and a document's pages have one value
+    // each.
     runs();
     let (ending, tally) = draw_asked(rt, alloc, settings, input, workers, out, history);
     let loads = loads_asked(&workers[..settings.workers as usize]);
@@ -112,9 +116,9 @@ pub fn run_with<R: Threads + Wait + Sync, I: Input, F: FontSource + Send, O: Out
 }
 
 /// What the program does: `run_with` with the settings that `words`, the arguments after the
-/// program's name, give where there are n workers, as `line` says. Where they give none it is
-/// a fault of usage (1), or memory runs out (9): then nothing is read, loaded or written, and the
-/// notes have the line alone. Want of memory may come also while a good line is read.
+/// program's name, give where there are n workers, as `line` says. Where they give none, the status
+/// is 1 (usage), or 9 where memory runs out: then nothing is read, loaded or written, and the notes
+/// have the line alone. Memory may also run out while good arguments are read.
 pub fn dvipbm_run<R: Threads + Wait + Sync, I: Input, F: FontSource + Send, O: Output, N: Output>(
     rt: &R,
     alloc: Global,
@@ -127,12 +131,12 @@ pub fn dvipbm_run<R: Threads + Wait + Sync, I: Input, F: FontSource + Send, O: O
 ) -> u8
     ghost told: { Option FileTable }
     requires some { 1 ≤ length workers.old }
-    requires few { length workers.old ≤ 32 }
+    requires few { length workers.old ≤ MAX_WORKERS }
     requires ready { (k : ℕ) (d : _) → k < length workers.old
-        → IsReady F.library told (slice_index_or workers.old k d) }
+        → IsReadyWorker F.library told (slice_index_or workers.old k d) }
     requires empty { history.old.items ≡ [] }
 
-    // 1: exactly where the words give no settings, but for want of memory. Nothing was read, loaded
+    // 1: exactly where the words give no settings, unless memory runs out. Nothing was read, loaded
     // or written.
     ensures usage { result ≡ 1
         → settings_of (length workers.old) (map string_bytes words.now) ≡ None }
@@ -147,7 +151,7 @@ pub fn dvipbm_run<R: Threads + Wait + Sync, I: Input, F: FontSource + Send, O: O
     // Else what `run_with` promises for the settings that they give.
     ensures promises { ForSettings (settings_of (length workers.old) (map string_bytes words.now))
         (λ s. KeepsPromises (record {
-          task = record { settings = s; told = told };
+          task = record { settings = s; known = told };
           streams = record {
             input = change_of I.left I.faults input.old input.new;
             output = change_of O.written O.faults out.old out.new;
@@ -166,11 +170,11 @@ pub fn dvipbm_run<R: Threads + Wait + Sync, I: Input, F: FontSource + Send, O: O
       notes = change_of N.written N.faults notes.old notes.new;
     }) }
 {
-    // Settings that words give are within their limits.
+    // For the proof: settings that words give are within their limits.
     given_settings();
     match line(alloc, words, workers.len()) {
         Ok(settings) => run_with(rt, alloc, &settings, input, workers, out, notes, history),
-        Err(LineStop::Usage) => tell(notes, &Ending::Usage),
-        Err(LineStop::NoMemory) => tell(notes, &Ending::Memory),
+        Err(LineStop::Usage) => print_line(notes, &Ending::Usage),
+        Err(LineStop::NoMemory) => print_line(notes, &Ending::Memory),
     }
 }

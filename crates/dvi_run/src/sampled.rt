@@ -5,15 +5,15 @@ ghost use Rattle.outside.specs.Library.{FileTable};
 ghost use Rattle.cache_core.specs.Views.{calls_of};
 ghost use Rattle.command_line.specs.Settings.{AreSettings};
 ghost use Rattle.sample_maker.specs.Sample.{sample_document, sample_files};
-ghost use Rattle.dvi_run.specs.Reading.{OfRead};
-ghost use Rattle.dvi_run.specs.Pages.{setup_by};
-ghost use Rattle.dvi_run.specs.Endings.{IsEnding, seen_ending, status_of};
-ghost use Rattle.dvi_run.specs.Sampled.{FailedTo, UsesTheSample, document_to, setup_to, rest_to};
+ghost use Rattle.dvi_run.specs.Reading.{HoldsOfInput};
+ghost use Rattle.dvi_run.specs.Pages.{setup_with};
+ghost use Rattle.dvi_run.specs.Endings.{IsEnding, value_of_ending, status_of};
+ghost use Rattle.dvi_run.specs.Sampled.{FailedForSettings, UsesTheSample, document_for_settings, setup_for_settings, rest_for_settings};
 ghost use Rattle.dvi_run.specs.Outside.{change_of, task_for_sample};
-ghost use Rattle.dvi_run.specs.Together.{AreDone, DrewTogether, IsReady, SomeUsed, SourceRose};
+ghost use Rattle.dvi_run.specs.Together.{WorkersAreDone, PagesMatchHistory, IsReadyWorker, SomeUsed, SourceRose};
 
 use crate::ending::Ending;
-use crate::handing::{hand_all, own_workers};
+use crate::own_workers::{move_results, own_workers};
 use crate::stages::{draw_document, draw_input};
 use crate::tally::Tally;
 use cache_core::Entry;
@@ -38,40 +38,40 @@ fn draw_sample<R: Threads + Wait + Sync, F: FontSource + Send, O: Output>(
     out: &mut O,
     history: &mut Vec<Entry>,
 ) -> (Ending, Option<Tally>)
-    ghost told: { Option FileTable }
+    ghost known: { Option FileTable }
     requires settings { AreSettings settings.now }
     requires some { 1 ≤ pages }
     requires few { pages ≤ 1000 }
     requires there { settings.now.workers ≤ length workers.old }
     requires ready { (k : ℕ) (d : _) → k < settings.now.workers
-        → IsReady F.library told (slice_index_or workers.old k d) }
+        → IsReadyWorker F.library known (slice_index_or workers.old k d) }
     requires empty { history.old.items ≡ [] }
     ensures ends { IsEnding (O.written out.old) (O.written out.new)
         (Rose (O.faults out.old) (O.faults out.new))
-        ⊥ (out.new ≡ out.old) ⊥ (setup_by (Some sample_files) settings.now)
-        (Some (sample_document pages)) (Some []) (seen_ending result.0) }
-    ensures done { AreDone (task_for_sample (Some pages) told settings.now) (record {
+        ⊥ (out.new ≡ out.old) ⊥ (setup_with (Some sample_files) settings.now)
+        (Some (sample_document pages)) (Some []) (value_of_ending result.0) }
+    ensures done { WorkersAreDone (task_for_sample (Some pages) known settings.now) (record {
       sources = record { library = F.library; faults = F.faults; loads = F.loads };
       output = change_of O.written O.faults out.old out.new;
       before = workers.old;
       after = workers.new;
       history = calls_of history.new.items;
     })
-        (seen_ending result.0) result.1 }
-    ensures drew { OfRead (Some (sample_document pages))
-        (DrewTogether (task_for_sample (Some pages) told settings.now) (record {
+        (value_of_ending result.0) result.1 }
+    ensures drew { HoldsOfInput (Some (sample_document pages))
+        (PagesMatchHistory (task_for_sample (Some pages) known settings.now) (record {
           sources = record { library = F.library; faults = F.faults; loads = F.loads };
           output = change_of O.written O.faults out.old out.new;
           before = workers.old;
           after = workers.new;
           history = calls_of history.new.items;
         })
-        (status_of (seen_ending result.0)) (seen_ending result.0) result.1) }
-    ensures sample { UsesTheSample (status_of (seen_ending result.0)) (Unit {0})
+        (status_of (value_of_ending result.0)) (value_of_ending result.0) result.1) }
+    ensures sample { UsesTheSample (status_of (value_of_ending result.0)) (Unit {0})
         workers.old workers.new }
     ensures output { O.faults out.old ≤ O.faults out.new }
 {
-    // A sample is a document, which has no fault, and fits the limit of one.
+    // For the proof: a sample is a document, which has no fault, and fits the limit of one.
     samples();
     documents();
     let Ok(Sample { document, library }) = sample(alloc, pages) else {
@@ -82,7 +82,7 @@ fn draw_sample<R: Threads + Wait + Sync, F: FontSource + Send, O: Output>(
     };
     let own = made.as_mut_slice();
     let drawn = draw_document(rt, alloc, settings, &document, own, out, history);
-    hand_all(own, workers);
+    move_results(own, workers);
     drawn
 }
 
@@ -97,38 +97,39 @@ pub fn draw_asked<R: Threads + Wait + Sync, I: Input, F: FontSource + Send, O: O
     out: &mut O,
     history: &mut Vec<Entry>,
 ) -> (Ending, Option<Tally>)
-    ghost told: { Option FileTable }
+    ghost known: { Option FileTable }
     requires settings { AreSettings settings.now }
     requires there { settings.now.workers ≤ length workers.old }
     requires ready { (k : ℕ) (d : _) → k < settings.now.workers
-        → IsReady F.library told (slice_index_or workers.old k d) }
+        → IsReadyWorker F.library known (slice_index_or workers.old k d) }
     requires empty { history.old.items ≡ [] }
     ensures ends { IsEnding (O.written out.old) (O.written out.new)
         (Rose (O.faults out.old) (O.faults out.new))
-        (FailedTo settings.now
+        (FailedForSettings settings.now
         (SomeUsed settings.now.workers workers.old workers.new (SourceRose F.faults)))
-        (out.new ≡ out.old) (FailedTo settings.now (Rose (I.faults input.old) (I.faults input.new)))
-        (setup_to told settings.now) (document_to settings.now (I.left input.old))
-        (rest_to settings.now (I.left input.new)) (seen_ending result.0) }
-    ensures done { AreDone (record { settings = settings.now; told = told }) (record {
+        (out.new ≡ out.old) (FailedForSettings settings.now (Rose (I.faults input.old)
+        (I.faults input.new))) (setup_for_settings known settings.now)
+        (document_for_settings settings.now (I.left input.old))
+        (rest_for_settings settings.now (I.left input.new)) (value_of_ending result.0) }
+    ensures done { WorkersAreDone (record { settings = settings.now; known = known }) (record {
       sources = record { library = F.library; faults = F.faults; loads = F.loads };
       output = change_of O.written O.faults out.old out.new;
       before = workers.old;
       after = workers.new;
       history = calls_of history.new.items;
     })
-        (seen_ending result.0) result.1 }
-    ensures drew { OfRead (document_to settings.now (I.left input.old))
-        (DrewTogether (record { settings = settings.now; told = told }) (record {
+        (value_of_ending result.0) result.1 }
+    ensures drew { HoldsOfInput (document_for_settings settings.now (I.left input.old))
+        (PagesMatchHistory (record { settings = settings.now; known = known }) (record {
           sources = record { library = F.library; faults = F.faults; loads = F.loads };
           output = change_of O.written O.faults out.old out.new;
           before = workers.old;
           after = workers.new;
           history = calls_of history.new.items;
         })
-        (status_of (seen_ending result.0)) (seen_ending result.0) result.1) }
+        (status_of (value_of_ending result.0)) (value_of_ending result.0) result.1) }
     ensures sample { IfSome settings.now.sample (λ pages.
-        UsesTheSample (status_of (seen_ending result.0)) (input.new ≡ input.old) workers.old
+        UsesTheSample (status_of (value_of_ending result.0)) (input.new ≡ input.old) workers.old
         workers.new) }
     ensures input { I.faults input.old ≤ I.faults input.new }
     ensures output { O.faults out.old ≤ O.faults out.new }

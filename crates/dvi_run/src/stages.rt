@@ -4,15 +4,15 @@ ghost use Rattle.outside.specs.Counts.{Rose};
 ghost use Rattle.outside.specs.Library.{FileTable};
 ghost use Rattle.cache_core.specs.Views.{calls_of};
 ghost use Rattle.command_line.specs.Settings.{AreSettings};
-ghost use Rattle.dvi_run.specs.Reading.{OfRead};
-ghost use Rattle.dvi_run.specs.Pages.{setup_by};
-ghost use Rattle.dvi_run.specs.Endings.{EndsBytes, IsEnding, seen_ending, status_of};
+ghost use Rattle.dvi_run.specs.Reading.{HoldsOfInput};
+ghost use Rattle.dvi_run.specs.Pages.{setup_with};
+ghost use Rattle.dvi_run.specs.Endings.{EndsBytes, IsEnding, value_of_ending, status_of};
 ghost use Rattle.dvi_run.specs.Outside.{change_of, task_for_sample};
-ghost use Rattle.dvi_run.specs.Together.{AreDone, DrewPages, DrewTogether, IsReady, RestIsKept, SomeUsed, SourceRose};
+ghost use Rattle.dvi_run.specs.Together.{WorkersAreDone, DrewDocument, PagesMatchHistory, IsReadyWorker, RestIsKept, SomeUsed, SourceRose};
 
-use crate::at_once::draw_at_once;
 use crate::ending::Ending;
 use crate::reading::{ReadStop, read_all};
+use crate::shared_cache::draw_with_shared_cache;
 use crate::tally::Tally;
 use cache_core::Entry;
 use cache_core::laws::solo;
@@ -36,25 +36,26 @@ fn draw_pages<R: Threads + Wait + Sync, F: FontSource + Send, O: Output>(
     out: &mut O,
     history: &mut Vec<Entry>,
 ) -> (Ending, Option<Tally>)
-    ghost told: { Option FileTable }
+    ghost known: { Option FileTable }
     requires settings { AreSettings settings.now }
     requires there { settings.now.workers ≤ length workers.old }
     requires ready { (k : ℕ) (d : _) → k < settings.now.workers
-        → IsReady F.library told (slice_index_or workers.old k d) }
+        → IsReadyWorker F.library known (slice_index_or workers.old k d) }
     requires empty { history.old.items ≡ [] }
     requires resolution { index.now.res ≡ settings.now.res }
-    ensures drew { DrewPages (task_for_sample None told settings.now) index.now.reading (record {
-      sources = record { library = F.library; faults = F.faults; loads = F.loads };
-      output = change_of O.written O.faults out.old out.new;
-      before = workers.old;
-      after = workers.new;
-      history = calls_of history.new.items;
-    })
-        (seen_ending result.0) result.1 }
+    ensures drew { DrewDocument (task_for_sample None known settings.now) index.now.reading
+        (record {
+          sources = record { library = F.library; faults = F.faults; loads = F.loads };
+          output = change_of O.written O.faults out.old out.new;
+          before = workers.old;
+          after = workers.new;
+          history = calls_of history.new.items;
+        })
+        (value_of_ending result.0) result.1 }
     ensures rest { RestIsKept settings.now.workers workers.old workers.new }
     ensures output { O.faults out.old ≤ O.faults out.new }
 {
-    draw_at_once(
+    draw_with_shared_cache(
         rt,
         alloc,
         settings,
@@ -75,36 +76,37 @@ pub fn draw_document<R: Threads + Wait + Sync, F: FontSource + Send, O: Output>(
     out: &mut O,
     history: &mut Vec<Entry>,
 ) -> (Ending, Option<Tally>)
-    ghost told: { Option FileTable }
+    ghost known: { Option FileTable }
     requires settings { AreSettings settings.now }
     requires there { settings.now.workers ≤ length workers.old }
     requires ready { (k : ℕ) (d : _) → k < settings.now.workers
-        → IsReady F.library told (slice_index_or workers.old k d) }
+        → IsReadyWorker F.library known (slice_index_or workers.old k d) }
     requires empty { history.old.items ≡ [] }
     ensures ends { EndsBytes (O.written out.old) (O.written out.new)
         (Rose (O.faults out.old) (O.faults out.new))
         (SomeUsed settings.now.workers workers.old workers.new (SourceRose F.faults))
         (out.new ≡ out.old)
-        (setup_by told settings.now) bytes.now (seen_ending result.0) }
-    ensures done { AreDone (task_for_sample None told settings.now) (record {
+        (setup_with known settings.now) bytes.now (value_of_ending result.0) }
+    ensures done { WorkersAreDone (task_for_sample None known settings.now) (record {
       sources = record { library = F.library; faults = F.faults; loads = F.loads };
       output = change_of O.written O.faults out.old out.new;
       before = workers.old;
       after = workers.new;
       history = calls_of history.new.items;
     })
-        (seen_ending result.0) result.1 }
-    ensures drew { DrewTogether (task_for_sample None told settings.now) (record {
+        (value_of_ending result.0) result.1 }
+    ensures drew { PagesMatchHistory (task_for_sample None known settings.now) (record {
       sources = record { library = F.library; faults = F.faults; loads = F.loads };
       output = change_of O.written O.faults out.old out.new;
       before = workers.old;
       after = workers.new;
       history = calls_of history.new.items;
     })
-        (status_of (seen_ending result.0)) (seen_ending result.0) result.1 bytes.now }
+        (status_of (value_of_ending result.0)) (value_of_ending result.0) result.1 bytes.now }
     ensures output { O.faults out.old ≤ O.faults out.new }
 {
-    // Where one worker is used its calls are the history, and the keys that it asked for tell them.
+    // For the proof: where one worker is used its calls are the history, and the keys that it asked
+    // for determine them.
     own_calls();
     solo();
     match Index::read(alloc, bytes, settings.res) {
@@ -124,35 +126,35 @@ pub fn draw_input<R: Threads + Wait + Sync, I: Input, F: FontSource + Send, O: O
     out: &mut O,
     history: &mut Vec<Entry>,
 ) -> (Ending, Option<Tally>)
-    ghost told: { Option FileTable }
+    ghost known: { Option FileTable }
     requires settings { AreSettings settings.now }
     requires there { settings.now.workers ≤ length workers.old }
     requires ready { (k : ℕ) (d : _) → k < settings.now.workers
-        → IsReady F.library told (slice_index_or workers.old k d) }
+        → IsReadyWorker F.library known (slice_index_or workers.old k d) }
     requires empty { history.old.items ≡ [] }
     ensures ends { IsEnding (O.written out.old) (O.written out.new)
         (Rose (O.faults out.old) (O.faults out.new))
         (SomeUsed settings.now.workers workers.old workers.new (SourceRose F.faults))
         (out.new ≡ out.old)
-        (Rose (I.faults input.old) (I.faults input.new)) (setup_by told settings.now)
-        (I.left input.old) (I.left input.new) (seen_ending result.0) }
-    ensures done { AreDone (task_for_sample None told settings.now) (record {
+        (Rose (I.faults input.old) (I.faults input.new)) (setup_with known settings.now)
+        (I.left input.old) (I.left input.new) (value_of_ending result.0) }
+    ensures done { WorkersAreDone (task_for_sample None known settings.now) (record {
       sources = record { library = F.library; faults = F.faults; loads = F.loads };
       output = change_of O.written O.faults out.old out.new;
       before = workers.old;
       after = workers.new;
       history = calls_of history.new.items;
     })
-        (seen_ending result.0) result.1 }
-    ensures drew { OfRead (I.left input.old) (DrewTogether (task_for_sample None told settings.now)
-        (record {
+        (value_of_ending result.0) result.1 }
+    ensures drew { HoldsOfInput (I.left input.old) (PagesMatchHistory
+        (task_for_sample None known settings.now) (record {
           sources = record { library = F.library; faults = F.faults; loads = F.loads };
           output = change_of O.written O.faults out.old out.new;
           before = workers.old;
           after = workers.new;
           history = calls_of history.new.items;
         })
-        (status_of (seen_ending result.0)) (seen_ending result.0) result.1) }
+        (status_of (value_of_ending result.0)) (value_of_ending result.0) result.1) }
     ensures input { I.faults input.old ≤ I.faults input.new }
     ensures output { O.faults out.old ≤ O.faults out.new }
 {

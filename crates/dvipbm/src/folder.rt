@@ -1,4 +1,5 @@
-//! A folder of font files as a source of fonts. It tells no files, and counts each error.
+//! A folder of font files as a source of fonts. Of its files nothing is known, and it hands out no
+//! failure that it hasn't counted.
 ghost use Rattle.std.specs.Prelude.{◌≡◌, ◌<◌, ◌^◌};
 
 use outside::{FileName, FontSource, LoadStop};
@@ -9,13 +10,13 @@ use std::rt::Files;
 use std::{fs, str};
 
 // One byte more than a font file may have.
-const LONGEST_FILE_READ: u64 = 8_388_609;
+const MAX_FILE_READ: u64 = 8_388_609;
 
 // How many bytes of a font file are read at once.
 const PIECE: usize = 65_536;
 
-/// A folder of font files. A file that isn't there is none; every other error of a file is a
-/// failure.
+/// A folder of font files. A file that isn't there is answered with `None`; every other error of a
+/// file is a failure.
 #[derive(Drop)]
 pub struct FolderFonts<'a, R> {
     rt: &'a R,
@@ -48,7 +49,7 @@ impl<'a, R: Files> FolderFonts<'a, R> {
     fn open(&self, name: &FileName) -> io::Result<Take<R::File>> {
         let name = str::from_utf8(name.bytes()).map_err(|_| ErrorKind::InvalidInput)?;
         let path = self.folder.join(self.alloc, name)?;
-        Ok(fs::open(self.rt, path)?.take(LONGEST_FILE_READ))
+        Ok(fs::open(self.rt, path)?.take(MAX_FILE_READ))
     }
 
     // The bytes of a file, of a long one more than a font file may have.

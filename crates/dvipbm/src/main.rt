@@ -1,5 +1,5 @@
 //! The program: draws the DVI document on standard input with the fonts of a folder, and writes its
-//! pages as PBM bitmaps on standard output. The folder is named by the environment word
+//! pages as PBM bitmaps on standard output. The folder is named by the environment variable
 //! `DVIPBM_FONTS`; where that isn't set it is the current folder.
 #![tactic(auto)]
 
@@ -18,7 +18,7 @@ use workers::workers_over;
 // Memory runs out for the arguments, for the folder's name or for the workers.
 const NO_MEMORY: u8 = 9;
 
-// The words or the folder's name can't be had. No run ends so.
+// The arguments or the folder's name can't be had. No run ends this way.
 const NO_WORDS: u8 = 10;
 
 // The words after the program's name.

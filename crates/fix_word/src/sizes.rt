@@ -22,7 +22,7 @@ fn weight(z: u32) -> u32
 }
 
 // A size of which only the 23 highest bits are kept.
-fn kept(z: u32) -> u32
+fn kept_size(z: u32) -> u32
     requires { z < 2 ^ 27 }
     ensures kept { result ≡ kept_size z }
     ensures most { result ≤ z }
@@ -40,7 +40,7 @@ pub fn scale(x: i32, z: u32) -> i64
     requires size { z < 2 ^ 27 }
     ensures { result ≡ scale x z }
 {
-    let product = i64::from(x) * i64::from(kept(z));
+    let product = i64::from(x) * i64::from(kept_size(z));
     product.div_euclid(1 << 20)
 }
 

@@ -15,6 +15,7 @@ ghost use Rattle.turn_lock.specs.Histories.{AllMade, OwnsSame};
 ghost use Rattle.turn_lock.specs.Views.{opening_view, split_view, new_view, joined_view};
 ghost use Rattle.turn_lock.specs.Seats.{AllJoined};
 ghost use Rattle.font_cache.specs.Turns.{TookTurn, SawMore, NotedCall, NotedNothing, HitStands, told_of};
+ghost use Rattle.cache_core.specs.Limits.{MAX_CACHED_FONTS};
 
 use cache_core::laws::{histories, own_calls};
 use cache_core::{CacheState, Entry, Evicted, Look, Stands};
@@ -63,7 +64,7 @@ impl<T: Stands> FontCache<T> {
     pub fn make(alloc: Global, capacity: usize) -> Result<(FontCache<T>, CacheSeat<T>), NoMemory>
         ghost part: { Common }
         requires some_font { 1 ≤ capacity }
-        requires few_fonts { capacity ≤ 256 }
+        requires few_fonts { capacity ≤ MAX_CACHED_FONTS }
         requires capacity { capacity ≡ part.capacity }
         ensures lock { IfOk result (λ made. made.1.lock ≡ made.0) }
         ensures seat { IfOk result (λ made. made.1.view ≡ opening_view part) }
@@ -76,7 +77,7 @@ impl<T: Stands> FontCache<T> {
     }
 
     /// Makes one more seat. It has the next number, has seen what seat 0 has, has no calls of its
-    /// own, drew nothing and doesn't have the turn. Seat 0 counts it, and is else as it was.
+    /// own, drew nothing and doesn't have the turn. Seat 0 counts it, and is otherwise as it was.
     pub fn split(&self, first: &mut CacheSeat<T>) -> CacheSeat<T>
         requires lock { first.old.lock ≡ self.now }
         requires first { first.old.view.number ≡ 0 }
@@ -90,9 +91,10 @@ impl<T: Stands> FontCache<T> {
         self.lock.split(first)
     }
 
-    /// Takes another seat in. Seat 0 has then seen the longer of both histories, which goes on from
-    /// both. It has the calls of the other's number that the other had, and of its own number and
-    /// of each number joined before those that it had itself. Both seats have one common part.
+    /// Joins another seat to seat 0. Seat 0 has then seen the longer of both histories, of which
+    /// each of the two is a beginning. Of the other's number it has the calls that the other had,
+    /// and of its own number, and of each number joined before, those that it had itself. Both
+    /// seats have one common part.
     pub fn join(&self, first: &mut CacheSeat<T>, other: CacheSeat<T>)
         requires lock { first.old.lock ≡ self.now }
         requires other_lock { other.lock ≡ self.now }
@@ -113,9 +115,9 @@ impl<T: Stands> FontCache<T> {
     }
 
     /// Looks a key up in one turn, for a seat that holds no claim, and waits for the turn. The
-    /// answer is the machine's after the history that was there, which goes on from what the seat
-    /// had seen: `Hit` with a font that stands for the key in the common part, else `Busy` where
-    /// another seat claims the key, else `Claimed`. `NoMemory` adds no call.
+    /// answer is what the machine answers after the history until then, which continues what the
+    /// seat had seen: `Hit` with a font that stands for the key in the common part, else `Busy`
+    /// where another seat claims the key, else `Claimed`. `NoMemory` adds no call.
     pub fn look<R: Wait>(
         &self,
         rt: &R,
@@ -134,7 +136,7 @@ impl<T: Stands> FontCache<T> {
             seat.old.view.part) }
         ensures refused { OnErr result (NotedNothing seat.old.view seat.new.view) }
     {
-        // What a seat's own calls tell of its claim.
+        // For the proof: what a seat's own calls tell of its claim.
         histories();
         own_calls();
         let mut state = self.lock.take(rt, seat);
@@ -144,10 +146,10 @@ impl<T: Stands> FontCache<T> {
     }
 
     /// Hands in, in one turn, the font of the key that the seat has claimed, which ends the claim;
-    /// waits for the turn. The font stands for the key in the common part. The answer is the key
-    /// whose font left for it. `Err` means that memory ran out: it hands the font back and adds no
-    /// call, so the seat still holds its claim. The font that left is dropped when the turn has
-    /// been handed on.
+    /// waits for the turn. The font stands for the key in the common part. The answer is the key of
+    /// the font that was evicted for it. `Err` means that memory ran out: it hands the font back
+    /// and adds no call, so the seat still holds its claim. The evicted font is dropped after the
+    /// turn was handed on.
     pub fn fill<R: Wait>(
         &self,
         rt: &R,
@@ -169,13 +171,13 @@ impl<T: Stands> FontCache<T> {
         ensures back { IfErr result (λ handed. handed ≡ value) }
         ensures refused { OnErr result (NotedNothing seat.old.view seat.new.view) }
     {
-        // What a seat's own calls tell of its claim.
+        // For the proof: what a seat's own calls tell of its claim.
         histories();
         own_calls();
         let mut state = self.lock.take(rt, seat);
         let filled = state.fill_keeping(seat.number(), key, value);
         self.lock.give(seat, state);
-        // Only now, since this seat may be the last owner of the font that left.
+        // Only now, since this seat may be the last owner of the evicted font.
         key_alone(filled)
     }
 
@@ -191,7 +193,7 @@ impl<T: Stands> FontCache<T> {
         ensures seen { SawMore seat.old.view seat.new.view }
         ensures noted { NotedCall (arc_value key.now) Released seat.old.view seat.new.view }
     {
-        // What a seat's own calls tell of its claim.
+        // For the proof: what a seat's own calls tell of its claim.
         histories();
         own_calls();
         let mut state = self.lock.take(rt, seat);
@@ -201,8 +203,8 @@ impl<T: Stands> FontCache<T> {
 
     /// The whole history, once all other seats were joined and no turn is held: just what seat 0
     /// has seen. It is legal for the capacity of the common part, has no call of a number that
-    /// wasn't made, and claims each key at most once more than its font left and its claims were
-    /// given up together. The fonts are dropped.
+    /// wasn't made, and claims each key at most once more often than its font was evicted and its
+    /// claims were given up together. The fonts are dropped.
     pub fn close(self, first: CacheSeat<T>) -> Vec<Entry>
         requires lock { first.lock ≡ self }
         requires first { first.view.number ≡ 0 }

@@ -9,6 +9,6 @@ pub fn claims()
     ensures last { ClaimsAreLast }
     ensures held { HeldByLast }
 {
-    // A seat's claim in the state is the one that its own calls have left to it.
+    // For the proof: a seat's claim in the state is the one that its own calls have left to it.
     histories();
 }

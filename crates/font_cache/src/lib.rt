@@ -1,6 +1,6 @@
 //! The font cache that seats share: the cache's machine in a turn lock. Each look, fill and release
-//! is one turn, and nothing else is done while the turn is held. What a seat was told is the answer
-//! of the machine after the history that the seat has then seen, which goes on from what it had
+//! is one turn, and nothing else is done while the turn is held. What a seat is answered is what
+//! the machine answers after the history that the seat has then seen, which continues what it had
 //! seen before.
 #![tactic(auto)]
 

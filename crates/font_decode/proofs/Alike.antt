@@ -10,13 +10,13 @@ use Rattle.vf_reader.specs.declared.faults.VfFault.{VfFault}
 use Rattle.vf_reader.proofs.OneMeaning as vf_file
 use Rattle.font_decode.specs.Names.{is_valid_name, dpi, is_resolution}
 use Rattle.font_decode.specs.Files.{FontFiles}
-use Rattle.font_decode.specs.Fonts.{FontSeen, first_in, glyph_at, glyph_in, is_virtual_shape, local_in, packet_in}
+use Rattle.font_decode.specs.Fonts.{FontValue, first_in, glyph_at, glyph_in, is_virtual_shape, local_in, packet_in}
 use Rattle.font_decode.specs.declared.shapes.Shapes.{Shapes}
 use Rattle.font_decode.specs.declared.shapes.Shapes.TheVariants.{Packed, Virtual}
 use Rattle.font_decode.specs.Laws.{OneIsFound, OneOfItsFiles, OneInALibrary}
 use Rattle.font_decode.specs.Decoding.{IsPackedFont, IsVirtualFont, is_too_long, DecodesPk, DecodesShortPk, DecodesPacked, DecodesItems, DecodesVf, DecodesShortVf, DecodesSound, DecodesTfm, IsDecodingOf, AreAlike, AreAlikeFonts}
-use Rattle.font_decode.specs.declared.decoded.Decoded.{Decoded}
-use Rattle.font_decode.specs.declared.decoded.Decoded.TheVariants.{Font, Fault}
+use Rattle.font_decode.specs.declared.font_or_fault.Decoded.{Decoded}
+use Rattle.font_decode.specs.declared.font_or_fault.Decoded.TheVariants.{Font, Fault}
 use Rattle.font_decode.specs.declared.faults.FontFault.{FontFault}
 use Rattle.font_decode.specs.declared.faults.FontFault.TheVariants as fault
 
@@ -57,7 +57,7 @@ no_glyph (Packed glyphs) c virtual = cc
 no_glyph (Virtual file keys) c virtual = refl
 
 -- the fonts of two sound files are alike
-alike_fonts : (k : FontKey) (tfm pk : List ℕ) (f g : FontSeen) → IsPackedFont k tfm pk f → IsPackedFont k tfm pk g → AreAlikeFonts f g
+alike_fonts : (k : FontKey) (tfm pk : List ℕ) (f g : FontValue) → IsPackedFont k tfm pk f → IsPackedFont k tfm pk g → AreAlikeFonts f g
 alike_fonts k tfm pk f g p q = record {
   size = p.size ∙ sym q.size;
   widths = λ c. p.widths c ∙ sym (q.widths c);
@@ -68,7 +68,7 @@ alike_fonts k tfm pk f g p q = record {
   first = no_first f.shapes p.packed ∙ sym (no_first g.shapes q.packed);
 }
 
-alike_virtual : (u : Units) (k : FontKey) (tfm : List ℕ) (items : List (List ℕ)) (f g : FontSeen) → IsVirtualFont u k tfm items f → IsVirtualFont u k tfm items g → AreAlikeFonts f g
+alike_virtual : (u : Units) (k : FontKey) (tfm : List ℕ) (items : List (List ℕ)) (f g : FontValue) → IsVirtualFont u k tfm items f → IsVirtualFont u k tfm items g → AreAlikeFonts f g
 alike_virtual u k tfm items f g p q = record {
   size = p.size ∙ sym q.size;
   widths = λ c. p.widths c ∙ sym (q.widths c);

@@ -55,40 +55,40 @@ until_later a b c xs names p q = record {
   ];
 }
 
--- ---- where a library is told: after the first name, which was answered
+-- ---- where a library is known: after the first name, which was answered
 
 -- the file is there
-pub named_there : {V : Type 0} (seen : V → List ℕ) (told : Option library.FileTable) (x : List ℕ) (rest : List (List ℕ)) (o : Option V) (a b : Names)
-    → IfSome told (λ l. option_map seen o ≡ get l x) → is_some o ≡ true → Asks a b (x ∷ []) → IfSome told (λ l. Asks a b (up_to_there l (x ∷ rest)))
+pub named_there : {V : Type 0} (seen : V → List ℕ) (known : Option library.FileTable) (x : List ℕ) (rest : List (List ℕ)) (o : Option V) (a b : Names)
+    → IfSome known (λ l. option_map seen o ≡ get l x) → is_some o ≡ true → Asks a b (x ∷ []) → IfSome known (λ l. Asks a b (up_to_there l (x ∷ rest)))
 named_there seen None x rest o a b found there p = tt
 named_there seen (Some l) x rest None a b found there p = absurd (cc)
 named_there seen (Some l) x rest (Some v) a b found there p = subst (λ (o : Option (List ℕ)). Asks a b (x ∷ (if is_some o then [] else up_to_there l rest))) found p
 
 -- it isn't, and others are asked for
-pub named_later : {V : Type 0} (seen : V → List ℕ) (told : Option library.FileTable) (x : List ℕ) (rest : List (List ℕ)) (o : Option V) (a b c : Names)
-    → IfSome told (λ l. option_map seen o ≡ get l x) → is_some o ≡ false → Asks a b (x ∷ []) → IfSome told (λ l. Asks b c (up_to_there l rest))
-    → IfSome told (λ l. Asks a c (up_to_there l (x ∷ rest)))
+pub named_later : {V : Type 0} (seen : V → List ℕ) (known : Option library.FileTable) (x : List ℕ) (rest : List (List ℕ)) (o : Option V) (a b c : Names)
+    → IfSome known (λ l. option_map seen o ≡ get l x) → is_some o ≡ false → Asks a b (x ∷ []) → IfSome known (λ l. Asks b c (up_to_there l rest))
+    → IfSome known (λ l. Asks a c (up_to_there l (x ∷ rest)))
 named_later seen None x rest o a b c found gone p q = tt
 named_later seen (Some l) x rest (Some v) a b c found gone p q = absurd (cc)
 named_later seen (Some l) x rest None a b c found gone p q =
     subst (λ (o : Option (List ℕ)). Asks a c (x ∷ (if is_some o then [] else up_to_there l rest))) found (asked_twice a b c (x ∷ []) (up_to_there l rest) p q)
 
 -- and these up to a stop
-pub named_until : {V : Type 0} (seen : V → List ℕ) (told : Option library.FileTable) (x : List ℕ) (rest : List (List ℕ)) (o : Option V) (a b c : Names)
-    → IfSome told (λ l. option_map seen o ≡ get l x) → is_some o ≡ false → Asks a b (x ∷ []) → IfSome told (λ l. AskedUntil b c (up_to_there l rest))
-    → IfSome told (λ l. AskedUntil a c (up_to_there l (x ∷ rest)))
+pub named_until : {V : Type 0} (seen : V → List ℕ) (known : Option library.FileTable) (x : List ℕ) (rest : List (List ℕ)) (o : Option V) (a b c : Names)
+    → IfSome known (λ l. option_map seen o ≡ get l x) → is_some o ≡ false → Asks a b (x ∷ []) → IfSome known (λ l. AskedUntil b c (up_to_there l rest))
+    → IfSome known (λ l. AskedUntil a c (up_to_there l (x ∷ rest)))
 named_until seen None x rest o a b c found gone p q = tt
 named_until seen (Some l) x rest (Some v) a b c found gone p q = absurd (cc)
 named_until seen (Some l) x rest None a b c found gone p q =
     subst (λ (o : Option (List ℕ)). AskedUntil a c (x ∷ (if is_some o then [] else up_to_there l rest))) found (until_later a b c (x ∷ []) (up_to_there l rest) p q)
 
-pub named_until_now : (told : Option library.FileTable) (x : List ℕ) (rest : List (List ℕ)) (a b : Names) → AskedUntil a b (x ∷ []) → IfSome told (λ l. AskedUntil a b (up_to_there l (x ∷ rest)))
+pub named_until_now : (known : Option library.FileTable) (x : List ℕ) (rest : List (List ℕ)) (a b : Names) → AskedUntil a b (x ∷ []) → IfSome known (λ l. AskedUntil a b (up_to_there l (x ∷ rest)))
 named_until_now None x rest a b q = tt
 named_until_now (Some l) x rest a b q = until_now a b x (if is_some (get l x) then [] else up_to_there l rest) q
 
 -- a library that is the same under another name
-pub moved : (told other : Option library.FileTable) (P : library.FileTable → Type 0) → other ≡ told → IfSome other P → IfSome told P
-moved told other P e p = subst (λ (o : Option library.FileTable). IfSome o P) e p
+pub moved : (known other : Option library.FileTable) (P : library.FileTable → Type 0) → other ≡ known → IfSome other P → IfSome known P
+moved known other P e p = subst (λ (o : Option library.FileTable). IfSome o P) e p
 
 -- ---- of a result
 
@@ -249,21 +249,21 @@ looked_third true false true a b c d x y pks e f g p q r = absurd (cc)
 looked_third true false false a b c d x y pks e f g p q r = pks_until a b c d x y pks p q r
 
 module _ {V : Type 0} (seen : V → List ℕ) (u : Units) (k : FontKey) where
-  pub told_first : (told : Option library.FileTable) (a b : Names) → is_valid_name k ≡ true → AskedUntil a b (tfm_name k ∷ []) → IfSome told (λ l. AskedUntil a b (looked_for l u k))
+  pub told_first : (known : Option library.FileTable) (a b : Names) → is_valid_name k ≡ true → AskedUntil a b (tfm_name k ∷ []) → IfSome known (λ l. AskedUntil a b (looked_for l u k))
   told_first None a b v q = tt
   told_first (Some l) a b v q =
       looked_first (is_valid_name k) (is_none (get l (tfm_name k))) (is_some (get l (vf_name k))) a b (tfm_name k) (vf_name k) (up_to_there l (pk_choices u k)) v q
 
-  pub told_second : (told : Option library.FileTable) (tfm : Option V) (a b c : Names) → is_valid_name k ≡ true → is_none tfm ≡ false
-      → IfSome told (λ l. option_map seen tfm ≡ get l (tfm_name k)) → Asks a b (tfm_name k ∷ []) → AskedUntil b c (vf_name k ∷ []) → IfSome told (λ l. AskedUntil a c (looked_for l u k))
+  pub told_second : (known : Option library.FileTable) (tfm : Option V) (a b c : Names) → is_valid_name k ≡ true → is_none tfm ≡ false
+      → IfSome known (λ l. option_map seen tfm ≡ get l (tfm_name k)) → Asks a b (tfm_name k ∷ []) → AskedUntil b c (vf_name k ∷ []) → IfSome known (λ l. AskedUntil a c (looked_for l u k))
   told_second None tfm a b c v f found p q = tt
   told_second (Some l) tfm a b c v f found p q =
       let there : is_none (get l (tfm_name k)) ≡ false = subst (λ (o : Option (List ℕ)). is_none o ≡ false) found (none_of seen tfm false f) in
       looked_second (is_valid_name k) (is_none (get l (tfm_name k))) (is_some (get l (vf_name k))) a b c (tfm_name k) (vf_name k) (up_to_there l (pk_choices u k)) v there p q
 
-  pub told_third : (told : Option library.FileTable) (tfm vf : Option V) (a b c d : Names) → is_valid_name k ≡ true → is_none tfm ≡ false → is_some vf ≡ false
-      → IfSome told (λ l. option_map seen tfm ≡ get l (tfm_name k)) → IfSome told (λ l. option_map seen vf ≡ get l (vf_name k))
-      → Asks a b (tfm_name k ∷ []) → Asks b c (vf_name k ∷ []) → IfSome told (λ l. AskedUntil c d (up_to_there l (pk_choices u k))) → IfSome told (λ l. AskedUntil a d (looked_for l u k))
+  pub told_third : (known : Option library.FileTable) (tfm vf : Option V) (a b c d : Names) → is_valid_name k ≡ true → is_none tfm ≡ false → is_some vf ≡ false
+      → IfSome known (λ l. option_map seen tfm ≡ get l (tfm_name k)) → IfSome known (λ l. option_map seen vf ≡ get l (vf_name k))
+      → Asks a b (tfm_name k ∷ []) → Asks b c (vf_name k ∷ []) → IfSome known (λ l. AskedUntil c d (up_to_there l (pk_choices u k))) → IfSome known (λ l. AskedUntil a d (looked_for l u k))
   told_third None tfm vf a b c d v f g found found_vf p q r = tt
   told_third (Some l) tfm vf a b c d v f g found found_vf p q r =
       let there : is_none (get l (tfm_name k)) ≡ false = subst (λ (o : Option (List ℕ)). is_none o ≡ false) found (none_of seen tfm false f) in

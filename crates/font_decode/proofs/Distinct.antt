@@ -9,7 +9,7 @@ use Rattle.std.proofs.lemmas.Fmt.{decimal_injective}
 use Rattle.outside.specs.declared.keys.FontKey.{FontKey}
 use Rattle.font_decode.specs.Names.{tfm_name, vf_name, pk_name, dpi}
 use Rattle.font_decode.specs.Laws.{NamesAreDistinct}
-use Rattle.font_decode.proofs.Plain.{resolution_range}
+use Rattle.font_decode.proofs.NameBytes.{resolution_range}
 
 -- the last byte of a name
 abbrev last : List ℕ → ℕ

@@ -4,7 +4,7 @@ pub mod KeyTables
 pub mod LocalKeys
 pub mod SoundVf
 pub mod VfTotal
-pub mod Plain
+pub mod NameBytes
 pub mod Distinct
 pub mod Alike
 pub mod Scaled

@@ -10,11 +10,11 @@ use Rattle.pixel_round.specs.declared.units.Units.{Units}
 use Rattle.font_decode.specs.Files.{FontFiles, IsFound, IsInOrder}
 use Rattle.font_decode.specs.Decoding.{IsDecodingOf, IsFontOf}
 use Rattle.font_decode.specs.Stops.{stop_of_load}
-use Rattle.font_decode.specs.declared.decoded.Decoded.{Decoded}
+use Rattle.font_decode.specs.declared.font_or_fault.Decoded.{Decoded}
 use Rattle.font_decode.specs.declared.desk.DeskStop.TheVariants.{SourceFault}
 
-pub found_in : (told : Option library.FileTable) (u : Units) (k : FontKey) (files : FontFiles) (d : Decoded) → IfSome told (λ l. IsFound l u k files) → IsInOrder u k files → IsDecodingOf u k files d
-    → IsFontOf told (Some u) k d
+pub found_in : (known : Option library.FileTable) (u : Units) (k : FontKey) (files : FontFiles) (d : Decoded) → IfSome known (λ l. IsFound l u k files) → IsInOrder u k files → IsDecodingOf u k files d
+    → IsFontOf known (Some u) k d
 found_in None u k files d found order decoding = record { files = files; order = order; decoding = decoding }
 found_in (Some l) u k files d found order decoding = record { files = files; found = found; decoding = decoding }
 

@@ -19,10 +19,10 @@ abbrev Defs : Type 0
 Defs = List LocalDef
 
 -- the definitions that were seen, and one more before them
-abbrev seen : List (Bor LocalDef) → Defs
-seen xs = reverse (map (λ d. d.now) xs)
+abbrev values_of_locals : List (Bor LocalDef) → Defs
+values_of_locals xs = reverse (map (λ d. d.now) xs)
 
-pub seen_more : (xs : List (Bor LocalDef)) (x : Bor LocalDef) → seen (xs ++ x ∷ []) ≡ x.now ∷ seen xs
+pub seen_more : (xs : List (Bor LocalDef)) (x : Bor LocalDef) → values_of_locals (xs ++ x ∷ []) ≡ x.now ∷ values_of_locals xs
 seen_more xs x = ap reverse (map-append (λ (d : Bor LocalDef). d.now) xs (x ∷ [])) ∙ reverse-append (map (λ d. d.now) xs) (x.now ∷ [])
 
 module _ (u : Units) (size : ℕ) where
@@ -62,5 +62,5 @@ one_of_all P locals i d lt at all =
     subst P (sym there) (All-get_or P locals (length locals - 1 - i) d (omega (arith, inside)) all)
 
 -- all were seen
-pub all_seen : (xs : List (Bor LocalDef)) (locals : Defs) → map (λ d. d.now) xs ≡ reverse locals → seen xs ≡ locals
+pub all_seen : (xs : List (Bor LocalDef)) (locals : Defs) → map (λ d. d.now) xs ≡ reverse locals → values_of_locals xs ≡ locals
 all_seen xs locals e = ap reverse e ∙ reverse-reverse locals

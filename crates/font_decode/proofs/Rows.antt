@@ -18,9 +18,9 @@ use Rattle.font_decode.specs.Files.{FontFiles}
 use Rattle.font_decode.specs.Locals.{are_local_sizes}
 use Rattle.font_decode.specs.Decoding.{is_too_long, IsPackedFont, IsVirtualFont, DecodesPk, DecodesShortPk, DecodesItems, DecodesVf, DecodesSound, DecodesTfm}
 use Rattle.font_decode.specs.Rows.{Row, WrongName, NoTfm, LongTfm, WrongTfm, LongVf, WrongVf, LocalSize, Resolution, NoPk, LongPk, WrongPk, Holds, HoldsNot, NoneHolds, FirstHolds, IsFirstOf, IsFirstRow}
-use Rattle.font_decode.specs.Laws.{RowsTellTheDecoding}
-use Rattle.font_decode.specs.declared.decoded.Decoded.{Decoded}
-use Rattle.font_decode.specs.declared.decoded.Decoded.TheVariants.{Font, Fault}
+use Rattle.font_decode.specs.Laws.{RowsDetermineTheDecoding}
+use Rattle.font_decode.specs.declared.font_or_fault.Decoded.{Decoded}
+use Rattle.font_decode.specs.declared.font_or_fault.Decoded.TheVariants.{Font, Fault}
 use Rattle.font_decode.specs.declared.faults.FileKind.TheVariants as kind
 use Rattle.font_decode.specs.declared.faults.FontFault.{FontFault}
 use Rattle.font_decode.specs.declared.faults.FontFault.TheVariants as fault
@@ -203,5 +203,5 @@ module _ (u : Units) (k : FontKey) where
   by_name files d true e = passed u k files WrongName tfm_rows _ d (λ f w. true≢false (sym e ∙ w.0)) (by_found_tfm files.tfm files.vf files.pk d)
   by_name files d false e = held u k files WrongName tfm_rows fault.Name d (e, refl) (λ f w. w.1)
 
-pub rows_tell_the_decoding : RowsTellTheDecoding
-rows_tell_the_decoding u k files d = by_name u k files d (is_valid_name k) refl
+pub rows_determine_the_decoding : RowsDetermineTheDecoding
+rows_determine_the_decoding u k files d = by_name u k files d (is_valid_name k) refl

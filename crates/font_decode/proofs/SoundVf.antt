@@ -15,7 +15,7 @@ use Rattle.outside.specs.FontKeys.{IsFontKey}
 use Rattle.pixel_round.specs.declared.units.Units.{Units}
 use Rattle.vf_reader.specs.Items.{IsItem, code_of, definition_of, is_packet, item_size, opcode, program_of}
 use Rattle.vf_reader.specs.Locals.{agrees_with, definition_fault, is_factor, local_of, local_with, locals_of, with_local}
-use Rattle.vf_reader.specs.Fonts.{AreSound, IsFontOf, IsItemSound, Virtual, program_with}
+use Rattle.vf_reader.specs.Fonts.{AreSound, HasPacketsOf, IsItemSound, Virtual, program_with}
 use Rattle.vf_reader.specs.declared.locals.LocalDef.{LocalDef}
 use Rattle.vf_reader.specs.declared.faults.VfFault.TheVariants as fault
 use Rattle.outside.specs.Limits.{SIZES}
@@ -144,7 +144,7 @@ module _ (u : Units) (size : ℕ) where
       own (negsuc m) = nat_own m
 
   -- what holds of a virtual font
-  pub are_shapes : (items : List (List ℕ)) (file : Virtual) (keys : List (ℤ × FontKey)) → AreSound items → IsFontOf items file → are_local_sizes u size file.locals ≡ true
+  pub are_shapes : (items : List (List ℕ)) (file : Virtual) (keys : List (ℤ × FontKey)) → AreSound items → HasPacketsOf items file → are_local_sizes u size file.locals ≡ true
       → HaveKeys u size file.locals keys → AreShapes (shape.Virtual file keys)
   are_shapes items file keys sound font right have = record {
     packets = λ c. subst (λ o. IfSome o (IsProgram c)) (sym (font.packets c)) (sound_programs items sound c);

@@ -22,8 +22,8 @@ use Rattle.font_decode.specs.Names.{is_valid_name, dpi, is_resolution, tfm_name,
 use Rattle.font_decode.specs.Files.{FontFiles, first_there, pk_choices}
 use Rattle.font_decode.specs.Decoding.{is_too_long, scaled_width, DecodesPk, DecodesShortPk, DecodesPacked, DecodesItems, DecodesVf, DecodesShortVf, DecodesSound, DecodesTfm, IsDecodingOf}
 use Rattle.font_decode.specs.Laws.{AreByteFiles, EachKeyIsDecoded}
-use Rattle.font_decode.specs.declared.decoded.Decoded.{Decoded}
-use Rattle.font_decode.specs.declared.decoded.Decoded.TheVariants.{Font, Fault}
+use Rattle.font_decode.specs.declared.font_or_fault.Decoded.{Decoded}
+use Rattle.font_decode.specs.declared.font_or_fault.Decoded.TheVariants.{Font, Fault}
 use Rattle.font_decode.specs.declared.faults.FileKind.TheVariants as kind
 use Rattle.font_decode.specs.declared.faults.FontFault.TheVariants as fault
 use Rattle.font_decode.specs.Locals.{are_local_sizes}

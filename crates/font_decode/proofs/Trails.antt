@@ -4,7 +4,7 @@ use Rattle.std.specs.Option.{option_map}
 use Rattle.outside.specs.declared.keys.FontKey.{FontKey}
 use Rattle.cache_core.specs.declared.calls.Call.{Call}
 use Rattle.cache_core.specs.Histories.{SeatCalls, AreOf, NoneReleased}
-use Rattle.font_decode.specs.Desks.{GrewBy, Trail, ReleasedLast, misses, Loaded, Went, TrailGrew}
+use Rattle.font_decode.specs.Desks.{GrewBy, Trail, ReleasedLast, misses, Loaded, SeatAnswered, TrailGrew}
 
 -- ---- the keys asked
 
@@ -52,7 +52,7 @@ loaded_more k l n a b c x y z is p q = record {
 -- ---- what a seat did
 
 module _ (W : Type 0) where
-  went_more : (a b : List FontKey) (s t u : Trail) → Went (Unit {0}) a s t → Went W b t u → Went W (a ++ b) s u
+  went_more : (a b : List FontKey) (s t u : Trail) → SeatAnswered (Unit {0}) a s t → SeatAnswered W b t u → SeatAnswered W (a ++ b) s u
   went_more a b s t u p q = record {
     seat = q.seat ∙ p.seat;
     capacity = q.capacity ∙ p.capacity;
@@ -75,7 +75,7 @@ module _ (W : Type 0) where
     record {
       keys = [];
       grew = asked_none asked;
-      went = record {
+      answers = record {
         seat = refl;
         capacity = refl;
         calls = [];
@@ -103,12 +103,12 @@ module _ (W : Type 0) where
         record {
           keys = p.2.keys ++ r.2.keys;
           grew = asked_more a b c p.2.keys r.2.keys p.2.grew r.2.grew;
-          went = went_more p.2.keys r.2.keys s p.0 r.0 p.2.went r.2.went;
+          answers = went_more p.2.keys r.2.keys s p.0 r.0 p.2.answers r.2.answers;
         },
       )
 
 -- the same with less that was answered
-went_as : (V W : Type 0) (keys : List FontKey) (s t : Trail) → (V → W) → Went W keys s t → Went V keys s t
+went_as : (V W : Type 0) (keys : List FontKey) (s t : Trail) → (V → W) → SeatAnswered W keys s t → SeatAnswered V keys s t
 went_as V W keys s t f p = record {
   seat = p.seat;
   capacity = p.capacity;
@@ -123,4 +123,4 @@ went_as V W keys s t f p = record {
 
 pub trail_as : (V W : Type 0) (a b : Option (List FontKey)) (s t : Option Trail) → (V → W) → TrailGrew W a b s t → TrailGrew V a b s t
 trail_as V W a b None t f p = p
-trail_as V W a b (Some s) t f p = (p.0, p.1, record { keys = p.2.keys; grew = p.2.grew; went = went_as V W p.2.keys s p.0 f p.2.went })
+trail_as V W a b (Some s) t f p = (p.0, p.1, record { keys = p.2.keys; grew = p.2.grew; answers = went_as V W p.2.keys s p.0 f p.2.answers })

@@ -11,7 +11,7 @@ use Rattle.outside.specs.declared.keys.FontKey.{FontKey}
 use Rattle.pixel_round.specs.declared.units.Units.{Units}
 use Rattle.vf_reader.specs.Items.{code_of, head_size, is_packet, opcode, text_of}
 use Rattle.vf_reader.specs.Locals.{local_with, locals_of}
-use Rattle.vf_reader.specs.Fonts.{AreSound, IsFontOf, Spans, Virtual, span_of}
+use Rattle.vf_reader.specs.Fonts.{AreSound, HasPacketsOf, Spans, Virtual, span_of}
 use Rattle.vf_reader.specs.Walked.{AreSpansOf}
 use Rattle.vf_reader.specs.declared.locals.LocalDef.{LocalDef}
 use Rattle.vf_reader.specs.declared.packet_table.Span.{Span}
@@ -42,22 +42,22 @@ span_put : (old : Spans) (code : ℕ) (s : Span) → (new : Spans) × ((k : ℕ)
 span_put old code s = (
   new,
   λ k. elim (cases_lt k 256) [
-    | inl low ↦ ap (λ b. if b then get_or plain.0 k None else lookup (λ q. k == q) ((code, s) ∷ old.others)) (lt-ltb k 256 low) ∙ plain.2 k low
+    | inl low ↦ ap (λ b. if b then get_or table.0 k None else lookup (λ q. k == q) ((code, s) ∷ old.others)) (lt-ltb k 256 low) ∙ table.2 k low
     | inr high ↦
-        ap (λ b. if b then get_or plain.0 k None else lookup (λ q. k == q) ((code, s) ∷ old.others)) (le-ltb k 256 high)
+        ap (λ b. if b then get_or table.0 k None else lookup (λ q. k == q) ((code, s) ∷ old.others)) (le-ltb k 256 high)
         ∙ ap (λ b. cond b (Some s) (lookup (λ q. k == q) old.others)) (same_way k code)
-        ∙ ap (λ b. cond (code == k) (Some s) (if b then get_or old.plain k None else lookup (λ q. k == q) old.others)) (sym (le-ltb k 256 high))
+        ∙ ap (λ b. cond (code == k) (Some s) (if b then get_or old.table k None else lookup (λ q. k == q) old.others)) (sym (le-ltb k 256 high))
   ],
 )
   where
-    plain : (xs : List (Option Span)) × (length xs ≡ 256) × ((c : ℕ) → c < 256 → get_or xs c None ≡ (if code == c then Some s else span_of old c))
-    plain = build (λ c. if code == c then Some s else span_of old c) None 256
+    table : (xs : List (Option Span)) × (length xs ≡ 256) × ((c : ℕ) → c < 256 → get_or xs c None ≡ (if code == c then Some s else span_of old c))
+    table = build (λ c. if code == c then Some s else span_of old c) None 256
 
     new : Spans
-    new = record { plain = plain.0; others = (code, s) ∷ old.others }
+    new = record { table = table.0; others = (code, s) ∷ old.others }
 
 spans_for : (bytes rest : List ℕ) (items : List (List ℕ)) → AreSound items → bytes ≡ text_of items ++ rest → (spans : Spans) × AreSpansOf bytes items spans
-spans_for bytes rest [] sound e = (record { plain = replicate 256 None; others = [] }, λ c. nothing_kept c (replicate 256 None) [] refl refl)
+spans_for bytes rest [] sound e = (record { table = replicate 256 None; others = [] }, λ c. nothing_kept c (replicate 256 None) [] refl refl)
 spans_for bytes rest (item ∷ before) sound e =
     let here : bytes ≡ text_of before ++ (item ++ rest) = e ∙ append_assoc (text_of before) item rest in
     let r = spans_for bytes (item ++ rest) before sound.0 here in
@@ -75,7 +75,7 @@ spans_for bytes rest (item ∷ before) sound e =
       | inr other ↦ (r.0, local_put bytes item before r.0 other r.1)
     ]
 
-pub sound_items_have_a_font : (items : List (List ℕ)) → AreSound items → (file : Virtual) × IsFontOf items file
+pub sound_items_have_a_font : (items : List (List ℕ)) → AreSound items → (file : Virtual) × HasPacketsOf items file
 sound_items_have_a_font items sound =
     let spans = spans_for (text_of items) [] items sound (sym (append-nil (text_of items))) in
     let file : Virtual = record { bytes = text_of items; spans = spans.0; locals = locals_of items } in

@@ -1,4 +1,4 @@
--- Which names a fetch asks for, whatever its source tells of the files.
+-- Which names a fetch asks for, whatever is known of its source's files.
 use Rattle.std.specs.Prelude.{◌≡◌, ◌⊎◌, ◌≤◌, ℕ, List, [], ◌∷◌, take, None, if◌then◌else◌}
 use Rattle.outside.specs.Library.{Asks, Names}
 use Rattle.outside.specs.declared.keys.FontKey.{FontKey}
@@ -17,7 +17,7 @@ pub record AskedFirst (low high : ℕ) (old new : Names) (names : List (List ℕ
   pub most : count ≤ high
   pub asked : Asks old new (take count names)
 
--- up to a stop: the first of these names were asked for, or the names are no longer told
+-- up to a stop: the first of these names were asked for, or the names are no longer known
 pub record AskedUntil (old new : Names) (names : List (List ℕ)) : Type 0 where
   pub count : ℕ
   pub asked : Asks old new (take count names) ⊎ (new ≡ None)

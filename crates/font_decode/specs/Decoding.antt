@@ -17,10 +17,10 @@ use Rattle.outside.specs.declared.keys.FontKey.{FontKey}
 use Rattle.pixel_round.specs.declared.units.Units.{Units}
 use Rattle.font_decode.specs.Names.{is_valid_name, dpi, is_resolution}
 use Rattle.font_decode.specs.Files.{FontFiles, IsFound, IsInOrder}
-use Rattle.font_decode.specs.Fonts.{FontSeen, scaled_width_of, glyph_at, is_virtual_of, packet_of, local_of, first_local_of}
+use Rattle.font_decode.specs.Fonts.{FontValue, scaled_width_of, glyph_at, is_virtual_of, packet_of, local_of, first_local_of}
 use Rattle.font_decode.specs.Locals.{are_local_sizes, local_key}
-use Rattle.font_decode.specs.declared.decoded.Decoded.{Decoded}
-use Rattle.font_decode.specs.declared.decoded.Decoded.TheVariants.{Font, Fault}
+use Rattle.font_decode.specs.declared.font_or_fault.Decoded.{Decoded}
+use Rattle.font_decode.specs.declared.font_or_fault.Decoded.TheVariants.{Font, Fault}
 use Rattle.font_decode.specs.declared.faults.FileKind.TheVariants as kind
 use Rattle.font_decode.specs.declared.faults.FontFault.TheVariants as fault
 
@@ -31,7 +31,7 @@ abbrev pub scaled_width : ℕ → List ℕ → ℤ → Option ℤ
 scaled_width size tfm c = option_map (λ w. scale w size) (tfm_width tfm c)
 
 -- the font of a key with these two files, each of which is sound
-pub record IsPackedFont (k : FontKey) (tfm pk : List ℕ) (f : FontSeen) : Type 0 where
+pub record IsPackedFont (k : FontKey) (tfm pk : List ℕ) (f : FontValue) : Type 0 where
   pub size : f.size ≡ k.size
   pub widths : (c : ℤ) → scaled_width_of f c ≡ scaled_width k.size tfm c
   pub packed : IsFalse (is_virtual_of f)
@@ -42,7 +42,7 @@ pub record IsPackedFont (k : FontKey) (tfm pk : List ℕ) (f : FontSeen) : Type 
 -- the font of a key with a sound TFM file and these items of a sound VF file, whose local fonts
 -- have sizes in range
 pub record IsVirtualFont (u : Units) (k : FontKey) (tfm : List ℕ) (items : List (List ℕ))
-    (f : FontSeen) : Type 0 where
+    (f : FontValue) : Type 0 where
   pub size : f.size ≡ k.size
   pub widths : (c : ℤ) → scaled_width_of f c ≡ scaled_width k.size tfm c
   pub virtual : IsTrue (is_virtual_of f)
@@ -121,15 +121,15 @@ pub record IsFontBySome (u : Units) (k : FontKey) (d : Decoded) : Type 0 where
   pub order : IsInOrder u k files
   pub decoding : IsDecodingOf u k files d
 
--- by the files of the library where it is told, and else by some files, with the units of the
+-- by the files of the library where it is known, and else by some files, with the units of the
 -- document
 abbrev pub IsFontOf : Option library.FileTable → Option Units → FontKey → Decoded → Type 0
-IsFontOf told units k d =
-    IfSome units (λ u. MatchOption told (IsFontBySome u k d) (λ l. IsFontIn l u k d))
+IsFontOf known units k d =
+    IfSome units (λ u. MatchOption known (IsFontBySome u k d) (λ l. IsFontIn l u k d))
 
 -- ---- which decodings can't be told apart
 
-pub record AreAlikeFonts (f g : FontSeen) : Type 0 where
+pub record AreAlikeFonts (f g : FontValue) : Type 0 where
   pub size : f.size ≡ g.size
   pub widths : (c : ℤ) → scaled_width_of f c ≡ scaled_width_of g c
   pub virtual : is_virtual_of f ≡ is_virtual_of g

@@ -1,5 +1,5 @@
--- What a desk tells: how the list of the keys asked grows, and what a seat at a cache did for these
--- keys.
+-- What is known of a desk: how the list of the keys asked grows, and what a seat at a cache did for
+-- these keys.
 use Rattle.std.specs.Prelude.{◌≡◌, ◌≢◌, ◌⊎◌, ℕ, ◌+◌, ◌-◌, ◌*◌, ◌^◌, ◌<◌, List, [], ◌∷◌, ◌++◌, Option, Some, None}
 use Rattle.std.specs.Option.{option_map}
 use Rattle.outside.specs.declared.keys.FontKey.{FontKey}
@@ -21,7 +21,7 @@ GrewByAtMost before now k = (now ≡ before) ⊎ GrewBy before now (k ∷ [])
 
 -- ---- the calls of a seat
 
--- what a desk with a cache tells of its seat there: its number, how many fonts the cache keeps, its
+-- what is known of a desk's seat at its cache: its number, how many fonts the cache keeps, its
 -- calls, how often the source was asked for a file, and how many of these loads the desk has
 -- counted
 pub record Trail : Type 0 where
@@ -57,7 +57,8 @@ pub record Loaded (most before now count count_now : ℕ) : Type 0 where
 
 -- what the seat did for these keys. A claim is given up at the end alone, and nowhere where the
 -- keys were answered
-pub record Went (Answered : Type 0) (keys : List FontKey) (before after : Trail) : Type 0 where
+pub record SeatAnswered (Answered : Type 0) (keys : List FontKey) (before after : Trail) : Type
+    0 where
   pub seat : after.seat ≡ before.seat
   pub capacity : after.capacity ≡ before.capacity
   pub calls : List Call
@@ -69,15 +70,15 @@ pub record Went (Answered : Type 0) (keys : List FontKey) (before after : Trail)
   pub loaded : Loaded (5 * misses calls) before.loads after.loads before.counted after.counted
 
 -- the same with the keys that were asked in the meantime
-pub record WentFor (Answered : Type 0) (asked asked_now : Option (List FontKey))
+pub record SeatAnsweredFor (Answered : Type 0) (asked asked_now : Option (List FontKey))
     (before after : Trail) : Type 0 where
   pub keys : List FontKey
   pub grew : GrewBy asked asked_now keys
-  pub went : Went Answered keys before after
+  pub answers : SeatAnswered Answered keys before after
 
--- and where a trail is told
+-- and where a trail is known
 abbrev pub TrailGrew : Type 0 → Option (List FontKey) → Option (List FontKey) → Option Trail
     → Option Trail → Type 0
 TrailGrew Answered asked asked_now None now = now ≡ None
 TrailGrew Answered asked asked_now (Some before) now =
-    (after : Trail) × (now ≡ Some after) × WentFor Answered asked asked_now before after
+    (after : Trail) × (now ≡ Some after) × SeatAnsweredFor Answered asked asked_now before after

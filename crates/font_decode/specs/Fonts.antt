@@ -19,13 +19,13 @@ use Rattle.font_decode.specs.declared.shapes.Shapes.TheVariants.{Packed, Virtual
 
 -- the size and the widths in DVI units, these of the codes from 0 on, and what its characters are:
 -- glyphs in dots, or the packets of a VF file beside the keys of its local fonts by their numbers
-pub record FontSeen : Type 0 where
+pub record FontValue : Type 0 where
   pub size : ℕ
   pub widths : List (Option ℤ)
   pub shapes : Shapes
 
 -- the width of a code
-abbrev pub scaled_width_of : FontSeen → ℤ → Option ℤ
+abbrev pub scaled_width_of : FontValue → ℤ → Option ℤ
 scaled_width_of f c = tfm.width_of f.widths c
 
 -- ---- what its characters are
@@ -35,7 +35,7 @@ is_virtual_shape (Packed glyphs) = false
 is_virtual_shape (Virtual file keys) = true
 
 -- its characters are packets
-abbrev pub is_virtual_of : FontSeen → Bool
+abbrev pub is_virtual_of : FontValue → Bool
 is_virtual_of f = is_virtual_shape f.shapes
 
 abbrev pub glyph_in : Shapes → ℕ → Option Glyph
@@ -43,7 +43,7 @@ glyph_in (Packed glyphs) c = glyph_of glyphs c
 glyph_in (Virtual file keys) c = None
 
 -- the glyph of a code; a virtual font has none
-abbrev pub glyph_at : FontSeen → ℕ → Option Glyph
+abbrev pub glyph_at : FontValue → ℕ → Option Glyph
 glyph_at f c = glyph_in f.shapes c
 
 abbrev pub packet_in : Shapes → ℕ → Option (List ℕ)
@@ -51,7 +51,7 @@ packet_in (Packed glyphs) c = None
 packet_in (Virtual file keys) c = vf.packet_of file c
 
 -- the bytes of the packet of a code; a packed font has none
-abbrev pub packet_of : FontSeen → ℕ → Option (List ℕ)
+abbrev pub packet_of : FontValue → ℕ → Option (List ℕ)
 packet_of f c = packet_in f.shapes c
 
 -- ---- its local fonts
@@ -65,7 +65,7 @@ local_in (Packed glyphs) k = None
 local_in (Virtual file keys) k = key_with keys k
 
 -- the key of the local font with a number; a packed font has none
-abbrev pub local_of : FontSeen → ℤ → Option FontKey
+abbrev pub local_of : FontValue → ℤ → Option FontKey
 local_of f k = local_in f.shapes k
 
 abbrev pub first_in : Shapes → Option ℤ
@@ -73,7 +73,7 @@ first_in (Packed glyphs) = None
 first_in (Virtual file keys) = option_map (λ local. local.number) (slice_get file.locals 0)
 
 -- the number of the first local font of the file
-abbrev pub first_local_of : FontSeen → Option ℤ
+abbrev pub first_local_of : FontValue → Option ℤ
 first_local_of f = first_in f.shapes
 
 -- ---- what holds of every font
@@ -98,7 +98,7 @@ pub record AreShapes (shapes : Shapes) : Type 0 where
   pub first : IfSome (first_in shapes) (λ k. IsSome (local_in shapes k))
 
 -- no character has a code above 255
-pub record IsFontSeen (f : FontSeen) : Type 0 where
+pub record IsFontValue (f : FontValue) : Type 0 where
   pub some : 1 ≤ f.size
   pub fits : f.size < SIZES
   pub codes : length f.widths ≤ 256

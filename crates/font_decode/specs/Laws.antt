@@ -12,7 +12,7 @@ use Rattle.font_decode.specs.Files.{FontFiles, IsFound, looked_for}
 use Rattle.font_decode.specs.Asked.{choices}
 use Rattle.font_decode.specs.Rows.{IsFirstRow}
 use Rattle.font_decode.specs.Decoding.{IsDecodingOf, IsFontIn, AreAlike}
-use Rattle.font_decode.specs.declared.decoded.Decoded.{Decoded}
+use Rattle.font_decode.specs.declared.font_or_fault.Decoded.{Decoded}
 
 -- a name that leads out of no folder: neither empty nor `.` nor `..`, and with no `/`
 pub record StaysInFolder (name : List ℕ) : Type 0 where
@@ -70,9 +70,9 @@ EachKeyIsDecoded =
     (l : library.FileTable) (u : Units) (k : FontKey) → AreByteFiles l
     → (d : Decoded) × IsFontIn l u k d
 
--- the decoding of files is told by one list of rows: the fault of the first row that holds, and
--- where none holds the font
-abbrev pub RowsTellTheDecoding : Type 0
-RowsTellTheDecoding =
+-- the decoding of files is determined by one list of rows: the fault of the first row that holds,
+-- and where none holds the font
+abbrev pub RowsDetermineTheDecoding : Type 0
+RowsDetermineTheDecoding =
     (u : Units) (k : FontKey) (files : FontFiles) (d : Decoded)
     → IsDecodingOf u k files d ↔ IsFirstRow u k files d

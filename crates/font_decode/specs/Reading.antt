@@ -1,7 +1,7 @@
 -- What is read of a TFM file, and of a VF file.
 use Rattle.std.specs.Prelude.{◌≡◌, ℕ, ◌^◌, ◌<◌, ◌≤◌, ℤ, List, length, Option, None}
 use Rattle.tfm_reader.specs.Tfm.{tfm_fault, tfm_width, width_of}
-use Rattle.vf_reader.specs.Fonts.{AreSound, IsFontOf, Virtual}
+use Rattle.vf_reader.specs.Fonts.{AreSound, HasPacketsOf, Virtual}
 use Rattle.vf_reader.specs.declared.locals.LocalDef.{LocalDef}
 use Rattle.fix_word.specs.FixWords.{FIX_WORDS}
 
@@ -21,4 +21,4 @@ pub record IsLocalDef (d : LocalDef) : Type 0 where
 pub record IsVfRead (file : Virtual) : Type 0 where
   pub items : List (List ℕ)
   pub sound : AreSound items
-  pub font : IsFontOf items file
+  pub font : HasPacketsOf items file

@@ -13,11 +13,11 @@ use Rattle.outside.specs.declared.keys.FontKey.{FontKey}
 use Rattle.pixel_round.specs.declared.units.Units.{Units}
 use Rattle.font_decode.specs.Names.{is_valid_name, dpi, is_resolution}
 use Rattle.font_decode.specs.Files.{FontFiles}
-use Rattle.font_decode.specs.Fonts.{FontSeen}
+use Rattle.font_decode.specs.Fonts.{FontValue}
 use Rattle.font_decode.specs.Locals.{are_local_sizes}
 use Rattle.font_decode.specs.Decoding.{is_too_long, IsPackedFont, IsVirtualFont}
-use Rattle.font_decode.specs.declared.decoded.Decoded.{Decoded}
-use Rattle.font_decode.specs.declared.decoded.Decoded.TheVariants.{Font, Fault}
+use Rattle.font_decode.specs.declared.font_or_fault.Decoded.{Decoded}
+use Rattle.font_decode.specs.declared.font_or_fault.Decoded.TheVariants.{Font, Fault}
 use Rattle.font_decode.specs.declared.faults.FileKind.TheVariants as kind
 use Rattle.font_decode.specs.declared.faults.FontFault.{FontFault}
 use Rattle.font_decode.specs.declared.faults.FontFault.TheVariants as fault
@@ -87,14 +87,14 @@ FirstHolds u k files (row ∷ others) f =
     Holds u k files row f ⊎ (HoldsNot u k files row × FirstHolds u k files others f)
 
 -- the font that the files make
-abbrev pub IsPackedOf : FontKey → List ℕ → Option (List ℕ) → FontSeen → Type 0
+abbrev pub IsPackedOf : FontKey → List ℕ → Option (List ℕ) → FontValue → Type 0
 IsPackedOf k tfm pk f = (bytes : List ℕ) × (pk ≡ Some bytes) × IsPackedFont k tfm bytes f
 
-abbrev pub IsVirtualOf : Units → FontKey → List ℕ → List ℕ → FontSeen → Type 0
+abbrev pub IsVirtualOf : Units → FontKey → List ℕ → List ℕ → FontValue → Type 0
 IsVirtualOf u k tfm vf f =
     (items : List (List ℕ)) × IsVfFile vf items × IsVirtualFont u k tfm items f
 
-abbrev pub IsFontOfFiles : Units → FontKey → FontFiles → FontSeen → Type 0
+abbrev pub IsFontOfFiles : Units → FontKey → FontFiles → FontValue → Type 0
 IsFontOfFiles u k files f =
     (tfm : List ℕ) × (files.tfm ≡ Some tfm) × MatchOption files.vf (IsPackedOf k tfm files.pk f)
     (λ vf. IsVirtualOf u k tfm vf f)

@@ -5,7 +5,7 @@ ghost use Rattle.pixel_round.specs.Preamble.{AreUnits};
 ghost use Rattle.font_decode.specs.Files.{bytes_of};
 ghost use Rattle.font_decode.specs.Decoding.{is_too_long, DecodesShortPk, DecodesPacked, DecodesItems, DecodesShortVf, DecodesSound, DecodesTfm, IsDecodingOf};
 ghost use Rattle.font_decode.specs.Reading.{IsTfmOf, IsVfRead};
-ghost use Rattle.vf_reader.specs.Fonts.{IsFontOf};
+ghost use Rattle.vf_reader.specs.Fonts.{HasPacketsOf};
 
 use crate::locals::local_keys;
 use crate::names::{dpi, is_resolution, is_valid_name};
@@ -20,17 +20,17 @@ use tfm_reader::{Tfm, TfmStop};
 use vf_reader::{VfFont, VfStop};
 
 // The most bytes that a file may have.
-const LONGEST_FILE: usize = 8_388_608;
+const MAX_FILE_LENGTH: usize = 8_388_608;
 
 // Whether a file has more bytes than that.
 fn is_too_long(bytes: &[u8]) -> bool
     ensures { result ≡ is_too_long bytes.now }
 {
-    bytes.len() > LONGEST_FILE
+    bytes.len() > MAX_FILE_LENGTH
 }
 
 /// The font of a key, by its files, or its first fault: `Name`; then `Missing`, `TooLong` and `Tfm`
-/// of the TFM file. Where there is a VF file follow its `TooLong` and `Vf`, and `Size` where the
+/// of the TFM file. Where there is a VF file, its `TooLong` and `Vf` follow, and `Size` where the
 /// size or the design size of a local font lies outside 1 to 2^27 - 1 DVI units; where there is
 /// none, `Size` of the resolution, and `Missing`, `TooLong` and `Pk` of the PK file. A file after
 /// the first fault isn't looked at, nor is a PK file beside a VF file.
@@ -134,7 +134,7 @@ fn decode_locals(
     requires key { IsFontKey key.now }
     requires file { IsVfRead file }
     ensures { IfOk result (λ d. (bytes : List ℕ) (items : List (List ℕ)) → IsTfmOf bytes tfm.now →
-        IsFontOf items file → DecodesItems units.now key.now bytes items d) }
+        HasPacketsOf items file → DecodesItems units.now key.now bytes items d) }
 {
     match local_keys(alloc, file.locals(), key.size, units)? {
         Some(keys) => {

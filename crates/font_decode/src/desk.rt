@@ -64,10 +64,10 @@ pub trait Desk: Drop {
     /// What all desks of one run share.
     type Shared;
 
-    /// All the font files, where they are told. No call changes them.
+    /// All the font files, where they are known. No call changes them.
     ghost library: { Self → Option library.FileTable } = { λ _. None };
 
-    /// The units of the document, where they are told. No call changes them.
+    /// The units of the document, where they are known. No call changes them.
     ghost units: { Self → Option Units } = { λ _. None };
 
     /// Whether a shared value is this desk's.
@@ -76,11 +76,11 @@ pub trait Desk: Drop {
     /// How often the source of its font files failed.
     ghost faults: { Self → ℕ };
 
-    /// The keys asked, in order, where they are told.
+    /// The keys asked, in order, where they are known.
     ghost asked: { Self → Option (List FontKey) } = { λ _. None };
 
     /// The desk's seat at a cache, the calls of that seat, and the loads of its source, where they
-    /// are told.
+    /// are known.
     ghost trail: { Self → Option Trail } = { λ _. None };
 
     /// How many more fonts may be asked for.
@@ -98,7 +98,7 @@ pub trait Desk: Drop {
         requires room { 1 ≤ room self.old }
         requires key { IsFontKey (arc_value key.now) }
 
-        // Where the library is told: the answer is the key's font there.
+        // Where the library is known: the answer is the key's font there.
         ensures found { IfOk result (λ font.
             IsFontOf (library self.old) (units self.old) (arc_value key.now) (arc_value font)) }
 
@@ -116,9 +116,9 @@ pub trait Desk: Drop {
         ensures trail { TrailGrew (IsOk result) (asked self.old) (asked self.new) (trail self.old)
             (trail self.new) };
 
-    /// The units are told wherever the library is.
-    ghost told: { (d : Self) → IsSome (library d) → IsSome (units d) };
+    /// The units are known wherever the library is.
+    ghost known: { (d : Self) → IsSome (library d) → IsSome (units d) };
 
-    /// The keys asked are told wherever the trail is.
+    /// The keys asked are known wherever the trail is.
     ghost asks: { (d : Self) → IsSome (trail d) → IsSome (asked d) };
 }

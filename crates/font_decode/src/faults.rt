@@ -15,9 +15,10 @@ pub enum FileKind {
 }
 
 /// What is wrong with a font: the first fault, in the order in which its name and its files are
-/// judged. First comes its name, then its TFM file. With a VF file follow that file and the sizes
-/// of its local fonts; without one the resolution, and the PK file. Of a file that is looked for it
-/// comes first that it isn't there, then that it is too long, then what it holds.
+/// judged. First comes its name, then its TFM file. With a VF file, that file and the sizes of its
+/// local fonts follow; without one, the resolution and the PK file. Of a file that is looked for,
+/// the first fault is that it isn't there, then that it is too long, and then what is wrong with
+/// its bytes.
 #[derive(Clone, Copy, Debug, PartialEq, Eq)]
 pub enum FontFault {
     /// There is no such file.

@@ -23,13 +23,13 @@ pub struct Font {
 }
 
 impl Model for Font {
-    ghost use Rattle.font_decode.specs.Fonts.{FontSeen, IsFontSeen};
+    ghost use Rattle.font_decode.specs.Fonts.{FontValue, IsFontValue};
 
-    ghost Value = { FontSeen };
+    ghost Value = { FontValue };
 
     ghost view = { λ f. record { size = f.size; widths = f.widths.items; shapes = f.shapes } };
 
-    ghost invariant = { λ f. IsFontSeen
+    ghost invariant = { λ f. IsFontValue
         (record { size = f.size; widths = f.widths.items; shapes = f.shapes }) };
 }
 
@@ -63,8 +63,8 @@ impl Font {
         *self.widths.get(code)?
     }
 
-    /// Whether the font is a virtual one, of which each character is a packet of commands (Knuth,
-    /// VFtoVP, "Virtual fonts"). Every other font is a packed one, of which each is a glyph.
+    /// Whether the font is a virtual one, whose characters are packets of commands (Knuth, VFtoVP,
+    /// "Virtual fonts"). Every other font is a packed one, whose characters are glyphs.
     #[inline(always)]
     pub fn is_virtual(&self) -> bool
         ensures { result ≡ is_virtual_of self.now }

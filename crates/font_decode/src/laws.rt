@@ -1,8 +1,8 @@
-//! What is true of the names of a font's files, and of what is found.
-ghost use Rattle.font_decode.specs.Laws.{NamesStayInFolder, AskedNamesStayInFolder, NamesAreDistinct, OneIsFound, FiveAtMost, OneOfItsFiles, OneInALibrary, EachKeyIsDecoded, RowsTellTheDecoding};
+//! Laws of the names of a font's files, and of what is found.
+ghost use Rattle.font_decode.specs.Laws.{NamesStayInFolder, AskedNamesStayInFolder, NamesAreDistinct, OneIsFound, FiveAtMost, OneOfItsFiles, OneInALibrary, EachKeyIsDecoded, RowsDetermineTheDecoding};
 
-/// The names of a font's files lead out of no folder, so that none of those asked for does,
-/// whatever the key; and no two of them are the same.
+/// No name of a font's files leads out of the folder, so none that is asked for does, whatever the
+/// key; and no two of them are the same.
 pub fn names()
     ensures folder { NamesStayInFolder }
     ensures asked { AskedNamesStayInFolder }
@@ -17,10 +17,11 @@ pub fn answers()
 
 /// Files come to one font or have one first fault, and so does a key in a library: two decodings
 /// are the same fault, or fonts that answer alike. One list of rows, in the order in which a font's
-/// name and files are judged, tells which: the first row that holds, and else the font.
+/// name and files are judged, determines which: the fault of the first row that holds, and else the
+/// font.
 pub fn decodings()
     ensures files { OneOfItsFiles }
     ensures library { OneInALibrary }
     ensures each { EachKeyIsDecoded }
-    ensures rows { RowsTellTheDecoding }
+    ensures rows { RowsDetermineTheDecoding }
 {}

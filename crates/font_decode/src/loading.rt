@@ -147,8 +147,8 @@ fn load_packed<F: FontSource>(
 /// Nothing is loaded for a name that isn't valid, nothing after a TFM file that isn't there, and no
 /// PK file where the resolution lies outside 1 to 1,000,000 dots to the inch.
 ///
-/// `Failed` is answered only where the source failed in this call, and `NoMemory` where memory was
-/// wanting.
+/// `Failed` is answered only where the source failed in this call, and `NoMemory` where memory ran
+/// out.
 pub fn fetch<F: FontSource>(
     alloc: Global,
     source: &mut F,
@@ -158,7 +158,7 @@ pub fn fetch<F: FontSource>(
     requires units { AreUnits units.now }
     requires key { IsFontKey key.now }
 
-    // Where the library is told: which files these are, and how many were looked for.
+    // Where the library is known: which files these are, and how many were looked for.
     ensures files { IfOk result (λ files. IfSome (F.library source.old) (λ l.
         IsFound l units.now key.now (bytes_of files))) }
     ensures loads { OnOk result (IfSome (F.library source.old) (λ l.
@@ -168,7 +168,7 @@ pub fn fetch<F: FontSource>(
         RoseUpTo (length (looked_for l units.now key.now)) (F.loads source.old)
         (F.loads source.new)) }
 
-    // And, where the names asked for are told too: they grew by exactly these, up to the stop.
+    // And, where the names asked for are known too: they grew by exactly these, up to the stop.
     ensures named { OnOk result (IfSome (F.library source.old) (λ l.
         Asks (F.asked source.old) (F.asked source.new) (looked_for l units.now key.now))) }
     ensures named_until { OnErr result (IfSome (F.library source.old) (λ l.
@@ -179,7 +179,7 @@ pub fn fetch<F: FontSource>(
     ensures looked { IfOk result (λ files. let f = bytes_of files in
         RoseWithin (fewest_loads units.now key.now f) (most_loads units.now key.now f)
         (F.loads source.old) (F.loads source.new)) }
-    // The names asked for, where they are told: those of the format in their order, as many as the
+    // The names asked for, where they are known: those of the format in their order, as many as the
     // files found say, and up to the stop.
     ensures asked { IfOk result (λ files. let f = bytes_of files in
         AskedFirst (fewest_loads units.now key.now f) (most_loads units.now key.now f)

@@ -25,7 +25,7 @@ fn has_name_bytes(name: &[u8]) -> bool
 }
 
 /// Whether files of this font are looked for: its name has no area and 1 to 100 bytes, each of them
-/// an ASCII letter, a digit, `-`, `_`, `+` or `.`, and the first of them no `.`.
+/// an ASCII letter, a digit, `-`, `_`, `+` or `.`, and the first of them isn't `.`.
 pub fn is_valid_name(key: &FontKey) -> bool
     ensures { result ≡ is_valid_name key.now }
 {

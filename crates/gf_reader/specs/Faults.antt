@@ -1,6 +1,6 @@
 -- What is wrong with an item of a GF file.
 use Rattle.std.specs.Prelude.{ℕ, ◌+◌, negsuc, Bool, ◌&&◌, ◌||◌, List, [], ◌∷◌, length, take, nat_lt, nat_le, ◌==◌, if◌then◌else◌, Option, Some, None}
-use Rattle.pk_runs.specs.Limits.{LONGEST_SIDE, MAX_RASTER_BYTES}
+use Rattle.pk_runs.specs.Limits.{MAX_GLYPH_SIDE, MAX_RASTER_BYTES}
 use Rattle.big_endian.specs.Numbers.{int_eq}
 use Rattle.gf_reader.specs.Items.{begins_character, is_misplaced, is_open, is_paint, item_size, opcode}
 use Rattle.gf_reader.specs.Commands.{column_after, is_black_after, paint_length, row_after}
@@ -19,7 +19,7 @@ place_fault in_character rest =
 -- a side is longer than 16,384 dots, or no i32 holds the offset to the right
 abbrev pub is_too_big : List ℕ → Bool
 is_too_big head =
-    nat_lt LONGEST_SIDE (columns_of head) || nat_lt LONGEST_SIDE (rows_of head)
+    nat_lt MAX_GLYPH_SIDE (columns_of head) || nat_lt MAX_GLYPH_SIDE (rows_of head)
     || int_eq (min_m head) (negsuc 2147483647)
 
 -- what is wrong with the beginning of a character after these items

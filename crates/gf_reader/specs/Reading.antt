@@ -1,6 +1,6 @@
 -- What was read and drawn so far.
 use Rattle.std.specs.Prelude.{◌≡◌, ℕ, ◌≤◌, min, List, ◌∷◌, Option, Some, None, neg_ℤ, IsTrue, IsFalse}
-use Rattle.pk_runs.specs.Limits.{LONGEST_SIDE}
+use Rattle.pk_runs.specs.Limits.{MAX_GLYPH_SIDE}
 use Rattle.gf_reader.specs.Items.{is_open}
 use Rattle.gf_reader.specs.Commands.{column_after, is_black_after, row_after}
 use Rattle.gf_reader.specs.Characters.{Character, characters_of, code_of, height_of, max_m, max_n, min_m, min_n, raster_of, width_of}
@@ -26,8 +26,8 @@ pub record IsDrawn (ch : Character) (d : Drawing) : Type 0 where
   pub row : d.row ≡ min (row_after ch.commands) (height_of ch.head)
   pub column : d.column ≡ min (column_after ch.commands) (width_of ch.head)
   pub black : d.black ≡ is_black_after ch.commands
-  pub narrow : width_of ch.head ≤ LONGEST_SIDE
-  pub low : height_of ch.head ≤ LONGEST_SIDE
+  pub narrow : width_of ch.head ≤ MAX_GLYPH_SIDE
+  pub low : height_of ch.head ≤ MAX_GLYPH_SIDE
 
 -- items were read, the font has the glyphs of the characters that have ended, and one that is open
 -- is drawn as far as its commands go

@@ -1,7 +1,7 @@
 //! A character that is drawn.
 ghost use Rattle.std.specs.Prelude.{◌≡◌, ◌≤◌, ◌≤ℤ◌, ◌<◌, ◌+◌, ◌^◌, ◌&&◌, ◌||◌, ◌∷◌, [], IfOk, IsFalse, IsTrue, List, MatchResult, ℕ, false, length, min, nat_le, nat_lt, neg_ℤ, not, pos, true};
 ghost use Rattle.packed_rows.specs.Bitmap.{IsShaped};
-ghost use Rattle.pk_runs.specs.Limits.{LONGEST_SIDE};
+ghost use Rattle.pk_runs.specs.Limits.{MAX_GLYPH_SIDE};
 ghost use Rattle.gf_reader.specs.Characters.{Character, code_of, height_of, width_of};
 ghost use Rattle.gf_reader.specs.Commands.{paint_length};
 ghost use Rattle.gf_reader.specs.Faults.{is_outside};
@@ -35,8 +35,8 @@ pub struct Drawing {
 impl Drawing {
     /// A character without commands.
     pub fn new(alloc: Global, head: &Head, sides: Sides) -> Result<Drawing, NoMemory>
-        requires narrow { sides.width ≤ LONGEST_SIDE }
-        requires low { sides.height ≤ LONGEST_SIDE }
+        requires narrow { sides.width ≤ MAX_GLYPH_SIDE }
+        requires low { sides.height ≤ MAX_GLYPH_SIDE }
         requires first { neg_ℤ (pos 2147483647) ≤ℤ head.now.min_m }
         ensures { IfOk result (λ d. (item : List ℕ) → IsHeadOf head.now item
             → sides.width ≡ width_of item → sides.height ≡ height_of item
@@ -55,7 +55,7 @@ impl Drawing {
 
     // Whether a paint of n pixels would blacken one outside of the raster.
     fn is_outside(&self, n: u32) -> bool
-        requires narrow { self.now.column ≤ LONGEST_SIDE }
+        requires narrow { self.now.column ≤ MAX_GLYPH_SIDE }
         requires few { n < 2 ^ 24 }
         ensures { result ≡ (self.now.black && nat_lt 0 n
             && (nat_lt self.now.bits.width (self.now.column + n)
@@ -70,8 +70,8 @@ impl Drawing {
     fn paint(&mut self, n: u32)
         requires column { self.old.column ≤ self.old.bits.width }
         requires row { self.old.row ≤ self.old.bits.height }
-        requires narrow { self.old.bits.width ≤ LONGEST_SIDE }
-        requires low { self.old.bits.height ≤ LONGEST_SIDE }
+        requires narrow { self.old.bits.width ≤ MAX_GLYPH_SIDE }
+        requires low { self.old.bits.height ≤ MAX_GLYPH_SIDE }
         requires few { n < 2 ^ 24 }
         requires inside { IsFalse (self.old.black && nat_lt 0 n
             && (nat_lt self.old.bits.width (self.old.column + n)
@@ -96,7 +96,7 @@ impl Drawing {
 
     // Goes n rows down, to a column that is counted from the first.
     fn move_to(&mut self, n: u32, column: u32, black: bool)
-        requires row { self.old.row ≤ LONGEST_SIDE }
+        requires row { self.old.row ≤ MAX_GLYPH_SIDE }
         requires few { n ≤ 2 ^ 24 }
         ensures { self.new ≡ after_move self.old n column black }
     {
@@ -108,8 +108,8 @@ impl Drawing {
     /// Carries out a command, or tells that it paints outside of the raster.
     pub fn command(&mut self, item: &[u8]) -> Result<(), GfFault>
         requires item { IsItem true item.now }
-        requires narrow { self.old.bits.width ≤ LONGEST_SIDE }
-        requires low { self.old.bits.height ≤ LONGEST_SIDE }
+        requires narrow { self.old.bits.width ≤ MAX_GLYPH_SIDE }
+        requires low { self.old.bits.height ≤ MAX_GLYPH_SIDE }
         requires column { self.old.column ≤ self.old.bits.width }
         requires row { self.old.row ≤ self.old.bits.height }
         ensures { (ch : Character) → IsDrawn ch self.old →
@@ -136,8 +136,8 @@ impl Drawing {
 
     /// The glyph.
     pub fn finish(self) -> Glyph
-        requires narrow { self.bits.width ≤ LONGEST_SIDE }
-        requires low { self.bits.height ≤ LONGEST_SIDE }
+        requires narrow { self.bits.width ≤ MAX_GLYPH_SIDE }
+        requires low { self.bits.height ≤ MAX_GLYPH_SIDE }
         requires shaped { IsShaped self.bits }
         ensures { result ≡ record { raster = self.bits; hoff = self.hoff; voff = self.voff } }
     {

@@ -11,7 +11,7 @@ ghost use Rattle.gf_reader.specs.declared.faults.GfFault.TheVariants as fault;
 use crate::GfFault;
 use crate::fields::{signed_at, unsigned_at};
 use crate::opcodes::BOC;
-use pk_runs::{LONGEST_SIDE, MAX_RASTER_BYTES};
+use pk_runs::{MAX_GLYPH_SIDE, MAX_RASTER_BYTES};
 
 /// The fields of the item that begins a character: its code, and the first and the last of its
 /// columns and of its rows, which count upwards.
@@ -83,15 +83,15 @@ impl Head {
         ensures sides { (item : List ℕ) → IsHeadOf self.now item → IfOk result (λ s.
             (s.width ≡ width_of item) × (s.height ≡ height_of item)
             × IsFalse (is_too_big item)) }
-        ensures narrow { IfOk result (λ s. s.width ≤ limits.LONGEST_SIDE) }
-        ensures low { IfOk result (λ s. s.height ≤ limits.LONGEST_SIDE) }
+        ensures narrow { IfOk result (λ s. s.width ≤ limits.MAX_GLYPH_SIDE) }
+        ensures low { IfOk result (λ s. s.height ≤ limits.MAX_GLYPH_SIDE) }
         ensures first { OnOk result (neg_ℤ (pos 2147483647) ≤ℤ self.now.min_m) }
         ensures fault { (item : List ℕ) → IsHeadOf self.now item → IfErr result (λ f.
             IsTrue (is_too_big item) × (f ≡ fault.TooBig (code_of item))) }
     {
         let columns = extent(self.min_m, self.max_m);
         let rows = extent(self.min_n, self.max_n);
-        let longest = u64::from(LONGEST_SIDE);
+        let longest = u64::from(MAX_GLYPH_SIDE);
         if columns > longest || rows > longest || self.min_m == i32::MIN {
             return Err(GfFault::TooBig(self.code));
         }
@@ -112,7 +112,7 @@ fn extent(least: i32, greatest: i32) -> u64
 
 // A side of a raster, which has none beside an empty one.
 fn raster_side(other: u64, side: u64) -> u32
-    requires { side ≤ limits.LONGEST_SIDE }
+    requires { side ≤ limits.MAX_GLYPH_SIDE }
     ensures { result ≡ raster_side other side }
 {
     if other == 0 { 0 } else { side as u32 }
@@ -121,8 +121,8 @@ fn raster_side(other: u64, side: u64) -> u32
 /// The bytes that the rasters take with one of these sides, where those before it take n, or
 /// `FontTooBig`.
 pub fn sum_with(sides: &Sides, before: u32) -> Result<u32, GfFault>
-    requires narrow { sides.now.width ≤ limits.LONGEST_SIDE }
-    requires low { sides.now.height ≤ limits.LONGEST_SIDE }
+    requires narrow { sides.now.width ≤ limits.MAX_GLYPH_SIDE }
+    requires low { sides.now.height ≤ limits.MAX_GLYPH_SIDE }
     requires few { before ≤ limits.MAX_RASTER_BYTES }
     ensures sum { IfOk result (λ sum. sum ≡ before + sides.now.height
         * div_ceil sides.now.width 8) }

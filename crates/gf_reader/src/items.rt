@@ -1,6 +1,6 @@
 //! The items of a GF file, one by one.
 ghost use Rattle.std.specs.Prelude.{◌≡◌, ◌≤◌, ℕ, List, ◌++◌, ◌∷◌, IfErr, IfOk, IsFalse, MatchOption, None, OnOk, Some, length};
-ghost use Rattle.byte_cursor.specs.Cursor.{after};
+ghost use Rattle.byte_cursor.specs.Cursor.{cursor_after};
 ghost use Rattle.gf_reader.specs.Faults.{place_fault};
 ghost use Rattle.gf_reader.specs.Items.{IsItem, is_misplaced, item_size, opcode, text_size};
 

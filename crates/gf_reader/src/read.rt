@@ -1,7 +1,7 @@
 //! Reading a GF file.
 ghost use Rattle.std.specs.Prelude.{◌≡◌, ◌≤◌, ◌∷◌, IfErr, IfOk, IsTrue, List, MatchResult, None, Option, Some, ℕ, true, false};
 ghost use Rattle.packed_rows.specs.Bitmap.{IsShaped};
-ghost use Rattle.pk_runs.specs.Limits.{LONGEST_SIDE, MAX_RASTER_BYTES};
+ghost use Rattle.pk_runs.specs.Limits.{MAX_GLYPH_SIDE, MAX_RASTER_BYTES};
 ghost use Rattle.gf_reader.specs.Characters.{Character, raster_sum};
 ghost use Rattle.gf_reader.specs.Faults.{fault_of_item};
 ghost use Rattle.gf_reader.specs.FirstFault.{IsFirstFault};
@@ -64,8 +64,8 @@ impl GfFont {
         item: &[u8],
     ) -> Result<Option<Drawing>, GfStop>
         requires item { IsItem true item.now }
-        requires narrow { drawing.bits.width ≤ LONGEST_SIDE }
-        requires low { drawing.bits.height ≤ LONGEST_SIDE }
+        requires narrow { drawing.bits.width ≤ MAX_GLYPH_SIDE }
+        requires low { drawing.bits.height ≤ MAX_GLYPH_SIDE }
         requires shaped { IsShaped drawing.bits }
         requires column { drawing.column ≤ drawing.bits.width }
         requires row { drawing.row ≤ drawing.bits.height }

@@ -1,4 +1,4 @@
--- Bytes that are told grow in steps.
+-- Bytes that are known grow in steps.
 use Rattle.std.proofs.Common.{◌≡◌, ◌∙◌, ◌≤◌, ◌<◌, ◌+◌, ◌-◌, inl, inr, ◌++◌, ℕ, List, [], length, take, drop, arith, refl, sym, ap, subst, append_assoc, append-nil, Option, Some, None, Bool, true, Result}
 use Rattle.std.specs.Prelude.{IsErr, is_err}
 use Rattle.std.proofs.Math.Seq.{take-add, take-append-add}

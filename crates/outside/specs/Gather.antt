@@ -9,7 +9,7 @@ use Rattle.outside.specs.declared.gather.Gather.{Gather}
 abbrev pub held : Gather → List ℕ
 held g = take g.used g.piece
 
--- what is told grew by a prefix of the text; the rest is held
+-- what is known grew by a prefix of the text; the rest is held
 pub record IsHeld (held : List ℕ) (start now : Option (List ℕ)) (text : List ℕ) : Type 0 where
   pub prefix : List ℕ
   pub grew : Appends start now prefix
@@ -20,8 +20,8 @@ abbrev pub Gathered : Gather → Option (List ℕ) → Option (List ℕ) → Lis
 Gathered g start now text =
     MatchBool g.failed (AppendsPrefix start now text) (IsHeld (held g) start now text)
 
--- Since what is told was `start` and the count of faults `before`, the text was put and no other
--- byte was written: `written` and `now` are what is told and the count since then.
+-- Since what is known was `start` and the count of faults `before`, the text was put and no other
+-- byte was written: `written` and `now` are what is known and the count since then.
 pub record Gathers (start : Option (List ℕ)) (before : ℕ) (g : Gather)
     (written : Option (List ℕ)) (now : ℕ) (text : List ℕ) : Type 0 where
   pub gathered : Gathered g start written text

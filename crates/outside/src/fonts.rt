@@ -10,7 +10,7 @@ use std::alloc::AllocError;
 /// Why a file was not loaded.
 #[derive(Clone, Copy, Debug, PartialEq, Eq, thiserror::Error)]
 pub enum LoadStop {
-    /// The source failed, as a disk does.
+    /// The source failed, as a disk may.
     #[error("a font file could not be read")]
     Failed,
     /// Out of memory.
@@ -31,7 +31,7 @@ impl From<AllocError> for LoadStop {
 
 /// Where font files come from.
 pub trait FontSource: Drop {
-    /// All the files, where they are told. No call changes them.
+    /// All the files, where they are known. No call changes them.
     ghost library: { Self → Option FileTable } = { λ _. None };
 
     /// How often it failed.
@@ -40,7 +40,7 @@ pub trait FontSource: Drop {
     /// How often a file was asked for.
     ghost loads: { Self → ℕ };
 
-    /// The names that were asked for, in order, where they are told.
+    /// The names that were asked for, in order, where they are known.
     ghost asked: { Self → Option (List (List ℕ)) } = { λ _. None };
 
     /// The bytes of the file of this name, or `None` where there is no such file.

@@ -1,9 +1,10 @@
-//! The driver's outside: where bytes come from and go to, where font files come from, and the names
-//! of fonts and files. Each trait may tell its content to proofs, and has a count of faults that
-//! never falls; the forms in memory tell theirs, and stand in for the real ones in tests.
+//! The driver's outside: where bytes come from and where they go, where font files come from, and
+//! the names of fonts and files. Proofs may know the content of a value of each trait, and each has
+//! a count of faults that never falls. Of the forms in memory, which tests use in place of the real
+//! ones, the content is known.
 #![tactic(auto)]
 
-mod asked;
+mod asked_names;
 mod fonts;
 mod gather;
 mod keys;

@@ -4,19 +4,19 @@ ghost use Rattle.std.specs.Option.{option_map};
 ghost use Rattle.outside.specs.Counts.{HasCause, next_count};
 ghost use Rattle.outside.specs.Library.{AskedFor, IsFileOf};
 
-use crate::asked::Asked;
+use crate::asked_names::AskedNames;
 use crate::memory::is_listed;
 use crate::{FileName, FontSource, Library, LoadStop};
 use std::sync::Arc;
 
-/// A library of which the numbered loads fail.
+/// A library of which the loads with the listed numbers fail.
 #[derive(Drop)]
 pub struct MemFonts {
     library: Arc<Library>,
     fails: Vec<u64>,
     loads: u64,
     faults: u64,
-    asked: Asked,
+    asked: AskedNames,
     ghost loads_fit: { loads < 2 ^ 64 },
 }
 
@@ -27,7 +27,7 @@ impl MemFonts {
         ensures fails { result.fails.items ≡ fails.items }
         ensures unused { (result.loads ≡ 0) × (result.faults ≡ 0) × (result.asked ≡ Some []) }
     {
-        let asked = Asked::new(library.alloc());
+        let asked = AskedNames::new(library.alloc());
         MemFonts {
             library,
             fails,
@@ -37,7 +37,7 @@ impl MemFonts {
         }
     }
 
-    /// The names that were asked for, in order, but for want of memory.
+    /// The names that were asked for, in order, unless memory ran out for one.
     pub fn asked(&self) -> Option<&[FileName]>
         ensures { option_map (λ names. names.now) result ≡ self.now.asked }
     {
@@ -83,12 +83,12 @@ impl FontSource for MemFonts {
     }
 }
 
-/// A library of which no load fails, but for want of memory.
+/// A library of which no load fails unless memory runs out.
 #[derive(Drop)]
 pub struct SureFonts {
     library: Arc<Library>,
     loads: u64,
-    asked: Asked,
+    asked: AskedNames,
     ghost loads_fit: { loads < 2 ^ 64 },
 }
 
@@ -98,7 +98,7 @@ impl SureFonts {
         ensures library { result.library.value ≡ library.value }
         ensures unused { (result.loads ≡ 0) × (result.asked ≡ Some []) }
     {
-        let asked = Asked::new(library.alloc());
+        let asked = AskedNames::new(library.alloc());
         SureFonts {
             library,
             loads: 0,

@@ -23,7 +23,7 @@ pub(crate) fn copy_prefix(left: &[u8], piece: usize, buf: &mut [u8]) -> usize
     n
 }
 
-/// Bytes that are read in pieces, where the numbered calls fail.
+/// Bytes that are read in pieces, where the calls with the listed numbers fail.
 #[derive(Debug, Drop)]
 pub struct MemInput {
     bytes: Vec<u8>,
@@ -90,7 +90,7 @@ impl Input for MemInput {
     }
 }
 
-/// Bytes that are written in pieces, where the numbered calls fail.
+/// Bytes that are written in pieces, where the calls with the listed numbers fail.
 #[derive(Debug, Drop)]
 pub struct MemOutput {
     bytes: Vec<u8>,

@@ -5,7 +5,7 @@ ghost use Rattle.std.specs.Option.{option_map};
 ghost use Rattle.outside.specs.Counts.{HasCause, next_count};
 ghost use Rattle.outside.specs.Library.{AskedFor, IsFileOf};
 
-use crate::asked::Asked;
+use crate::asked_names::AskedNames;
 use crate::{FileName, FontName, FontSource, Library, LoadStop};
 use std::sync::Arc;
 
@@ -16,7 +16,7 @@ pub struct PickyFonts {
     front: FontName,
     loads: u64,
     faults: u64,
-    asked: Asked,
+    asked: AskedNames,
     ghost loads_fit: { loads < 2 ^ 64 },
 }
 
@@ -27,7 +27,7 @@ impl PickyFonts {
         ensures front { result.front ≡ front }
         ensures unused { (result.loads ≡ 0) × (result.faults ≡ 0) × (result.asked ≡ Some []) }
     {
-        let asked = Asked::new(library.alloc());
+        let asked = AskedNames::new(library.alloc());
         PickyFonts {
             library,
             front,

@@ -58,7 +58,7 @@ pub struct SureOutput {
 }
 
 impl SureOutput {
-    /// Takes room for n bytes, so that no write wants memory.
+    /// Takes room for n bytes, so that no write needs memory.
     pub fn new(alloc: Global, room: usize) -> Result<SureOutput, NoMemory>
         ensures empty { IfOk result (λ s. s.bytes.items ≡ []) }
         ensures room { IfOk result (λ s. s.room ≡ room) }

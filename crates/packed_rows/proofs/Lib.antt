@@ -8,7 +8,7 @@ pub mod StoredBitmaps
 pub mod Copied
 pub mod EightBytes
 pub mod Parts
-pub mod Turned
+pub mod RotatedWords
 pub mod BlackWords
 pub mod JoinedRows
 pub mod Counts

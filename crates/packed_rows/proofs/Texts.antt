@@ -5,7 +5,7 @@ use Rattle.std.proofs.lemmas.Bool.{cases_lt}
 use Rattle.std.proofs.lemmas.List.{ext_get_or, get_or-drop}
 use Rattle.std.proofs.lemmas.Nat.{mod-pow-add}
 use Rattle.std.proofs.lemmas.Nat.Bits.{bit_at-lt}
-use Rattle.packed_rows.specs.Packing.{bits_value, row_text, pixel, pixels_of, IsPadded, PackingGivesBack, PixelsTellTheBytes}
+use Rattle.packed_rows.specs.Packing.{bits_value, row_text, pixel, pixels_of, IsPadded, PackingGivesBack, PixelsDetermineTheBytes}
 use Rattle.packed_rows.proofs.Lists.{length-from_fn, get_or-from_fn, from_fn_past}
 
 times_power : (t p : ℕ) → t < 2 → t * p ≡ cond (eqb t 1) p 0
@@ -78,5 +78,5 @@ packing_gives_back width bytes padded = ext_get_or 0 (row_text (pixels_of width 
         get_or-from_fn (div_ceil (length (pixels_of width bytes)) 8) (λ j. bits_value 8 (drop (8 * j) (pixels_of width bytes))) i 0 within
         ∙ same_byte width bytes i padded (omega (arith, h, long))
 
-pub pixels_tell_the_bytes : PixelsTellTheBytes
-pixels_tell_the_bytes width a b padded others same = sym (packing_gives_back width a padded) ∙ ap row_text same ∙ packing_gives_back width b others
+pub pixels_determine_the_bytes : PixelsDetermineTheBytes
+pixels_determine_the_bytes width a b padded others same = sym (packing_gives_back width a padded) ∙ ap row_text same ∙ packing_gives_back width b others

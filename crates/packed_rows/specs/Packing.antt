@@ -37,8 +37,8 @@ PackingGivesBack =
     (width : ℕ) (bytes : List ℕ) → IsPadded width bytes → row_text (pixels_of width bytes) ≡ bytes
 
 -- two rows of bytes with the same pixels are equal
-abbrev pub PixelsTellTheBytes : Type 0
-PixelsTellTheBytes =
+abbrev pub PixelsDetermineTheBytes : Type 0
+PixelsDetermineTheBytes =
     (width : ℕ) (a b : List ℕ) → IsPadded width a → IsPadded width b
     → pixels_of width a ≡ pixels_of width b → a ≡ b
 

@@ -1,10 +1,10 @@
 //! Laws over the definitions, each the contract of a function without a body.
 
-ghost use Rattle.packed_rows.specs.Packing.{PackingGivesBack, PixelsTellTheBytes, RowsHaveTheirWidth};
+ghost use Rattle.packed_rows.specs.Packing.{PackingGivesBack, PixelsDetermineTheBytes, RowsHaveTheirWidth};
 
-/// Packing is undone by reading the pixels, and so the pixels tell the bytes.
+/// Reading the pixels undoes the packing, so the pixels determine the bytes.
 pub fn packing()
     ensures gives_back { PackingGivesBack }
-    ensures told { PixelsTellTheBytes }
+    ensures determined { PixelsDetermineTheBytes }
     ensures width { RowsHaveTheirWidth }
 {}

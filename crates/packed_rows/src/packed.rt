@@ -15,7 +15,7 @@ use std::alloc::{AllocError as NoMemory, Global};
 use std::marker::Model;
 
 /// A bitmap, seen as its width, its height and its rows of pixels. Its rows lie side by side. Eight
-/// more bytes stand after the last one, so that a word can be read from each byte of a row.
+/// more bytes follow the last one, so that a word can be read from each byte of a row.
 #[derive(Drop)]
 pub struct PackedBitmap {
     width: u32,

@@ -23,8 +23,8 @@ use std::alloc::{AllocError as NoMemory, Global};
 use std::marker::Model;
 
 /// A bitmap, seen as its width, its height and its rows of pixels. Each row takes whole words of
-/// eight bytes, and what stands after its last pixel is zero. One word more stands after the last
-/// row, so that a word can be read from each byte of a row.
+/// eight bytes, and what follows its last pixel is zero. One more word follows the last row, so
+/// that a word can be read from each byte of a row.
 #[derive(Drop)]
 pub struct PaddedBitmap {
     width: u32,

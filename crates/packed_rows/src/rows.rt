@@ -68,7 +68,8 @@ fn copy_row(bytes: &mut [u8], stride: usize, span: Span)
     requires below { span.from < span.until }
     requires whole { span.until * stride + stride ≤ length bytes.old }
     ensures { bytes.new ≡ take (span.until * stride) bytes.old
-        ++ (row_at stride bytes.old span.from ++ drop stride (drop (span.until * stride) bytes.old)) }
+        ++ (row_at stride bytes.old span.from
+        ++ drop stride (drop (span.until * stride) bytes.old)) }
 {
     let (above, below) = bytes.split_at_mut(span.until * stride);
     let start = span.from * stride;

@@ -8,7 +8,7 @@ ghost use Rattle.packed_rows.specs.Stamped.{part_over, pixel_over, strip_over, A
 use crate::placing::{Lower, Upper};
 use crate::row::padded_bytes;
 use crate::rows::Span;
-use crate::words::{join_word, span_word, turned, word_at};
+use crate::words::{join_word, rotated_right, span_word, word_at};
 
 /// Which word of each upper row is set on which word of the row below it.
 #[derive(Clone, Copy)]
@@ -53,7 +53,7 @@ fn stamp_rows(bytes: &mut [u8], upper: Upper, strip: Strip, rows: Span)
         let y = rows.from + step;
         let start = y * row_len;
         let above = y * upper.stride + strip.from;
-        let word = turned(word_at(upper.bytes, above), strip.turn) & strip.mask;
+        let word = rotated_right(word_at(upper.bytes, above), strip.turn) & strip.mask;
         join_word(&mut bytes[start..start + row_len], strip.to, word);
     }
 }

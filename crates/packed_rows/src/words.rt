@@ -33,7 +33,7 @@ pub fn span_word(from: usize, until: usize) -> u64
 }
 
 /// The word turned to the right: what leaves it at the right comes in again at the left.
-pub fn turned(word: u64, by: usize) -> u64
+pub fn rotated_right(word: u64, by: usize) -> u64
     requires { by < 64 }
     ensures { (i : ℕ) → i < 64 → word_pixel result i ≡ word_pixel word ((i + (64 - by)) % 64) }
 {

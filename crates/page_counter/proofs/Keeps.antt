@@ -12,31 +12,31 @@ use lib.ListN.{get_elem?}
 use Rattle.atomic_table.specs.Table.{State, keeps, Final, Seen}
 use Rattle.atomic_table.proofs.Lists.{at_set}
 use Rattle.page_counter.specs.declared.view.SeatClaims.{SeatClaims}
-use Rattle.page_counter.specs.declared.view.Standing.{Standing}
+use Rattle.page_counter.specs.declared.view.SeatState.{SeatState}
 use Rattle.page_counter.specs.Numbers.{times, EachOnce}
-use Rattle.page_counter.specs.Views.{claims_of, numbers_of, known_claims, seats_of, all_seats, seat_claims, first_standing, claimed_standing, split_standing, new_standing, joined_standing, spent_standing}
+use Rattle.page_counter.specs.Views.{claims_of, numbers_of, known_claims, seats_of, all_seats, seat_claims, first_state, claimed_state, split_state, new_state, joined_state, spent_state}
 use Rattle.page_counter.specs.CounterRule.{ClaimsFit, LiveFits, CounterRule}
 use Rattle.page_counter.specs.Seats.{AllJoined}
-use Rattle.page_counter.specs.Steps.{ClaimTells}
+use Rattle.page_counter.specs.Steps.{ClaimGives}
 use Rattle.page_counter.specs.Laws.{MakeKeeps, ClaimKeeps, SplitKeeps, JoinKeeps}
 use Rattle.page_counter.proofs.Sums.{sum_set, sum_has, at_inside}
 use Rattle.page_counter.proofs.Once.{bit, times-cons, times-append, times_of_contains, once_is_count, once_more, once_same, rises_push}
-use Rattle.page_counter.proofs.Standings.{claimed_in, numbered_in, claims_total, numbers_total, known_times, claims_most, knows_all, live_claims, live_numbers, known_most}
+use Rattle.page_counter.proofs.SeatStates.{claimed_in, numbered_in, claims_total, numbers_total, known_times, claims_most, knows_all, live_claims, live_numbers, known_most}
 
 abbrev St : Type 0
-St = State (Unit {0}) Standing
+St = State (Unit {0}) SeatState
 
 -- what is true of each place after one is set
-each_set : (P : ℕ → Standing → Type 0) (views : List Standing) (id : ℕ) (q : Standing) → P id q → ((n : ℕ) (p : Standing) → n ≢ id → get_elem? views n ≡ some p → P n p)
-    → (n : ℕ) (p : Standing) → get_elem? (set views id q) n ≡ some p → P n p
+each_set : (P : ℕ → SeatState → Type 0) (views : List SeatState) (id : ℕ) (q : SeatState) → P id q → ((n : ℕ) (p : SeatState) → n ≢ id → get_elem? views n ≡ some p → P n p)
+    → (n : ℕ) (p : SeatState) → get_elem? (set views id q) n ≡ some p → P n p
 each_set P views id q mine others n p at = ⊎_elim
-    (λ (t : (n ≡ id) × (q ≡ p)). subst (λ (x : ℕ × Standing). P x.0 x.1) (λ i. (sym t.0 i, t.1 i)) mine)
+    (λ (t : (n ≡ id) × (q ≡ p)). subst (λ (x : ℕ × SeatState). P x.0 x.1) (λ i. (sym t.0 i, t.1 i)) mine)
     (λ (t : (n ≢ id) × (get_elem? views n ≡ some p)). others n p t.0 t.1)
     (at_set views id n q p at)
 
 -- what is true of each place after one is added at the end
-each_push : (P : ℕ → Standing → Type 0) (views : List Standing) (q : Standing) → P (length views) q → ((n : ℕ) (p : Standing) → get_elem? views n ≡ some p → P n p)
-    → (n : ℕ) (p : Standing) → get_elem? (views ++ q ∷ []) n ≡ some p → P n p
+each_push : (P : ℕ → SeatState → Type 0) (views : List SeatState) (q : SeatState) → P (length views) q → ((n : ℕ) (p : SeatState) → get_elem? views n ≡ some p → P n p)
+    → (n : ℕ) (p : SeatState) → get_elem? (views ++ q ∷ []) n ≡ some p → P n p
 each_push P [] q mine others zero p at = subst (P 0) (some-injective q p at) mine
 each_push P [] q mine others (suc n) p at = absurd (some-ne-none p (sym at))
 each_push P (v ∷ views) q mine others zero p at = others 0 p at
@@ -52,8 +52,8 @@ makes = record {
   each = alone;
 }
   where
-    alone : (n : ℕ) (p : Standing) → get_elem? (first_standing ∷ []) n ≡ some p → p.live ≡ true → LiveFits 1 n p.view
-    alone zero p at live = subst (λ (q : Standing). LiveFits 1 0 q.view) (some-injective first_standing p at) record {
+    alone : (n : ℕ) (p : SeatState) → get_elem? (first_state ∷ []) n ≡ some p → p.live ≡ true → LiveFits 1 n p.view
+    alone zero p at live = subst (λ (q : SeatState). LiveFits 1 0 q.view) (some-injective first_state p at) record {
       number_is = refl;
       made_is = λ _. refl;
       other_is = λ not. absurd (not refl);
@@ -76,7 +76,7 @@ module _ (s : St) (r : CounterRule s) where
   claimed_most = let a = claims_most (length s.views) s.views r.each r.numbers_once r.few in let b = count_is in omega arith
 
   -- what a seat knows was claimed
-  known_below : (id : ℕ) (p : Standing) → get_elem? s.views id ≡ some p → p.live ≡ true → All (λ c. c < r.claimed) (known_claims p.view)
+  known_below : (id : ℕ) (p : SeatState) → get_elem? s.views id ≡ some p → p.live ≡ true → All (λ c. c < r.claimed) (known_claims p.view)
   known_below id p at live k d lt =
       let known : List ℕ = known_claims p.view in
       let x : ℕ = get_or known k d in
@@ -89,7 +89,7 @@ module _ (s : St) (r : CounterRule s) where
       (λ ge. let z = (r.claims_once x).1 ge in absurd (omega arith))
       (cases_lt x r.claimed)
 
-  tells : (id : ℕ) (p : Standing) → get_elem? s.views id ≡ some p → p.live ≡ true → r.claimed < 33 * 64 → ClaimTells p.view r.claimed
+  tells : (id : ℕ) (p : SeatState) → get_elem? s.views id ≡ some p → p.live ≡ true → r.claimed < 33 * 64 → ClaimGives p.view r.claimed
   tells id p at live room =
       let f = r.each id p at live in
       let above = known_below id p at live in record {
@@ -104,11 +104,11 @@ module _ (s : St) (r : CounterRule s) where
       }
 
   -- one more claim, of the seat with this view
-  claimed_rule : (id : ℕ) (p : Standing) → get_elem? s.views id ≡ some p → p.live ≡ true → length p.view.claims < 64
-      → CounterRule record { words = (r.claimed + 1) ∷ []; homes = s.homes; views = set s.views id (claimed_standing p r.claimed) }
+  claimed_rule : (id : ℕ) (p : SeatState) → get_elem? s.views id ≡ some p → p.live ≡ true → length p.view.claims < 64
+      → CounterRule record { words = (r.claimed + 1) ∷ []; homes = s.homes; views = set s.views id (claimed_state p r.claimed) }
   claimed_rule id p at live room =
-      let q : Standing = claimed_standing p r.claimed in
-      let views : List Standing = set s.views id q in
+      let q : SeatState = claimed_state p r.claimed in
+      let views : List SeatState = set s.views id q in
       let f = r.each id p at live in
       let long : length views ≡ length s.views = length-set s.views id q in record {
         claimed = r.claimed + 1;
@@ -145,29 +145,29 @@ module _ (s : St) (r : CounterRule s) where
 
 pub claims : ClaimKeeps
 claims slots id me live room s r _ at _ =
-    let p : Standing = me.0 in
+    let p : SeatState = me.0 in
     let found : ℕ = get_or s.words 0 0 in
     let word : found ≡ r.claimed = word_is s r in
     let most = claimed_most s r in
     let next : (found + 1) % 2 ^ 64 ≡ r.claimed + 1 = omega arith in
     let words : set s.words 0 ((found + 1) % 2 ^ 64) ≡ (r.claimed + 1) ∷ [] = ap (λ l. set l 0 ((found + 1) % 2 ^ 64)) r.words_are ∙ ap (λ (n : ℕ). n ∷ []) next in
     let rule = claimed_rule s r id p at live room in
-    let after : St = record { words = (r.claimed + 1) ∷ []; homes = s.homes; views = set s.views id (claimed_standing p r.claimed) } in
+    let after : St = record { words = (r.claimed + 1) ∷ []; homes = s.homes; views = set s.views id (claimed_state p r.claimed) } in
     let few = claimed_most after rule in
     let is : r.claimed + 1 ≡ rule.claimed = word_is after rule in (
-      claimed_standing p found,
+      claimed_state p found,
       keeps,
       tt,
-      subst (λ (x : List ℕ × ℕ). CounterRule record { words = x.0; homes = s.homes; views = set s.views id (claimed_standing p x.1) }) (λ i. (sym words i, sym word i)) rule,
-      (refl, subst (ClaimTells p.view) (sym word) (tells s r id p at live (omega arith))),
+      subst (λ (x : List ℕ × ℕ). CounterRule record { words = x.0; homes = s.homes; views = set s.views id (claimed_state p x.1) }) (λ i. (sym words i, sym word i)) rule,
+      (refl, subst (ClaimGives p.view) (sym word) (tells s r id p at live (omega arith))),
     )
 
 pub splits : SplitKeeps
 splits id p live is_first room s r at =
-    let q : Standing = split_standing p in
-    let new : Standing = new_standing p in
-    let old : List Standing = set s.views id q in
-    let views : List Standing = old ++ new ∷ [] in
+    let q : SeatState = split_state p in
+    let new : SeatState = new_state p in
+    let old : List SeatState = set s.views id q in
+    let views : List SeatState = old ++ new ∷ [] in
     let f = r.each id p at live in
     let zeroth : id ≡ 0 = sym f.number_is ∙ is_first in
     let made = f.made_is zeroth in
@@ -223,22 +223,22 @@ splits id p live is_first room s r at =
 
 pub joins : JoinKeeps
 joins id p other q live is_first live_q s r at apart there =
-    let w : Standing = joined_standing p q in
-    let old : List Standing = set s.views id w in
-    let views : List Standing = set old other spent_standing in
+    let w : SeatState = joined_state p q in
+    let old : List SeatState = set s.views id w in
+    let views : List SeatState = set old other spent_state in
     let f = r.each id p at live in
     let zeroth : id ≡ 0 = sym f.number_is ∙ is_first in
     let at_q : get_elem? s.views other ≡ some q = ⊎_elim (λ (t : (other ≡ id) × (w ≡ q)). absurd (apart t.0)) (λ (t : (other ≢ id) × (get_elem? s.views other ≡ some q)). t.1) (at_set s.views id other w q there) in
     let g = r.each other q at_q live_q in
     let none : q.view.joined ≡ [] = (g.other_is (λ e. apart (e ∙ sym zeroth))).1 in
-    let long : length views ≡ length s.views = length-set old other spent_standing ∙ length-set s.views id w in record {
+    let long : length views ≡ length s.views = length-set old other spent_state ∙ length-set s.views id w in record {
       claimed = r.claimed;
       words_are = r.words_are;
       claims_once = once_same r.claimed (claims_of (all_seats s.views)) (claims_of (all_seats views)) r.claims_once (λ x.
           let a = claims_total x s.views in
           let b = claims_total x views in
           let c = sum_set (λ u. claimed_in x (seats_of u)) s.views id p w at in
-          let d = sum_set (λ u. claimed_in x (seats_of u)) old other q spent_standing there in
+          let d = sum_set (λ u. claimed_in x (seats_of u)) old other q spent_state there in
           let e = live_claims x p live in
           let h = live_claims x w live in
           let i = sum_by_push (λ (z : SeatClaims). times x z.claims) p.view.joined (seat_claims q.view) in
@@ -248,7 +248,7 @@ joins id p other q live is_first live_q s r at apart there =
           let a = numbers_total x s.views in
           let b = numbers_total x views in
           let c = sum_set (λ u. numbered_in x (seats_of u)) s.views id p w at in
-          let d = sum_set (λ u. numbered_in x (seats_of u)) old other q spent_standing there in
+          let d = sum_set (λ u. numbered_in x (seats_of u)) old other q spent_state there in
           let e = live_numbers x p live in
           let h = live_numbers x w live in
           let i = sum_by_push (λ (z : SeatClaims). bit (eqb z.number x)) p.view.joined (seat_claims q.view) in
@@ -256,7 +256,7 @@ joins id p other q live is_first live_q s r at apart there =
           let k : numbered_in x q.view.joined ≡ numbered_in x [] = ap (numbered_in x) none in omega arith));
       few = let n = r.few in omega arith;
       each = λ n u at_n lives. subst (λ (m : ℕ). LiveFits m n u.view) (sym long)
-          (each_set (λ n u. u.live ≡ true → LiveFits (length s.views) n u.view) old other spent_standing
+          (each_set (λ n u. u.live ≡ true → LiveFits (length s.views) n u.view) old other spent_state
           (λ dead. absurd (true≢false (sym dead)))
           (λ n u _ at_old. each_set (λ n u. u.live ≡ true → LiveFits (length s.views) n u.view) s.views id w
           (λ _. record {
@@ -271,7 +271,7 @@ joins id p other q live is_first live_q s r at apart there =
     }
 
 -- what the word of the closed table is, where seat 0 has joined all others
-pub closes : (id : ℕ) (p : Standing) (ws : List ℕ) (xs : List (Unit {0})) (found : ℕ) → p.live ≡ true → p.view.number ≡ 0 → AllJoined p.view
+pub closes : (id : ℕ) (p : SeatState) (ws : List ℕ) (xs : List (Unit {0})) (found : ℕ) → p.live ≡ true → p.view.number ≡ 0 → AllJoined p.view
     → Final (Seen CounterRule id p) ws xs → get_elem? ws 0 ≡ some found → EachOnce found (known_claims p.view)
 closes id p ws xs found live is_first all final there =
     let s : St = final.0 in

@@ -1,6 +1,6 @@
 pub mod Sums
 pub mod Once
-pub mod Standings
+pub mod SeatStates
 pub mod Keeps
 pub mod Says
 pub mod Claimers

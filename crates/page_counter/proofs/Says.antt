@@ -6,14 +6,14 @@ use Rattle.std.proofs.lemmas.List.Sums.{get_or-le-sum_by}
 use Rattle.std.proofs.lemmas.List.Elements.{All-contains, Contains-append_cases}
 use Rattle.atomic_table.specs.Table.{State}
 use Rattle.page_counter.specs.declared.view.SeatClaims.{SeatClaims}
-use Rattle.page_counter.specs.declared.view.Standing.{Standing}
+use Rattle.page_counter.specs.declared.view.SeatState.{SeatState}
 use Rattle.page_counter.specs.Numbers.{times}
 use Rattle.page_counter.specs.Views.{claims_of, all_seats}
 use Rattle.page_counter.specs.CounterRule.{ClaimsFit, CounterRule}
-use Rattle.page_counter.specs.Laws.{WordCounts, SeatsCounted, ClaimedByOne, NoOtherClaimed, NoneInCommon, ClaimsRise, ClaimsFew, ClaimsAreOfSeats, SeatsHaveClaims}
+use Rattle.page_counter.specs.Laws.{CounterCounts, SeatsCounted, ClaimedByOne, NoOtherClaimed, NoneInCommon, ClaimsRise, ClaimsFew, ClaimsAreOfSeats, SeatsHaveClaims}
 use Rattle.page_counter.proofs.Sums.{sum_has_two}
 use Rattle.page_counter.proofs.Once.{once_is_count, once_has_all, once_has_no_other, once_most, times_of_contains, contains_of_times}
-use Rattle.page_counter.proofs.Standings.{claims_times, seats_fit}
+use Rattle.page_counter.proofs.SeatStates.{claims_times, seats_fit}
 
 pub claims_are_of_seats : ClaimsAreOfSeats
 claims_are_of_seats [] x has = let inside = has.1 in absurd (omega arith)
@@ -52,11 +52,11 @@ one_seat seats x a b once at_a in_a at_b in_b = ⊎_elim
     (cases_eq at_a.0 at_b.0)
 
 -- the word is the number of the rule
-claimed_is : (s : State (Unit {0}) Standing) (r : CounterRule s) (word : ℕ) → s.words ≡ word ∷ [] → word ≡ r.claimed
-claimed_is s r word is = ap (λ l. get_or l 0 0) (sym is ∙ r.words_are)
+claimed_is : (s : State (Unit {0}) SeatState) (r : CounterRule s) (counter : ℕ) → s.words ≡ counter ∷ [] → counter ≡ r.claimed
+claimed_is s r counter is = ap (λ l. get_or l 0 0) (sym is ∙ r.words_are)
 
-pub word_counts : WordCounts
-word_counts s r = r.words_are ∙ ap (λ (n : ℕ). n ∷ []) (sym (once_is_count r.claimed (claims_of (all_seats s.views)) r.claims_once))
+pub counter_counts : CounterCounts
+counter_counts s r = r.words_are ∙ ap (λ (n : ℕ). n ∷ []) (sym (once_is_count r.claimed (claims_of (all_seats s.views)) r.claims_once))
 
 pub seats_counted : SeatsCounted
 seats_counted s r = (r.few, r.numbers_once)
@@ -68,8 +68,8 @@ none_in_common s r n m x apart a b =
     apart (sym a.2 ∙ (ap (λ (z : SeatClaims). z.number) same ∙ b.2))
 
 pub claimed_by_one : ClaimedByOne
-claimed_by_one s r word x is lt =
-    let has = once_has_all r.claimed (claims_of (all_seats s.views)) r.claims_once x (let e = claimed_is s r word is in omega arith) in
+claimed_by_one s r counter x is lt =
+    let has = once_has_all r.claimed (claims_of (all_seats s.views)) r.claims_once x (let e = claimed_is s r counter is in omega arith) in
     let found = claims_are_of_seats (all_seats s.views) x has in
     let once = once_most r.claimed (claims_of (all_seats s.views)) r.claims_once x in (
       found.0.number,
@@ -78,12 +78,12 @@ claimed_by_one s r word x is lt =
     )
 
 pub no_other_claimed : NoOtherClaimed
-no_other_claimed s r word n x is a =
+no_other_claimed s r counter n x is a =
     let has = seats_have_claims (all_seats s.views) a.0 x a.1 a.3 in
     let below = once_has_no_other r.claimed (claims_of (all_seats s.views)) r.claims_once x has in
-    let e = claimed_is s r word is in omega arith
+    let e = claimed_is s r counter is in omega arith
 
-fits : (s : State (Unit {0}) Standing) → CounterRule s → (seat : SeatClaims) → Contains (all_seats s.views) seat → ClaimsFit seat.claims
+fits : (s : State (Unit {0}) SeatState) → CounterRule s → (seat : SeatClaims) → Contains (all_seats s.views) seat → ClaimsFit seat.claims
 fits s r seat at = All-contains (λ (z : SeatClaims). ClaimsFit z.claims) (all_seats s.views) seat (seats_fit (length s.views) s.views r.each) at
 
 pub claims_rise : ClaimsRise

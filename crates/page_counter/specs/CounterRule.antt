@@ -7,7 +7,7 @@ use mathlib.Core.Option.{some}
 use lib.ListN.{get_elem?}
 use Rattle.atomic_table.specs.Table.{State}
 use Rattle.page_counter.specs.declared.view.View.{View}
-use Rattle.page_counter.specs.declared.view.Standing.{Standing}
+use Rattle.page_counter.specs.declared.view.SeatState.{SeatState}
 use Rattle.page_counter.specs.Numbers.{EachOnce}
 use Rattle.page_counter.specs.Views.{claims_of, numbers_of, all_seats}
 
@@ -24,7 +24,7 @@ pub record LiveFits (made number : ℕ) (v : View) : Type 0 where
   pub own_fit : ClaimsFit v.claims
   pub joined_fit : All (λ s. ClaimsFit s.claims) v.joined
 
-pub record CounterRule (s : State (Unit {0}) Standing) : Type 0 where
+pub record CounterRule (s : State (Unit {0}) SeatState) : Type 0 where
   pub claimed : ℕ
   pub words_are : s.words ≡ claimed ∷ []
   -- the claims of all live and joined seats are the numbers below the word, each once
@@ -32,5 +32,5 @@ pub record CounterRule (s : State (Unit {0}) Standing) : Type 0 where
   -- the numbers of all live and joined seats are those below the number of seats made, each once
   pub numbers_once : EachOnce (length s.views) (numbers_of (all_seats s.views))
   pub few : length s.views ≤ 33
-  pub each : (n : ℕ) (p : Standing) → get_elem? s.views n ≡ some p → p.live ≡ true
+  pub each : (n : ℕ) (p : SeatState) → get_elem? s.views n ≡ some p → p.live ≡ true
       → LiveFits (length s.views) n p.view

@@ -1,49 +1,50 @@
 -- That a new counter meets its rule, and that each kind of step keeps it, whatever the other seats
--- did before; what the rule says; and what lists tell in which each number below a bound stands
--- once.
+-- did before; what the rule says; and what follows of lists in which each number below a bound
+-- stands once.
 use Rattle.std.specs.Prelude.{◌≡◌, ◌≢◌, ℕ, ◌+◌, ◌%◌, ◌^◌, ◌<◌, ◌≤◌, true, List, [], ◌∷◌, ◌++◌, length, min, filter, Contains, nat_lt}
 use Rattle.std.specs.List.Sorted.{IsStrictlyIncreasing}
 use mathlib.Core.Option.{none}
 use Rattle.atomic_table.specs.Table.{State, Me, step, Allows, Splits, Joins, opening}
 use Rattle.page_counter.specs.declared.view.SeatClaims.{SeatClaims}
-use Rattle.page_counter.specs.declared.view.Standing.{Standing}
+use Rattle.page_counter.specs.declared.view.SeatState.{SeatState}
 use Rattle.page_counter.specs.Numbers.{EachOnce}
-use Rattle.page_counter.specs.Views.{claims_of, numbers_of, all_seats, first_standing, split_standing, new_standing, joined_standing, spent_standing}
+use Rattle.page_counter.specs.Views.{claims_of, numbers_of, all_seats, first_state, split_state, new_state, joined_state, spent_state}
 use Rattle.page_counter.specs.CounterRule.{CounterRule}
-use Rattle.page_counter.specs.Steps.{Claimed}
+use Rattle.page_counter.specs.Steps.{ClaimStep}
 
 abbrev pub MakeKeeps : Type 0
-MakeKeeps = CounterRule (opening (0 ∷ []) [] first_standing)
+MakeKeeps = CounterRule (opening (0 ∷ []) [] first_state)
 
 -- a claim adds 1 to the word
 abbrev pub ClaimKeeps : Type 0
-ClaimKeeps = (slots id : ℕ) (me : Me (Unit {0}) Standing) → me.0.live ≡ true
+ClaimKeeps = (slots id : ℕ) (me : Me (Unit {0}) SeatState) → me.0.live ≡ true
     → length me.0.view.claims < 64
-    → Allows CounterRule slots id me 0 (λ n. (n + 1) % 2 ^ 64) (Claimed (step slots 0 1 0 none) me)
+    → Allows CounterRule slots id me 0 (λ n. (n + 1) % 2 ^ 64)
+    (ClaimStep (step slots 0 1 0 none) me)
 
 abbrev pub SplitKeeps : Type 0
-SplitKeeps = (id : ℕ) (p : Standing) → p.live ≡ true → p.view.number ≡ 0 → p.view.made < 33
-    → Splits {S = Unit {0}} CounterRule id p (split_standing p) (new_standing p)
+SplitKeeps = (id : ℕ) (p : SeatState) → p.live ≡ true → p.view.number ≡ 0 → p.view.made < 33
+    → Splits {S = Unit {0}} CounterRule id p (split_state p) (new_state p)
 
 abbrev pub JoinKeeps : Type 0
-JoinKeeps = (id : ℕ) (p : Standing) (other : ℕ) (q : Standing) → p.live ≡ true → p.view.number ≡ 0
-    → q.live ≡ true → Joins {S = Unit {0}} CounterRule id p other q (joined_standing p q)
-    spent_standing
+JoinKeeps = (id : ℕ) (p : SeatState) (other : ℕ) (q : SeatState) → p.live ≡ true → p.view.number ≡ 0
+    → q.live ≡ true → Joins {S = Unit {0}} CounterRule id p other q (joined_state p q)
+    spent_state
 
 -- ---- what the rule says
 
-abbrev pub Always : (State (Unit {0}) Standing → Type 0) → Type 0
-Always says = (s : State (Unit {0}) Standing) → CounterRule s → says s
+abbrev pub Always : (State (Unit {0}) SeatState → Type 0) → Type 0
+Always says = (s : State (Unit {0}) SeatState) → CounterRule s → says s
 
 -- the seat with this number, live or joined, has claimed x
-abbrev pub HasClaimed : State (Unit {0}) Standing → ℕ → ℕ → Type 0
+abbrev pub HasClaimed : State (Unit {0}) SeatState → ℕ → ℕ → Type 0
 HasClaimed s n x =
     (seat : SeatClaims) × Contains (all_seats s.views) seat × (seat.number ≡ n)
     × Contains seat.claims x
 
 -- the word is how many claims all seats made
-abbrev pub WordCounts : Type 0
-WordCounts = Always (λ s. s.words ≡ length (claims_of (all_seats s.views)) ∷ [])
+abbrev pub CounterCounts : Type 0
+CounterCounts = Always (λ s. s.words ≡ length (claims_of (all_seats s.views)) ∷ [])
 
 -- at most 33 seats were made, each live or joined, and their numbers are those below that, each
 -- once
@@ -54,12 +55,13 @@ SeatsCounted =
 -- each number below the word was claimed by exactly one seat
 abbrev pub ClaimedByOne : Type 0
 ClaimedByOne =
-    Always (λ s. (word x : ℕ) → s.words ≡ word ∷ [] → x < word
+    Always (λ s. (counter x : ℕ) → s.words ≡ counter ∷ [] → x < counter
     → (n : ℕ) × HasClaimed s n x × ((m : ℕ) → HasClaimed s m x → m ≡ n))
 
 -- and no other number was
 abbrev pub NoOtherClaimed : Type 0
-NoOtherClaimed = Always (λ s. (word n x : ℕ) → s.words ≡ word ∷ [] → HasClaimed s n x → x < word)
+NoOtherClaimed =
+    Always (λ s. (counter n x : ℕ) → s.words ≡ counter ∷ [] → HasClaimed s n x → x < counter)
 
 -- two seats never have a claim in common
 abbrev pub NoneInCommon : Type 0

@@ -2,7 +2,7 @@
 use Rattle.std.specs.Prelude.{ℕ, ◌+◌, true, false, cond, List, [], ◌∷◌, ◌++◌, map, flat_map}
 use Rattle.page_counter.specs.declared.view.SeatClaims.{SeatClaims}
 use Rattle.page_counter.specs.declared.view.View.{View}
-use Rattle.page_counter.specs.declared.view.Standing.{Standing}
+use Rattle.page_counter.specs.declared.view.SeatState.{SeatState}
 
 -- the claims of seats, and their numbers
 abbrev pub claims_of : List SeatClaims → List ℕ
@@ -41,31 +41,31 @@ joined_view v w = record v { joined = v.joined ++ seat_claims w ∷ [] }
 
 -- the seats whose claims stand in a view: the seat's own, and those that it keeps; none, once it
 -- was joined
-abbrev pub seats_of : Standing → List SeatClaims
+abbrev pub seats_of : SeatState → List SeatClaims
 seats_of s = cond s.live (seat_claims s.view ∷ s.view.joined) []
 
-abbrev pub all_seats : List Standing → List SeatClaims
-all_seats standings = flat_map seats_of standings
+abbrev pub all_seats : List SeatState → List SeatClaims
+all_seats states = flat_map seats_of states
 
-abbrev pub live_with : View → Standing
+abbrev pub live_with : View → SeatState
 live_with v = record { live = true; view = v }
 
-abbrev pub first_standing : Standing
-first_standing = live_with first_view
+abbrev pub first_state : SeatState
+first_state = live_with first_view
 
-abbrev pub claimed_standing : Standing → ℕ → Standing
-claimed_standing s claim = record s { view = claimed_view s.view claim }
+abbrev pub claimed_state : SeatState → ℕ → SeatState
+claimed_state s claim = record s { view = claimed_view s.view claim }
 
-abbrev pub split_standing : Standing → Standing
-split_standing s = record s { view = split_view s.view }
+abbrev pub split_state : SeatState → SeatState
+split_state s = record s { view = split_view s.view }
 
-abbrev pub new_standing : Standing → Standing
-new_standing s = live_with (new_view s.view)
+abbrev pub new_state : SeatState → SeatState
+new_state s = live_with (new_view s.view)
 
-abbrev pub joined_standing : Standing → Standing → Standing
-joined_standing s t = record s { view = joined_view s.view t.view }
+abbrev pub joined_state : SeatState → SeatState → SeatState
+joined_state s t = record s { view = joined_view s.view t.view }
 
 -- what a join leaves of the seat that was taken in
-abbrev pub spent_standing : Standing
-spent_standing =
+abbrev pub spent_state : SeatState
+spent_state =
     record { live = false; view = record { number = 0; claims = []; made = 0; joined = [] } }

@@ -7,7 +7,7 @@ ghost use Rattle.page_counter.specs.Seats.{AllJoined};
 
 use crate::seat::CounterSeat;
 use crate::steps::{Claim, Claims, SplitOff, TakeIn};
-use crate::view::Standing;
+use crate::view::SeatState;
 use atomic_table::Table;
 use std::alloc::{AllocError as NoMemory, Global};
 use std::marker::Model;
@@ -19,7 +19,7 @@ const CLAIMED: usize = 0;
 /// seats of this same counter.
 #[derive(Drop)]
 pub struct PageCounter {
-    table: Table<(), Standing, (), Claims, Global>,
+    table: Table<(), SeatState, (), Claims, Global>,
 }
 
 impl Model for PageCounter {
@@ -80,7 +80,8 @@ impl PageCounter {
         shared.fetch_add::<Claim>(&mut seat.place, CLAIMED, 1)
     }
 
-    /// Takes another seat in. Seat 0 keeps its number and its claims. It takes no memory.
+    /// Joins another seat to seat 0. Seat 0 keeps the number and the claims of the other. It takes
+    /// no memory.
     pub fn join(&self, first: &mut CounterSeat, other: CounterSeat)
         requires counter { first.old.counter ≡ self.now }
         requires other_counter { other.counter ≡ self.now }

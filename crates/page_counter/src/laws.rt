@@ -1,6 +1,6 @@
 //! Laws of the rule of the counter and of the claims of seats, each a clause of a function without
 //! a body.
-ghost use Rattle.page_counter.specs.Laws.{MakeKeeps, ClaimKeeps, SplitKeeps, JoinKeeps, WordCounts, SeatsCounted, ClaimedByOne, NoOtherClaimed, NoneInCommon, ClaimsRise, ClaimsFew, OnceIsCount, OnceHasAll, OnceHasNoOther, OnceHasLower, OnceIsApart, OnceBelow, OnceReached, ClaimsAreOfSeats, SeatsHaveClaims};
+ghost use Rattle.page_counter.specs.Laws.{MakeKeeps, ClaimKeeps, SplitKeeps, JoinKeeps, CounterCounts, SeatsCounted, ClaimedByOne, NoOtherClaimed, NoneInCommon, ClaimsRise, ClaimsFew, OnceIsCount, OnceHasAll, OnceHasNoOther, OnceHasLower, OnceIsApart, OnceBelow, OnceReached, ClaimsAreOfSeats, SeatsHaveClaims};
 
 /// The rule holds when a counter is made, and each kind of step keeps it, whatever other seats did
 /// before. So it holds between any two steps.
@@ -15,7 +15,7 @@ pub fn steps_keep()
 /// or joined; each number below the word was claimed by exactly one seat, and no other number was;
 /// two seats never have a claim in common; and a seat's claims rise, and are at most 64.
 pub fn rule_says()
-    ensures word { WordCounts }
+    ensures counter { CounterCounts }
     ensures seats { SeatsCounted }
     ensures one { ClaimedByOne }
     ensures no_other { NoOtherClaimed }
@@ -24,7 +24,7 @@ pub fn rule_says()
     ensures few { ClaimsFew }
 {}
 
-/// What it means that each number below n stands once in a list, as `close` says of all claims: how
+/// What it means that each number below n is in a list once, as `close` says of all claims: how
 /// many there are, which there are, that two parts have none in common, and which are below a
 /// bound.
 pub fn each_once()

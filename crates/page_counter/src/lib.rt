@@ -1,5 +1,5 @@
 //! Which page of a round a worker draws next: one counter, from which seats claim numbers, each
-//! once. The rule that holds between any two steps of all seats stands in `specs/CounterRule.antt`.
+//! once. The rule that holds between any two steps of all seats is in `specs/CounterRule.antt`.
 #![tactic(auto)]
 
 mod counter;

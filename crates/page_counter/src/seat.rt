@@ -1,18 +1,18 @@
 //! A seat at a page counter.
 ghost use Rattle.std.specs.Prelude.{◌≡◌};
 
-use crate::view::Standing;
+use crate::view::SeatState;
 use std::marker::Model;
 
 // What the table knows of it. It has no bytes.
-pub(crate) type Place = atomic_table::Seat<(), Standing>;
+pub(crate) type TableSeat = atomic_table::Seat<(), SeatState>;
 
 /// A seat at a page counter. Contracts see its counter and its view: its number and its claims; of
 /// seat 0 also how many seats were made, and which were joined, with their claims. A seat that is
 /// dropped stays live, and then no call can close the counter.
 #[derive(Drop)]
 pub struct CounterSeat {
-    pub(crate) place: Place,
+    pub(crate) place: TableSeat,
 }
 
 impl Model for CounterSeat {

@@ -1,43 +1,44 @@
-//! The rule of the counter, and what each step tells. These types are for the proofs alone.
-use crate::view::Standing;
+//! The rule of the counter, and what is known after each step. These types are for the proofs
+//! alone.
+use crate::view::SeatState;
 use atomic_table::{Join, Play, Split, TableRule};
 
 pub struct Claims;
 
-impl TableRule<(), Standing, ()> for Claims {
+impl TableRule<(), SeatState, ()> for Claims {
     ghost use Rattle.page_counter.specs.CounterRule.{CounterRule};
-    ghost use Rattle.page_counter.specs.Views.{first_standing};
+    ghost use Rattle.page_counter.specs.Views.{first_state};
 
     ghost holds = { λ _. CounterRule };
 
-    ghost first = { λ _. first_standing };
+    ghost first = { λ _. first_state };
 }
 
 // Claims the next number.
 pub struct Claim;
 
-impl Play<(), Standing> for Claim {
-    ghost use Rattle.page_counter.specs.Steps.{Claimed};
+impl Play<(), SeatState> for Claim {
+    ghost use Rattle.page_counter.specs.Steps.{ClaimStep};
 
-    ghost then = { Claimed };
+    ghost then = { ClaimStep };
 }
 
 pub struct SplitOff;
 
-impl Split<Standing> for SplitOff {
-    ghost use Rattle.page_counter.specs.Views.{split_standing, new_standing};
+impl Split<SeatState> for SplitOff {
+    ghost use Rattle.page_counter.specs.Views.{split_state, new_state};
 
-    ghost left = { split_standing };
+    ghost left = { split_state };
 
-    ghost right = { new_standing };
+    ghost right = { new_state };
 }
 
 pub struct TakeIn;
 
-impl Join<Standing> for TakeIn {
-    ghost use Rattle.page_counter.specs.Views.{joined_standing, spent_standing};
+impl Join<SeatState> for TakeIn {
+    ghost use Rattle.page_counter.specs.Views.{joined_state, spent_state};
 
-    ghost both = { joined_standing };
+    ghost both = { joined_state };
 
-    ghost spent = { spent_standing };
+    ghost spent = { spent_state };
 }

@@ -19,7 +19,7 @@ pub struct View {
 }
 
 /// What the rule knows of a seat that was made: its view, until it is joined.
-pub struct Standing {
+pub struct SeatState {
     pub live: bool,
     pub view: View,
 }

@@ -13,8 +13,8 @@ use Rattle.cache_core.specs.Histories.{AreOf, NoneReleased, NoneBusy, SeatCalls,
 use Rattle.cache_core.specs.States.{Cache, IsReached, StateStands, call}
 use Rattle.font_decode.specs.Desks.{GrewBy, ReleasedLast, misses, Loaded, TrailGrew}
 use Rattle.font_decode.specs.Loads.{RoseUpTo}
-use Rattle.font_decode.specs.declared.decoded.Decoded.{Decoded}
-use Rattle.page_draw.specs.SoloDesks.{IsAlone, asked_by, part_of, stands_so, trail_by}
+use Rattle.font_decode.specs.declared.font_or_fault.Decoded.{Decoded}
+use Rattle.page_draw.specs.SoloDesks.{IsAlone, asked_by, common_part, stands_for_key, trail_by}
 
 looks-append : (xs ys : List Call) → looks (xs ++ ys) ≡ looks xs ++ looks ys
 looks-append [] ys = refl
@@ -38,19 +38,19 @@ module _ (c d : Cache Decoded) (calls : List Call) (grew : d.history ≡ c.histo
     record {
       keys = keys;
       grew = asked_grew keys looked;
-      went = record { seat = refl; capacity = same; calls = calls; grew = grew; own = mine; for_keys = for_keys; last = last; answered = answered; loaded = loaded };
+      answers = record { seat = refl; capacity = same; calls = calls; grew = grew; own = mine; for_keys = for_keys; last = last; answered = answered; loaded = loaded };
     },
   )
 
   -- the seat is alone afterwards
   pub alone_later : (l m : Option FileTable) (u : Units) → IsAlone l u c → m ≡ l → claim_of 1 d.claims ≡ None → AreOf 1 calls
-      → (StateStands stands_so c (part_of l u c.capacity) → StateStands stands_so d (part_of l u c.capacity)) → IsAlone m u d
-  alone_later l m u h told free mine stands = record {
+      → (StateStands stands_for_key c (common_part l u c.capacity) → StateStands stands_for_key d (common_part l u c.capacity)) → IsAlone m u d
+  alone_later l m u h known free mine stands = record {
     units = h.units;
     free = free;
     own = subst (AreOf 1) (sym grew) (of_more 1 c.history calls h.own mine);
-    stands = subst (λ (o : Option FileTable). StateStands stands_so d (part_of o u d.capacity)) (sym told)
-        (subst (λ (n : ℕ). StateStands stands_so d (part_of l u n)) (sym same) (stands h.stands));
+    stands = subst (λ (o : Option FileTable). StateStands stands_for_key d (common_part o u d.capacity)) (sym known)
+        (subst (λ (n : ℕ). StateStands stands_for_key d (common_part l u n)) (sym same) (stands h.stands));
   }
 
 -- a count that is both
@@ -63,15 +63,15 @@ nothing_loaded l = both_loaded 0 l l (record { most = omega arith; never_falls =
 -- ---- one key
 
 module _ (W : Type 0) (k : FontKey) (c d : Cache Decoded) (l m : ℕ) (capacity : d.capacity ≡ c.capacity) where
-  abbrev Tells : Type 0
-  Tells = TrailGrew W (asked_by c) (asked_by d) (trail_by l c) (trail_by m d)
+  abbrev Knows : Type 0
+  Knows = TrailGrew W (asked_by c) (asked_by d) (trail_by l c) (trail_by m d)
 
   -- the look was refused
-  pub refused_trail : d.history ≡ c.history → m ≡ l → Tells
+  pub refused_trail : d.history ≡ c.history → m ≡ l → Knows
   refused_trail same loads =
       trail_grew c d [] (same ∙ sym (append-nil c.history)) capacity W [] l m refl tt refl tt (λ w. tt) (subst (λ (x : ℕ). Loaded 0 l x l x) (sym loads) (nothing_loaded l))
 
-  pub hit_trail : d.history ≡ c.history ++ call 1 k Hit ∷ [] → m ≡ l → Tells
+  pub hit_trail : d.history ≡ c.history ++ call 1 k Hit ∷ [] → m ≡ l → Knows
   hit_trail grew loads =
       trail_grew c d (call 1 k Hit ∷ []) grew capacity W (k ∷ []) l m refl (refl, tt)
       (call 1 k Hit ∷ [], [], refl, inl (call 1 k Hit, refl, refl, inl refl), refl) (inl refl) (λ w. ((λ e. cc), tt)) (subst (λ (x : ℕ). Loaded 0 l x l x) (sym loads) (nothing_loaded l))
@@ -106,7 +106,7 @@ module _ (k : FontKey) (c u d : Cache Decoded) (claimed : u.history ≡ c.histor
 
   pub ended_alone : (done : Done) (l m : Option FileTable) (v : Units) → IsAlone l v c → m ≡ l
       → u.claims ≡ (1, k) ∷ c.claims → d.claims ≡ remove_entry (nat_eq 1) u.claims → d.history ≡ u.history ++ call 1 k done ∷ []
-      → (StateStands stands_so c (part_of l v c.capacity) → StateStands stands_so d (part_of l v c.capacity)) → IsAlone m v d
+      → (StateStands stands_for_key c (common_part l v c.capacity) → StateStands stands_for_key d (common_part l v c.capacity)) → IsAlone m v d
   ended_alone done l m v h same taken freed ended stands =
       alone_later c d (call 1 k Claimed ∷ call 1 k done ∷ []) (two_calls k done c u d claimed ended) capacity l m v h same
       (ap (claim_of 1) (freed ∙ ap (remove_entry (nat_eq 1)) taken) ∙ h.free) (refl, (refl, tt)) stands

@@ -3,10 +3,10 @@ use Rattle.std.proofs.Common.{◌≡◌, ℕ, List, [], ◌∷◌, ◌++◌, ◌
 use Rattle.outside.specs.declared.keys.FontKey.{FontKey}
 use Rattle.pixel_round.specs.Pixels.{conversion, Fraction}
 use Rattle.pixel_round.specs.declared.units.Units.{Units}
-use Rattle.drift_rules.specs.Position.{FlatCommand, State, after, at_origin}
+use Rattle.drift_rules.specs.Position.{FlatCommand, State, state_after, at_origin}
 use Rattle.font_decode.specs.Decoding.{AreAlike, IsFontIn}
 use Rattle.font_decode.specs.Desks.{GrewBy}
-use Rattle.font_decode.specs.declared.decoded.Decoded.{Decoded}
+use Rattle.font_decode.specs.declared.font_or_fault.Decoded.{Decoded}
 use Rattle.font_decode.proofs.Alike.{one_in_a_library}
 use Rattle.vf_expand.specs.Course.{Course, Gives, Asks, course_of}
 use Rattle.vf_expand.proofs.Similar.{Similar, course_similar}
@@ -23,7 +23,7 @@ module _ (Finds : Finding) (c : Fraction) (alike : (k : FontKey) (d e : Decoded)
       → (more : List Member) × (ms ≡ ns ++ more) × (past : Course) × Similar past to' × Unfolds Finds past more to
   begins from from' s ms [] to to' t t' similar first second moved moved' ends = (ms, refl, from, moved_both from from' from to' refl second similar, first)
   begins from from' s [] (Flat f g at ∷ ns) to to' t t' similar first second moved moved' ends =
-      let there = apart c (after c s f) ns t' moved' in
+      let there = apart c (state_after c s f) ns t' moved' in
       let here : t ≡ s = cc in
       let next = moved_both from from' to (Gives f g at second.0) first second.1 similar in
       absurd (goes_on c s there.0 f g at second.0 there.1 (similar_end c s to (Gives f g at second.0) next (subst (λ (x : State). IsAtEnd c x to) here ends)))
@@ -35,9 +35,9 @@ module _ (Finds : Finding) (c : Fraction) (alike : (k : FontKey) (d e : Decoded)
       absurd (moved_both from from' (Asks k at first.0) (Gives f g at' second.0) first.2 second.1 similar)
   begins from from' s (Flat f g at ∷ ms) (Flat f' g' at' ∷ ns) to to' t t' similar first second moved moved' ends =
       let next = moved_both from from' (Gives f g at first.0) (Gives f' g' at' second.0) first.1 second.1 similar in
-      let there = apart c (after c s f) ms t moved in
-      let there' = apart c (after c s f') ns t' moved' in
-      let state : Ok there.0 ≡ Ok there'.0 = sym there.1 ∙ ap (λ (x : FlatCommand). after c s x) next.0 ∙ there'.1 in
+      let there = apart c (state_after c s f) ms t moved in
+      let there' = apart c (state_after c s f') ns t' moved' in
+      let state : Ok there.0 ≡ Ok there'.0 = sym there.1 ∙ ap (λ (x : FlatCommand). state_after c s x) next.0 ∙ there'.1 in
       let states : there'.0 ≡ there.0 = cc in
       let others = begins first.0 second.0 there.0 ms ns to to' t t' next.3 first.2 second.2
       there.2 (subst (λ (x : State). last_state c x ns ≡ Ok t') states there'.2) ends in

@@ -3,16 +3,16 @@ use Rattle.std.proofs.Common.{◌≡◌, ◌≢◌, ◌⊎◌, ◌≤◌, inl, i
 use Rattle.outside.specs.declared.keys.FontKey.{FontKey}
 use Rattle.pixel_round.specs.Pixels.{conversion, Fraction}
 use Rattle.outside.specs.Counts.{Rose}
-use Rattle.drift_rules.specs.Position.{FlatCommand, State, after, at_origin}
+use Rattle.drift_rules.specs.Position.{FlatCommand, State, state_after, at_origin}
 use Rattle.drift_rules.specs.declared.faults.PenFault.TheVariants.{StackLeft}
 use Rattle.drift_rules.specs.declared.flat.Registers.{Registers}
 use Rattle.packed_rows.specs.Bitmap.{Bitmap}
 use Rattle.page_index.specs.Pages.{Indexed, IsConversionOf, document_units}
 use Rattle.font_decode.specs.Desks.{GrewBy, GrewByAtMost}
-use Rattle.font_decode.specs.declared.decoded.Decoded.{Decoded}
+use Rattle.font_decode.specs.declared.font_or_fault.Decoded.{Decoded}
 use Rattle.pk_runs.specs.declared.glyph.Glyph.{Glyph}
 use Rattle.vf_expand.specs.Course.{Course, Gives, Asks, Ends, Stops, course_of}
-use Rattle.vf_expand.specs.Faults.{Pen, seen_fault}
+use Rattle.vf_expand.specs.Faults.{Pen, value_of_fault}
 use Rattle.vf_expand.specs.declared.faults.PageFault.{PageFault}
 use Rattle.page_draw.specs.Members.{Finding, looks_of}
 use Rattle.page_draw.specs.Values.{EndsIn, HasValue, PageValue, ended_with, fault_at}
@@ -21,10 +21,10 @@ use Rattle.page_draw.specs.declared.stop.PageStop.{PageStop}
 use Rattle.page_draw.specs.declared.stop.PageStop.TheVariants as stop
 use Rattle.page_draw.specs.declared.sheet.Sheet.{Sheet}
 use Rattle.page_draw.proofs.EqualFractions.{states_alike, value_alike}
-use Rattle.page_draw.proofs.Lists.{IsSoFar, grew_more, grew_none}
+use Rattle.page_draw.proofs.Lists.{IsDrawnUpTo, grew_more, grew_none}
 
 module _ (Finds : Finding) (c : Fraction) (sheet : Sheet) (indexed : Indexed) (i : ℕ) (to : Course) (s : State) (page : Bitmap) (old new : Option (List FontKey))
-    (so_far : IsSoFar Finds c sheet (course_of indexed.reading i) to s page old new)
+    (so_far : IsDrawnUpTo Finds c sheet (course_of indexed.reading i) to s page old new)
     (conv : IsConversionOf (document_units indexed.res indexed.reading) c) where
   pub drawn_so_far : (value : PageValue) → EndsIn c s page to value → IsDrawn Finds indexed sheet i value old new
   drawn_so_far value ends =
@@ -77,10 +77,10 @@ module _ (Finds : Finding) (c : Fraction) (sheet : Sheet) (indexed : Indexed) (i
       }
 
   -- a flat command stops the page
-  pub pen_stop : (f : FlatCommand) (g : Option Glyph) (at : ℕ) (rest : Course) → to ≡ Gives f g at rest → (why : PageStop) → IsPenStop (after c s f) at why
+  pub pen_stop : (f : FlatCommand) (g : Option Glyph) (at : ℕ) (rest : Course) → to ≡ Gives f g at rest → (why : PageStop) → IsPenStop (state_after c s f) at why
       → IsStop Finds indexed sheet i why old new
   pen_stop f g at rest gives (stop.Fault fault place) h =
-      let value = fault_at (seen_fault fault) place in
+      let value = fault_at (value_of_fault fault) place in
       let same : value ≡ fault_at (Pen h.0) at = ap₂ fault_at h.2 h.3 in
       drawn_so_far value (subst (λ (x : Course). EndsIn c s page x value) (sym gives) (h.0, h.1, same))
   pen_stop f g at rest gives stop.SourceFault h = absurd h
@@ -92,7 +92,7 @@ module _ (Finds : Finding) (c : Fraction) (sheet : Sheet) (indexed : Indexed) (i
   ended_drawn (Err why) h = tt
 
   fault_stop : (why : PageStop) → IsFaultOf why (EndsIn c s page to) → IsStop Finds indexed sheet i why old new
-  fault_stop (stop.Fault fault place) h = drawn_so_far (fault_at (seen_fault fault) place) h
+  fault_stop (stop.Fault fault place) h = drawn_so_far (fault_at (value_of_fault fault) place) h
   fault_stop stop.SourceFault h = absurd h
   fault_stop stop.NoMemory h = absurd h
 
@@ -115,7 +115,7 @@ module _ (c : Fraction) (s : State) (page : Bitmap) (to : Course) (at : ℕ) whe
   end_whole ends (Err why) h = tt
 
   left_fault : to ≡ Ends at → (why : PageStop) → IsLeft why (ended_with s.saved at page) → IsFaultOf why (EndsIn c s page to)
-  left_fault ends (stop.Fault fault place) h = subst (λ (x : Course). EndsIn c s page x (fault_at (seen_fault fault) place)) (sym ends) (sym h)
+  left_fault ends (stop.Fault fault place) h = subst (λ (x : Course). EndsIn c s page x (fault_at (value_of_fault fault) place)) (sym ends) (sym h)
   left_fault ends stop.SourceFault h = absurd h
   left_fault ends stop.NoMemory h = absurd h
 
@@ -123,10 +123,10 @@ module _ (c : Fraction) (s : State) (page : Bitmap) (to : Course) (at : ℕ) whe
   end_left ends (Ok done) h = tt
   end_left ends (Err why) h = left_fault ends why h
 
-  pub stop_ends : (fault : PageFault) (place : ℕ) → to ≡ Stops (seen_fault fault) at → place ≡ at → EndsIn c s page to (fault_at (seen_fault fault) place)
+  pub stop_ends : (fault : PageFault) (place : ℕ) → to ≡ Stops (value_of_fault fault) at → place ≡ at → EndsIn c s page to (fault_at (value_of_fault fault) place)
   stop_ends fault place stops here =
-      let value = fault_at (seen_fault fault) place in
-      subst (λ (x : Course). EndsIn c s page x value) (sym stops) (ap (fault_at (seen_fault fault)) here)
+      let value = fault_at (value_of_fault fault) place in
+      subst (λ (x : Course). EndsIn c s page x value) (sym stops) (ap (fault_at (value_of_fault fault)) here)
 
 -- a page's course leads to itself before anything was done
 pub broken_at_first : (Finds : Finding) (indexed : Indexed) (i : ℕ) (c : Fraction) (old : Option (List FontKey))

@@ -4,7 +4,7 @@ use Rattle.std.specs.Prelude.{◌&&◌, if◌then◌else◌}
 use Rattle.outside.specs.declared.keys.FontKey.{FontKey}
 use Rattle.pixel_round.specs.Pixels.{AreEqual, Fraction, round, ceil}
 use Rattle.pixel_round.proofs.Equal.{equal_fractions_convert_alike}
-use Rattle.drift_rules.specs.Position.{FlatCommand, Skip, Char, Rule, Right, W, X, W0, X0, Down, Y, Z, Y0, Z0, Push, Pop, Enter, Leave, Advance, State, after, at_origin, down_by, after_drift, if_held, is_line_space, is_word_space, over, right_by}
+use Rattle.drift_rules.specs.Position.{FlatCommand, Skip, Char, Rule, Right, W, X, W0, X0, Down, Y, Z, Y0, Z0, Push, Pop, Enter, Leave, Advance, State, state_after, at_origin, down_by, after_drift, if_held, is_line_space, is_word_space, advance_by, right_by}
 use Rattle.drift_rules.specs.Marks.{is_positive, mark_of}
 use Rattle.drift_rules.specs.declared.faults.PenFault.{PenFault}
 use Rattle.drift_rules.specs.declared.flat.Mark.{Mark}
@@ -25,7 +25,7 @@ module _ (c d : Fraction) (same : AreEqual c d) where
   ceils : (x : ℤ) → ceil c x ≡ ceil d x
   ceils x = (equal_fractions_convert_alike c d x same).1
 
-  over_alike : (s : State) (width p q : ℤ) → p ≡ q → over c s width p ≡ over d s width q
+  over_alike : (s : State) (width p q : ℤ) → p ≡ q → advance_by c s width p ≡ advance_by d s width q
   over_alike s width p q e =
       ap₂ (λ (r p : ℤ). if_held (s.now.h +ℤ width) (record s { now = record s.now { h = s.now.h +ℤ width; hh = after_drift (s.now.hh +ℤ p) r } }))
       (rounds (s.now.h +ℤ width)) e
@@ -40,7 +40,7 @@ module _ (c d : Fraction) (same : AreEqual c d) where
       ap₂ (λ (r q : ℤ). if_held (s.now.v +ℤ p) (record s { now = record set { v = set.v +ℤ p; vv = after_drift (if is_line_space p space then r else set.vv +ℤ q) r } }))
       (rounds (set.v +ℤ p)) (rounds p)
 
-  after_alike : (s : State) (f : FlatCommand) → after c s f ≡ after d s f
+  after_alike : (s : State) (f : FlatCommand) → state_after c s f ≡ state_after d s f
   after_alike s Skip = refl
   after_alike s (Char key number width true) = refl
   after_alike s (Char key number width false) = over_alike s width (round c width) (round d width) (rounds width)
@@ -94,7 +94,7 @@ module _ (c d : Fraction) (same : AreEqual c d) where
   states_alike s [] = refl
   states_alike s (Flat f g at ∷ members) =
       ap (λ (r : Result State PenFault). and_then r (λ t. last_state c t members)) (after_alike s f)
-      ∙ then_alike (after d s f) members (λ t. states_alike t members)
+      ∙ then_alike (state_after d s f) members (λ t. states_alike t members)
   states_alike s (LookUp k at ∷ members) = states_alike s members
 
   marks_after_alike : (r : Result State PenFault) (sheet : Sheet) (members : List Member) → ((t : State) → marks_from c sheet t members ≡ marks_from d sheet t members)
@@ -107,7 +107,7 @@ module _ (c d : Fraction) (same : AreEqual c d) where
   marks_alike sheet s (Flat f g at ∷ members) =
       ap₂ (λ (m : Option Mark) (rest : List Inked). inks_of sheet m g ++ rest) (mark_alike s.now f)
       (ap (λ (r : Result State PenFault). marks_after r (λ t. marks_from c sheet t members)) (after_alike s f)
-      ∙ marks_after_alike (after d s f) sheet members (λ t. marks_alike sheet t members))
+      ∙ marks_after_alike (state_after d s f) sheet members (λ t. marks_alike sheet t members))
   marks_alike sheet s (LookUp k at ∷ members) = marks_alike sheet s members
 
   ends_alike : (s : State) (page : Bitmap) (to : Course) (value : PageValue) → EndsIn c s page to value → EndsIn d s page to value

@@ -6,7 +6,7 @@ use Rattle.packed_rows.specs.Bitmap.{Bitmap}
 use Rattle.raster_page.specs.Ink.{Inked, page_of}
 use Rattle.raster_page.proofs.MarkedPages.{newest_may_stand_last}
 use Rattle.packed_rows.specs.declared.offset.TheConstants.{MAX_COORDINATE}
-use Rattle.raster_page.specs.Limits.{LONGEST_PAGE_SIDE}
+use Rattle.raster_page.specs.Limits.{MAX_PAGE_SIDE}
 use Rattle.page_draw.specs.declared.sheet.Sheet.{Sheet}
 
 own_sides : (page : Bitmap) (w h : ℕ) (done : List Inked) → page ≡ page_of w h done → page_of w h done ≡ page_of page.width page.height done
@@ -27,5 +27,5 @@ abbrev pub kept : ℤ → ℤ
 kept z = to_z w64 (of_z w64 z)
 
 -- a margin is added
-pub kept_sum : (z : ℤ) (n : ℕ) → unsigned_abs z + 2 ^ 20 ≤ MAX_COORDINATE → n ≤ LONGEST_PAGE_SIDE → kept (z +ℤ pos n) ≡ z +ℤ pos n
+pub kept_sum : (z : ℤ) (n : ℕ) → unsigned_abs z + 2 ^ 20 ≤ MAX_COORDINATE → n ≤ MAX_PAGE_SIDE → kept (z +ℤ pos n) ≡ z +ℤ pos n
 kept_sum z n near few = omega (arith, ints)

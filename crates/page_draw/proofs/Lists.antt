@@ -3,18 +3,18 @@ use Rattle.std.proofs.Common.{◌≡◌, ℕ, List, [], ◌∷◌, ◌++◌, ref
 use Rattle.std.specs.Option.{option_map}
 use Rattle.outside.specs.declared.keys.FontKey.{FontKey}
 use Rattle.pixel_round.specs.Pixels.{Fraction}
-use Rattle.drift_rules.specs.Position.{FlatCommand, State, after, at_origin}
+use Rattle.drift_rules.specs.Position.{FlatCommand, State, state_after, at_origin}
 use Rattle.drift_rules.specs.Marks.{mark_of}
 use Rattle.drift_rules.specs.declared.faults.PenFault.{PenFault}
 use Rattle.packed_rows.specs.Bitmap.{Bitmap}
 use Rattle.pk_runs.specs.declared.glyph.Glyph.{Glyph}
 use Rattle.raster_page.specs.Ink.{Inked, page_of}
 use Rattle.font_decode.specs.Desks.{GrewBy}
-use Rattle.font_decode.specs.declared.decoded.Decoded.{Decoded}
+use Rattle.font_decode.specs.declared.font_or_fault.Decoded.{Decoded}
 use Rattle.vf_expand.specs.Course.{Course, Gives, Asks}
 use Rattle.page_draw.specs.Sheets.{inks_of}
 use Rattle.page_draw.specs.Members.{Member, Flat, LookUp, Finding, Unfolds, looks_of, and_then, last_state, marks_after, marks_from}
-pub use Rattle.page_draw.specs.SoFar.{IsSoFar}
+pub use Rattle.page_draw.specs.DrawnUpTo.{IsDrawnUpTo}
 use Rattle.page_draw.specs.declared.sheet.Sheet.{Sheet}
 
 abbrev with_flat : List Member → FlatCommand → Option Glyph → ℕ → List Member
@@ -54,24 +54,24 @@ pub apart : (c : Fraction) (r : Result State PenFault) (members : List Member) (
 apart c (Ok u) members t e = (u, refl, e)
 apart c (Err fault) members t e = absurd cc
 
-state_flat : (c : Fraction) (s t u : State) (members : List Member) (f : FlatCommand) (g : Option Glyph) (at : ℕ) → last_state c s members ≡ Ok t → after c t f ≡ Ok u
+state_flat : (c : Fraction) (s t u : State) (members : List Member) (f : FlatCommand) (g : Option Glyph) (at : ℕ) → last_state c s members ≡ Ok t → state_after c t f ≡ Ok u
     → last_state c s (with_flat members f g at) ≡ Ok u
 state_flat c s t u [] f g at e moved =
     let same : s ≡ t = cc in
-    ap (λ (r : Result State PenFault). and_then r (λ v. last_state c v [])) (ap (λ (x : State). after c x f) same ∙ moved)
+    ap (λ (r : Result State PenFault). and_then r (λ v. last_state c v [])) (ap (λ (x : State). state_after c x f) same ∙ moved)
 state_flat c s t u (Flat f' g' at' ∷ members) f g at e moved =
-    let there = apart c (after c s f') members t e in
+    let there = apart c (state_after c s f') members t e in
     ap (λ (r : Result State PenFault). and_then r (λ v. last_state c v (with_flat members f g at))) there.1 ∙ state_flat c there.0 t u members f g at there.2 moved
 state_flat c s t u (LookUp k' at' ∷ members) f g at e moved = state_flat c s t u members f g at e moved
 
-state_after : (c : Fraction) (r : Result State PenFault) (members others : List Member) → ((u : State) → last_state c u members ≡ last_state c u others)
+state_beyond : (c : Fraction) (r : Result State PenFault) (members others : List Member) → ((u : State) → last_state c u members ≡ last_state c u others)
     → and_then r (λ u. last_state c u members) ≡ and_then r (λ u. last_state c u others)
-state_after c (Ok u) members others same = same u
-state_after c (Err fault) members others same = refl
+state_beyond c (Ok u) members others same = same u
+state_beyond c (Err fault) members others same = refl
 
 state_look : (c : Fraction) (s : State) (members : List Member) (k : FontKey) (at : ℕ) → last_state c s (with_look members k at) ≡ last_state c s members
 state_look c s [] k at = refl
-state_look c s (Flat f' g' at' ∷ members) k at = state_after c (after c s f') (with_look members k at) members (λ u. state_look c u members k at)
+state_look c s (Flat f' g' at' ∷ members) k at = state_beyond c (state_after c s f') (with_look members k at) members (λ u. state_look c u members k at)
 state_look c s (LookUp k' at' ∷ members) k at = state_look c s members k at
 
 nothing_after : (r : Result State PenFault) → marks_after r (λ u. []) ≡ []
@@ -82,10 +82,10 @@ marks_flat : (c : Fraction) (sheet : Sheet) (s t : State) (members : List Member
     → marks_from c sheet s (with_flat members f g at) ≡ marks_from c sheet s members ++ inks_of sheet (mark_of c t.now f) g
 marks_flat c sheet s t [] f g at e =
     let same : s ≡ t = cc in
-    ap (λ (marks : List Inked). inks_of sheet (mark_of c s.now f) g ++ marks) (nothing_after (after c s f)) ∙ append-nil (inks_of sheet (mark_of c s.now f) g)
+    ap (λ (marks : List Inked). inks_of sheet (mark_of c s.now f) g ++ marks) (nothing_after (state_after c s f)) ∙ append-nil (inks_of sheet (mark_of c s.now f) g)
     ∙ ap (λ (x : State). inks_of sheet (mark_of c x.now f) g) same
 marks_flat c sheet s t (Flat f' g' at' ∷ members) f g at e =
-    let there = apart c (after c s f') members t e in
+    let there = apart c (state_after c s f') members t e in
     let own = inks_of sheet (mark_of c s.now f') g' in
     ap (λ (r : Result State PenFault). own ++ marks_after r (λ v. marks_from c sheet v (with_flat members f g at))) there.1
     ∙ ap (λ (marks : List Inked). own ++ marks) (marks_flat c sheet there.0 t members f g at there.2)
@@ -97,7 +97,7 @@ marks_look : (c : Fraction) (sheet : Sheet) (s t : State) (members : List Member
     → marks_from c sheet s (with_look members k at) ≡ marks_from c sheet s members
 marks_look c sheet s t [] k at e = refl
 marks_look c sheet s t (Flat f' g' at' ∷ members) k at e =
-    let there = apart c (after c s f') members t e in
+    let there = apart c (state_after c s f') members t e in
     let own = inks_of sheet (mark_of c s.now f') g' in
     ap (λ (r : Result State PenFault). own ++ marks_after r (λ v. marks_from c sheet v (with_look members k at))) there.1
     ∙ ap (λ (marks : List Inked). own ++ marks) (marks_look c sheet there.0 t members k at there.2)
@@ -117,16 +117,16 @@ grew_more (Some keys) mid new first second e h = h ∙ ap (option_map (λ asked.
 -- ---- a page as far as it was drawn
 
 pub so_far_none : (Finds : Finding) (c : Fraction) (sheet : Sheet) (from to : Course) (s : State) (page : Bitmap) (old : Option (List FontKey)) → to ≡ from → s ≡ at_origin
-    → page ≡ page_of sheet.width sheet.height [] → IsSoFar Finds c sheet from to s page old old
+    → page ≡ page_of sheet.width sheet.height [] → IsDrawnUpTo Finds c sheet from to s page old old
 so_far_none Finds c sheet from to s page old begins origin blank =
     record { members = []; leads = sym begins; moved = ap Ok (sym origin); has = blank; asked = grew_none old }
 
 module _ (Finds : Finding) (c : Fraction) (sheet : Sheet) (from to : Course) (s : State) (page : Bitmap) (old new : Option (List FontKey))
-    (so_far : IsSoFar Finds c sheet from to s page old new) where
+    (so_far : IsDrawnUpTo Finds c sheet from to s page old new) where
   -- one flat command more, whose marks were set
-  pub so_far_flat : (f : FlatCommand) (g : Option Glyph) (at : ℕ) (rest : Course) (t : State) (page' : Bitmap) → to ≡ Gives f g at rest → after c s f ≡ Ok t
+  pub so_far_flat : (f : FlatCommand) (g : Option Glyph) (at : ℕ) (rest : Course) (t : State) (page' : Bitmap) → to ≡ Gives f g at rest → state_after c s f ≡ Ok t
       → ((done : List Inked) → page ≡ page_of sheet.width sheet.height done → page' ≡ page_of sheet.width sheet.height (done ++ inks_of sheet (mark_of c s.now f) g))
-      → IsSoFar Finds c sheet from rest t page' old new
+      → IsDrawnUpTo Finds c sheet from rest t page' old new
   so_far_flat f g at rest t page' gives moved inked =
       let members = so_far.members in
       record {
@@ -140,7 +140,7 @@ module _ (Finds : Finding) (c : Fraction) (sheet : Sheet) (from to : Course) (s 
 
   -- one look-up more, whose key was asked for
   pub so_far_look : (k : FontKey) (at : ℕ) (rest : Decoded → Course) (d : Decoded) (now : Option (List FontKey)) → to ≡ Asks k at rest → Finds k d → GrewBy new now (k ∷ [])
-      → IsSoFar Finds c sheet from (rest d) s page old now
+      → IsDrawnUpTo Finds c sheet from (rest d) s page old now
   so_far_look k at rest d now asks found grew =
       let members = so_far.members in
       record {
@@ -152,5 +152,5 @@ module _ (Finds : Finding) (c : Fraction) (sheet : Sheet) (from to : Course) (s 
       }
 
   -- the same where what is left is written in another way
-  pub so_far_same : (to' : Course) → to' ≡ to → IsSoFar Finds c sheet from to' s page old new
+  pub so_far_same : (to' : Course) → to' ≡ to → IsDrawnUpTo Finds c sheet from to' s page old new
   so_far_same to' e = record { members = so_far.members; leads = subst (Unfolds Finds from so_far.members) (sym e) so_far.leads; moved = so_far.moved; has = so_far.has; asked = so_far.asked }

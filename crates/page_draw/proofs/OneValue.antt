@@ -3,12 +3,12 @@ use Rattle.std.proofs.Common.{◌≡◌, ℕ, List, [], ◌∷◌, refl, sym, ap
 use Rattle.outside.specs.declared.keys.FontKey.{FontKey}
 use Rattle.pixel_round.specs.Pixels.{conversion, Fraction}
 use Rattle.pixel_round.specs.declared.units.Units.{Units}
-use Rattle.drift_rules.specs.Position.{FlatCommand, State, after, at_origin}
+use Rattle.drift_rules.specs.Position.{FlatCommand, State, state_after, at_origin}
 use Rattle.drift_rules.specs.declared.faults.PenFault.{PenFault}
 use Rattle.packed_rows.specs.Bitmap.{Bitmap}
 use Rattle.pk_runs.specs.declared.glyph.Glyph.{Glyph}
 use Rattle.font_decode.specs.Decoding.{AreAlike, IsFontIn}
-use Rattle.font_decode.specs.declared.decoded.Decoded.{Decoded}
+use Rattle.font_decode.specs.declared.font_or_fault.Decoded.{Decoded}
 use Rattle.vf_expand.specs.Course.{Course, Gives, Asks, Ends, Stops, course_of}
 use Rattle.vf_expand.specs.Faults.{Pen}
 use Rattle.page_draw.specs.Members.{Member, Flat, LookUp, Finding, Unfolds, looks_of, last_state}
@@ -22,7 +22,7 @@ use Rattle.vf_expand.proofs.Similar.{Similar, course_similar}
 -- the page can't go on from here: no look-up stands next, and a flat command that does has no next
 -- state
 abbrev pub IsAtEnd : Fraction → State → Course → Type 0
-IsAtEnd c s (Gives f g at rest) = (fault : PenFault) × (after c s f ≡ Err fault)
+IsAtEnd c s (Gives f g at rest) = (fault : PenFault) × (state_after c s f ≡ Err fault)
 IsAtEnd c s (Asks k at rest) = ⊥
 IsAtEnd c s (Ends at) = Unit {0}
 IsAtEnd c s (Stops fault at) = Unit {0}
@@ -38,21 +38,21 @@ moved_both a b x y first second h = subst (λ (z : Course). Similar z y) first (
 
 -- so are two similar courses where they can't go on
 pub similar_end : (c : Fraction) (s : State) (x y : Course) → Similar x y → IsAtEnd c s x → IsAtEnd c s y
-similar_end c s (Gives f g at x) (Gives f2 g2 at2 y) h e = (e.0, ap (after c s) (sym h.0) ∙ e.1)
+similar_end c s (Gives f g at x) (Gives f2 g2 at2 y) h e = (e.0, ap (state_after c s) (sym h.0) ∙ e.1)
 similar_end c s (Asks k at x) (Asks k2 at2 y) h e = absurd e
 similar_end c s (Ends at) (Ends at2) h e = tt
 similar_end c s (Stops f at) (Stops f2 at2) h e = tt
 similar_end c s _ _ h e = absurd h
 
 similar_end_back : (c : Fraction) (s : State) (x y : Course) → Similar x y → IsAtEnd c s y → IsAtEnd c s x
-similar_end_back c s (Gives f g at x) (Gives f2 g2 at2 y) h e = (e.0, ap (after c s) h.0 ∙ e.1)
+similar_end_back c s (Gives f g at x) (Gives f2 g2 at2 y) h e = (e.0, ap (state_after c s) h.0 ∙ e.1)
 similar_end_back c s (Asks k at x) (Asks k2 at2 y) h e = absurd e
 similar_end_back c s (Ends at) (Ends at2) h e = tt
 similar_end_back c s (Stops f at) (Stops f2 at2) h e = tt
 similar_end_back c s _ _ h e = absurd h
 
 -- a flat command that has a next state doesn't end the page
-pub goes_on : (c : Fraction) (s u : State) (f : FlatCommand) (g : Option Glyph) (at : ℕ) (rest : Course) → after c s f ≡ Ok u → IsAtEnd c s (Gives f g at rest) → ⊥
+pub goes_on : (c : Fraction) (s u : State) (f : FlatCommand) (g : Option Glyph) (at : ℕ) (rest : Course) → state_after c s f ≡ Ok u → IsAtEnd c s (Gives f g at rest) → ⊥
 goes_on c s u f g at rest moved ends = let bad : Ok u ≡ Err ends.0 = sym moved ∙ ends.1 in absurd cc
 
 pub same_flat : (f f2 : FlatCommand) (g g2 : Option Glyph) (at at2 : ℕ) (ms ns : List Member) → f ≡ f2 → g ≡ g2 → at ≡ at2 → ms ≡ ns
@@ -68,14 +68,14 @@ module _ (Finds : Finding) (c : Fraction) (alike : (k : FontKey) (d e : Decoded)
       → last_state c s ms ≡ Ok t → last_state c s ns ≡ Ok t' → IsAtEnd c t to → IsAtEnd c t' to' → (ms ≡ ns) × Similar to to'
   same_members from from' s [] [] to to' t t' similar first second moved moved' ends ends' = (refl, moved_both from from' to to' first second similar)
   same_members from from' s [] (Flat f g at ∷ ns) to to' t t' similar first second moved moved' ends ends' =
-      let there = apart c (after c s f) ns t' moved' in
+      let there = apart c (state_after c s f) ns t' moved' in
       let here : t ≡ s = cc in
       let next = moved_both from from' to (Gives f g at second.0) first second.1 similar in
       absurd (goes_on c s there.0 f g at second.0 there.1 (similar_end c s to (Gives f g at second.0) next (subst (λ (x : State). IsAtEnd c x to) here ends)))
   same_members from from' s [] (LookUp k at ∷ ns) to to' t t' similar first second moved moved' ends ends' =
       absurd (similar_end c t to (Asks k at second.0) (moved_both from from' to (Asks k at second.0) first second.2 similar) ends)
   same_members from from' s (Flat f g at ∷ ms) [] to to' t t' similar first second moved moved' ends ends' =
-      let there = apart c (after c s f) ms t moved in
+      let there = apart c (state_after c s f) ms t moved in
       let here : t' ≡ s = cc in
       let next = moved_both from from' (Gives f g at first.0) to' first.1 second similar in
       absurd (goes_on c s there.0 f g at first.0 there.1 (similar_end_back c s (Gives f g at first.0) to' next (subst (λ (x : State). IsAtEnd c x to') here ends')))
@@ -87,9 +87,9 @@ module _ (Finds : Finding) (c : Fraction) (alike : (k : FontKey) (d e : Decoded)
       absurd (moved_both from from' (Asks k at first.0) (Gives f g at' second.0) first.2 second.1 similar)
   same_members from from' s (Flat f g at ∷ ms) (Flat f' g' at' ∷ ns) to to' t t' similar first second moved moved' ends ends' =
       let next = moved_both from from' (Gives f g at first.0) (Gives f' g' at' second.0) first.1 second.1 similar in
-      let there = apart c (after c s f) ms t moved in
-      let there' = apart c (after c s f') ns t' moved' in
-      let state : Ok there.0 ≡ Ok there'.0 = sym there.1 ∙ ap (λ (x : FlatCommand). after c s x) next.0 ∙ there'.1 in
+      let there = apart c (state_after c s f) ms t moved in
+      let there' = apart c (state_after c s f') ns t' moved' in
+      let state : Ok there.0 ≡ Ok there'.0 = sym there.1 ∙ ap (λ (x : FlatCommand). state_after c s x) next.0 ∙ there'.1 in
       let states : there'.0 ≡ there.0 = cc in
       let others = same_members first.0 second.0 there.0 ms ns to to' t t' next.3 first.2 second.2
       there.2 (subst (λ (x : State). last_state c x ns ≡ Ok t') states there'.2) ends ends' in
@@ -104,7 +104,7 @@ module _ (Finds : Finding) (c : Fraction) (alike : (k : FontKey) (d e : Decoded)
   -- so a course has one value, and one list of look-ups
   ends_once : (s : State) (page : Bitmap) (to to' : Course) (v w : PageValue) → Similar to to' → EndsIn c s page to v → EndsIn c s page to' w → v ≡ w
   ends_once s page (Gives f g at x) (Gives f2 g2 at2 y) v w h first second =
-      let faults : Err first.0 ≡ Err second.0 = sym first.1 ∙ ap (λ (x : FlatCommand). after c s x) h.0 ∙ second.1 in
+      let faults : Err first.0 ≡ Err second.0 = sym first.1 ∙ ap (λ (x : FlatCommand). state_after c s x) h.0 ∙ second.1 in
       let same : first.0 ≡ second.0 = cc in
       first.2 ∙ ap₂ (λ (fault : PenFault) (place : ℕ). fault_at (Pen fault) place) same h.2 ∙ sym second.2
   ends_once s page (Asks k at x) (Asks k2 at2 y) v w h first second = absurd first

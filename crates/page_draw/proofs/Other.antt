@@ -1,14 +1,14 @@
 -- A step that is no flat command leaves the same to do.
 use Rattle.std.proofs.Common.{◌≡◌, ◌≤◌, ◌<◌, ◌∙◌, ℕ, refl, sym, ap, subst, arith, Option, None, Result, Err}
 use Rattle.std.specs.Prelude.{IsErrOf}
-use Rattle.drift_rules.specs.Position.{Char, FlatCommand, State, after}
+use Rattle.drift_rules.specs.Position.{Char, FlatCommand, State, state_after}
 use Rattle.pixel_round.specs.Pixels.{Fraction}
 use Rattle.drift_rules.specs.declared.faults.PenFault.{PenFault}
 use Rattle.drift_rules.specs.declared.flat.Flat.{Flat}
 use Rattle.pk_runs.specs.declared.glyph.Glyph.{Glyph}
-use Rattle.font_decode.specs.declared.decoded.Decoded.{Decoded}
+use Rattle.font_decode.specs.declared.font_or_fault.Decoded.{Decoded}
 use Rattle.vf_expand.specs.Course.{Course, Asks, Gives}
-use Rattle.vf_expand.specs.Expansion.{Expansion, GivesNoPlain, answered, asks_left, left, marked_font, steps_left}
+use Rattle.vf_expand.specs.Expansion.{Expansion, GivesNoPackedChar, after_answer, asks_left, rest_of, marked_font, steps_left}
 use Rattle.vf_expand.specs.Steps.{GivesOne, HasItsGlyph, Steps}
 use Rattle.vf_expand.specs.declared.step.Step.{Step}
 use Rattle.vf_expand.specs.declared.step.Step.TheVariants as step
@@ -18,12 +18,12 @@ use Rattle.font_decode.specs.declared.desk.DeskStop.{DeskStop}
 use Rattle.font_decode.specs.declared.desk.DeskStop.TheVariants as desk
 use Rattle.page_draw.specs.Drawn.{IsOwnStop, IsPenStop}
 use Rattle.page_draw.specs.Stops.{stop_of_desk}
-use Rattle.page_draw.specs.SoFar.{HasFewerAtLook}
+use Rattle.page_draw.specs.DrawnUpTo.{HasFewerAtLook}
 use Rattle.page_draw.specs.declared.stop.PageStop.{PageStop}
 use Rattle.page_draw.specs.declared.stop.PageStop.TheVariants as stop
 
 pub record LeavesTheSame (old : Expansion) (given : Step) (new : Expansion) : Type 0 where
-  pub left : left new ≡ left old
+  pub left : rest_of new ≡ rest_of old
   pub next : Steps new given new
   pub asks : asks_left new ≡ asks_left old
   pub fewer : HasFewerAtLook old given new
@@ -34,7 +34,7 @@ other_stays old new (step.Ask key) other h =
     record {
       left = h.left;
       next = record {
-        asked = subst (λ (x : Course). x ≡ Asks (arc_value key) new.at (answered x)) (sym h.left) h.asked;
+        asked = subst (λ (x : Course). x ≡ Asks (arc_value key) new.at (after_answer x)) (sym h.left) h.asked;
         look = h.look;
         left = refl;
         unmarked = h.unmarked;
@@ -71,19 +71,19 @@ handed_on e x h =
 
 -- ---- the pen's stop, by what is equal
 
-pub stop_as : (k c : Fraction) (s : State) (f : FlatCommand) (place at : ℕ) (why : PageStop) → k ≡ c → place ≡ at → IsPenStop (after k s f) place why → IsPenStop (after c s f) at why
+pub stop_as : (k c : Fraction) (s : State) (f : FlatCommand) (place at : ℕ) (why : PageStop) → k ≡ c → place ≡ at → IsPenStop (state_after k s f) place why → IsPenStop (state_after c s f) at why
 stop_as k c s f place at why conv same stop =
-    subst (λ (x : ℕ). IsPenStop (after c s f) x why) same (subst (λ (x : Fraction). IsPenStop (after x s f) place why) conv stop)
+    subst (λ (x : ℕ). IsPenStop (state_after c s f) x why) same (subst (λ (x : Fraction). IsPenStop (state_after x s f) place why) conv stop)
 
 -- ---- a flat command that is no character has no glyph
 
-no_glyph : (font : Option Decoded) (f : FlatCommand) (glyph : Option Glyph) (at : ℕ) (rest : Course) → GivesNoPlain (Gives f glyph at rest) → HasItsGlyph font f glyph → glyph ≡ None
+no_glyph : (font : Option Decoded) (f : FlatCommand) (glyph : Option Glyph) (at : ℕ) (rest : Course) → GivesNoPackedChar (Gives f glyph at rest) → HasItsGlyph font f glyph → glyph ≡ None
 no_glyph font (Char k c width put) glyph at rest none has = absurd none
 no_glyph font _ glyph at rest none has = has.1
 
-pub comes_alone : (old new : Expansion) (f : FlatCommand) (glyph : Option Glyph) → GivesNoPlain (left old) → GivesOne old new f glyph → GivesOne old new f None
+pub comes_alone : (old new : Expansion) (f : FlatCommand) (glyph : Option Glyph) → GivesNoPackedChar (rest_of old) → GivesOne old new f glyph → GivesOne old new f None
 comes_alone old new f glyph none one =
-    let is = no_glyph (marked_font new) f glyph new.at (left new) (subst GivesNoPlain one.given none) one.has in
+    let is = no_glyph (marked_font new) f glyph new.at (rest_of new) (subst GivesNoPackedChar one.given none) one.has in
     subst (GivesOne old new f) is one
 
 -- ---- a page that its desk broke off

@@ -1,7 +1,7 @@
 -- What a packet sets, and what comes after it.
 use Rattle.std.proofs.Common.{◌≡◌, ◌∙◌, List, [], ◌∷◌, ◌++◌, Result, Ok, append_assoc, refl, sym, ap, ap₂}
 use Rattle.pixel_round.specs.Pixels.{Fraction}
-use Rattle.drift_rules.specs.Position.{FlatCommand, Enter, Leave, State, after, on_entry}
+use Rattle.drift_rules.specs.Position.{FlatCommand, Enter, Leave, State, state_after, on_entry}
 use Rattle.drift_rules.specs.Position as pen
 use Rattle.drift_rules.specs.Marks.{mark_of}
 use Rattle.drift_rules.specs.declared.faults.PenFault.{PenFault}
@@ -19,13 +19,13 @@ moved_by : (c : Fraction) (u m : State) (members : List Member) → last_state c
     → pen.Leads c u (flats_of members) m
 moved_by c u m [] e = cc
 moved_by c u m (Flat f g at ∷ members) e =
-    let there = apart c (after c u f) members m e in
+    let there = apart c (state_after c u f) members m e in
     (there.0, there.1, moved_by c there.0 m members there.2)
 moved_by c u m (LookUp k at ∷ members) e = moved_by c u m members e
 
 one_more : (c : Fraction) (u m v : State) (flats : List FlatCommand) (f : FlatCommand)
-    → pen.Leads c u flats m → after c m f ≡ Ok v → pen.Leads c u (flats ++ f ∷ []) v
-one_more c u m v [] f leads e = (v, ap (λ (x : State). after c x f) (sym leads) ∙ e, refl)
+    → pen.Leads c u flats m → state_after c m f ≡ Ok v → pen.Leads c u (flats ++ f ∷ []) v
+one_more c u m v [] f leads e = (v, ap (λ (x : State). state_after c x f) (sym leads) ∙ e, refl)
 one_more c u m v (g ∷ flats) f (mid, step, rest) e = (mid, step, one_more c mid m v flats f rest e)
 
 -- the state between two lists
@@ -33,7 +33,7 @@ between : (c : Fraction) (u t : State) (members others : List Member) → last_s
     → (m : State) × (last_state c u members ≡ Ok m) × (last_state c m others ≡ Ok t)
 between c u t [] others e = (u, refl, e)
 between c u t (Flat f g at ∷ members) others e =
-    let there = apart c (after c u f) (members ++ others) t e in
+    let there = apart c (state_after c u f) (members ++ others) t e in
     let r = between c there.0 t members others there.2 in
     (r.0, ap (λ (x : Result State PenFault). and_then x (λ v. last_state c v members)) there.1 ∙ r.1, r.2)
 between c u t (LookUp k at ∷ members) others e = between c u t members others e
@@ -45,7 +45,7 @@ marks_append c sheet u m [] others e =
     let same : u ≡ m = cc in
     ap (λ (x : State). marks_from c sheet x others) same
 marks_append c sheet u m (Flat f g at ∷ members) others e =
-    let there = apart c (after c u f) members m e in
+    let there = apart c (state_after c u f) members m e in
     let own = inks_of sheet (mark_of c u.now f) g in
     ap (λ (r : Result State PenFault). own ++ marks_after r (λ v. marks_from c sheet v (members ++ others))) there.1
     ∙ ap (λ (marks : List Inked). own ++ marks) (marks_append c sheet there.0 m members others there.2)
@@ -55,11 +55,11 @@ marks_append c sheet u m (LookUp k at ∷ members) others e = marks_append c she
 
 pub packets_are_set_in_place : PacketsAreSetInPlace
 packets_are_set_in_place c sheet s t g h at end packet rest balanced e =
-    let first = apart c (after c s Enter) (packet ++ Flat Leave h end ∷ []) t e in
+    let first = apart c (state_after c s Enter) (packet ++ Flat Leave h end ∷ []) t e in
     let begun : State = record { now = on_entry s.now; saved = s.now ∷ s.saved } in
     let same : begun ≡ first.0 = saved_is _ _ first.0 first.1 in
     let parts = between c first.0 t packet (Flat Leave h end ∷ []) first.2 in
-    let last = apart c (after c parts.0 Leave) [] t parts.2 in
+    let last = apart c (state_after c parts.0 Leave) [] t parts.2 in
     let leads = one_more c first.0 parts.0 last.0 (flats_of packet) Leave (moved_by c first.0 parts.0 packet parts.1) last.1 in
     let back : last.0 ≡ s = pops_give_back c s last.0 Enter Leave (flats_of packet) refl refl balanced (first.0, first.1, leads) in
     ap (λ (r : Result State PenFault). marks_after r (λ v. marks_from c sheet v (packet ++ Flat Leave h end ∷ rest))) first.1

@@ -2,11 +2,11 @@
 use Rattle.std.proofs.Common.{◌≡◌, List, [], ◌∷◌, Result, Ok, Err, refl, sym, subst}
 use Rattle.outside.specs.declared.keys.FontKey.{FontKey}
 use Rattle.pixel_round.specs.Pixels.{conversion, Fraction}
-use Rattle.drift_rules.specs.Position.{State, after, at_origin}
+use Rattle.drift_rules.specs.Position.{State, state_after, at_origin}
 use Rattle.drift_rules.specs.declared.faults.PenFault.{PenFault}
 use Rattle.packed_rows.specs.Bitmap.{Bitmap}
 use Rattle.font_decode.specs.Decoding.{IsFontIn}
-use Rattle.font_decode.specs.declared.decoded.Decoded.{Decoded}
+use Rattle.font_decode.specs.declared.font_or_fault.Decoded.{Decoded}
 use Rattle.font_decode.proofs.Total.{each_key_is_decoded}
 use Rattle.vf_expand.specs.Course.{Course, Gives, Asks, Ends, Stops, course_of}
 use Rattle.vf_expand.specs.Faults.{Pen}
@@ -26,9 +26,9 @@ record Followed (Finds : Finding) (c : Fraction) (s : State) (from : Course) : T
   pub ends : (page : Bitmap) → (value : PageValue) × EndsIn c state page to value
 
 follow : (Finds : Finding) → ((k : FontKey) → (d : Decoded) × Finds k d) → (c : Fraction) (s : State) (from : Course) → Followed Finds c s from
-follow Finds each c s (Gives f g at rest) = by (λ t. follow Finds each c t rest) (after c s f) refl
+follow Finds each c s (Gives f g at rest) = by (λ t. follow Finds each c t rest) (state_after c s f) refl
   where
-    by : ((t : State) → Followed Finds c t rest) → (r : Result State PenFault) → after c s f ≡ r → Followed Finds c s (Gives f g at rest)
+    by : ((t : State) → Followed Finds c t rest) → (r : Result State PenFault) → state_after c s f ≡ r → Followed Finds c s (Gives f g at rest)
     by follows (Err fault) e = record { members = []; to = Gives f g at rest; state = s; leads = refl; moved = refl; ends = λ page. (fault_at (Pen fault) at, (fault, e, refl)) }
     by follows (Ok t) e =
         let r = follows t in

@@ -7,10 +7,10 @@ use Rattle.pixel_round.specs.declared.units.Units.{Units}
 use Rattle.drift_rules.specs.Position.{State, at_origin}
 use Rattle.page_index.specs.Pages.{Indexed, document_units}
 use Rattle.font_decode.specs.Desks.{GrewBy}
-use Rattle.font_decode.specs.declared.decoded.Decoded.{Decoded}
+use Rattle.font_decode.specs.declared.font_or_fault.Decoded.{Decoded}
 use Rattle.vf_expand.specs.Course.{Course, Asks, course_of}
 use Rattle.drift_rules.specs.declared.faults.PenFault.{PenFault}
-use Rattle.vf_expand.specs.Faults.{Pen, seen_fault}
+use Rattle.vf_expand.specs.Faults.{Pen, value_of_fault}
 use Rattle.page_draw.specs.Members.{Finding, Unfolds, Member, last_state, looks_of}
 use Rattle.page_draw.specs.Values.{HasValue, PageValue, fault_at}
 use Rattle.page_draw.specs.declared.sheet.Sheet.{Sheet}
@@ -49,7 +49,7 @@ pub record IsBroken (Finds : Finding) (indexed : Indexed) (i : ℕ)
 abbrev pub IsStop : Finding → Indexed → Sheet → ℕ → PageStop → Option (List FontKey)
     → Option (List FontKey) → Type 0
 IsStop Finds indexed sheet i (stop.Fault fault at) old new =
-    IsDrawn Finds indexed sheet i (fault_at (seen_fault fault) at) old new
+    IsDrawn Finds indexed sheet i (fault_at (value_of_fault fault) at) old new
 IsStop Finds indexed sheet i stop.SourceFault old new = IsBroken Finds indexed i old new
 IsStop Finds indexed sheet i stop.NoMemory old new = IsBroken Finds indexed i old new
 
@@ -68,18 +68,18 @@ IsWhole (Err reason) = IsOwnStop reason
 -- why a flat command, whose next state is given, stops the page at a position
 abbrev pub IsPenStop : Result State PenFault → ℕ → PageStop → Type 0
 IsPenStop after at (stop.Fault fault place) =
-    (found : PenFault) × (after ≡ Err found) × (seen_fault fault ≡ Pen found) × (place ≡ at)
+    (found : PenFault) × (after ≡ Err found) × (value_of_fault fault ≡ Pen found) × (place ≡ at)
 IsPenStop after at stop.SourceFault = ⊥
 IsPenStop after at stop.NoMemory = Unit {0}
 
 -- why the page isn't whole at its end
 abbrev pub IsLeft : PageStop → PageValue → Type 0
-IsLeft (stop.Fault fault at) value = value ≡ fault_at (seen_fault fault) at
+IsLeft (stop.Fault fault at) value = value ≡ fault_at (value_of_fault fault) at
 IsLeft stop.SourceFault value = ⊥
 IsLeft stop.NoMemory value = ⊥
 
 -- a fault that is such a value of the page
 abbrev pub IsFaultOf : PageStop → (PageValue → Type 0) → Type 0
-IsFaultOf (stop.Fault fault at) P = P (fault_at (seen_fault fault) at)
+IsFaultOf (stop.Fault fault at) P = P (fault_at (value_of_fault fault) at)
 IsFaultOf stop.SourceFault P = ⊥
 IsFaultOf stop.NoMemory P = ⊥

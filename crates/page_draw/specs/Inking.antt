@@ -1,19 +1,19 @@
 -- One flat command on a page: the pen's next state, and the mark that it sets.
 use Rattle.std.specs.Prelude.{◌≡◌, List, ◌++◌, Option, Result, Ok}
 use Rattle.outside.specs.declared.keys.FontKey.{FontKey}
-use Rattle.drift_rules.specs.Position.{Char, FlatCommand, PenView, State, after}
+use Rattle.drift_rules.specs.Position.{Char, FlatCommand, PenView, State, state_after}
 use Rattle.drift_rules.specs.Marks.{mark_of}
 use Rattle.drift_rules.specs.declared.faults.PenFault.{PenFault}
 use Rattle.packed_rows.specs.Bitmap.{Bitmap}
 use Rattle.pk_runs.specs.declared.glyph.Glyph.{Glyph}
 use Rattle.raster_page.specs.Ink.{Inked, page_of}
-use Rattle.vf_expand.specs.declared.step.PlainStep.{PlainStep}
+use Rattle.vf_expand.specs.declared.step.PackedChar.{PackedChar}
 use Rattle.page_draw.specs.Sheets.{inks_of}
 use Rattle.page_draw.specs.declared.sheet.Sheet.{Sheet}
 
 -- where a pen goes by a flat command
 abbrev pub step_of : PenView → FlatCommand → Result State PenFault
-step_of pen f = after pen.conv pen.state f
+step_of pen f = state_after pen.conv pen.state f
 
 abbrev pub Moves : PenView → FlatCommand → PenView → Type 0
 Moves old f new = step_of old f ≡ Ok new.state
@@ -26,5 +26,5 @@ Inks sheet pen f glyph old new = (done : List Inked) → old ≡ page_of sheet.w
     (mark_of pen.conv pen.state.now f) glyph)
 
 -- the flat command of a character, of some font
-abbrev pub set_in : FontKey → PlainStep → FlatCommand
-set_in key plain = Char key plain.code plain.width plain.put
+abbrev pub set_in : FontKey → PackedChar → FlatCommand
+set_in key packed = Char key packed.code packed.width packed.put

@@ -6,5 +6,5 @@ pub mod Stops
 pub mod PlainDesks
 pub mod Laws
 pub mod SoloDesks
-pub mod SoFar
+pub mod DrawnUpTo
 pub mod Inking

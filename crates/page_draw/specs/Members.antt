@@ -1,7 +1,7 @@
 -- The states along a page's list, and its marks.
 use Rattle.std.specs.Prelude.{List, [], ◌∷◌, ◌++◌, Result, Ok, Err}
 use Rattle.pixel_round.specs.Pixels.{Fraction}
-use Rattle.drift_rules.specs.Position.{State, after}
+use Rattle.drift_rules.specs.Position.{State, state_after}
 use Rattle.drift_rules.specs.Marks.{mark_of}
 use Rattle.drift_rules.specs.declared.faults.PenFault.{PenFault}
 use Rattle.raster_page.specs.Ink.{Inked}
@@ -17,7 +17,7 @@ and_then (Err fault) next = Err fault
 
 abbrev pub last_state : Fraction → State → List Member → Result State PenFault
 last_state c s [] = Ok s
-last_state c s (Flat f g at ∷ members) = and_then (after c s f) (λ t. last_state c t members)
+last_state c s (Flat f g at ∷ members) = and_then (state_after c s f) (λ t. last_state c t members)
 last_state c s (LookUp k at ∷ members) = last_state c s members
 
 abbrev pub marks_after : Result State PenFault → (State → List Inked) → List Inked
@@ -28,6 +28,6 @@ marks_after (Err fault) next = []
 abbrev pub marks_from : Fraction → Sheet → State → List Member → List Inked
 marks_from c sheet s [] = []
 marks_from c sheet s (Flat f g at ∷ members) =
-    inks_of sheet (mark_of c s.now f) g ++ marks_after (after c s f)
+    inks_of sheet (mark_of c s.now f) g ++ marks_after (state_after c s f)
     (λ t. marks_from c sheet t members)
 marks_from c sheet s (LookUp k at ∷ members) = marks_from c sheet s members

@@ -7,16 +7,16 @@ use Rattle.drift_rules.specs.declared.flat.Mark.TheVariants as mark
 use Rattle.pk_runs.specs.declared.glyph.Glyph.{Glyph}
 use Rattle.raster_page.specs.Ink.{Inked, Bar, Dots}
 use Rattle.page_draw.specs.declared.sheet.Sheet.{Sheet}
-use Rattle.raster_page.specs.Limits.{LONGEST_PAGE_SIDE}
+use Rattle.raster_page.specs.Limits.{MAX_PAGE_SIDE}
 
 -- a sheet within the limits
 pub record IsDrawable (sheet : Sheet) : Type 0 where
   pub some_width : 1 ≤ sheet.width
-  pub width : sheet.width ≤ LONGEST_PAGE_SIDE
+  pub width : sheet.width ≤ MAX_PAGE_SIDE
   pub some_height : 1 ≤ sheet.height
-  pub height : sheet.height ≤ LONGEST_PAGE_SIDE
-  pub left : sheet.left ≤ LONGEST_PAGE_SIDE
-  pub top : sheet.top ≤ LONGEST_PAGE_SIDE
+  pub height : sheet.height ≤ MAX_PAGE_SIDE
+  pub left : sheet.left ≤ MAX_PAGE_SIDE
+  pub top : sheet.top ≤ MAX_PAGE_SIDE
 
 -- a glyph whose reference pixel stands in column hh of row vv
 abbrev pub dots_of : Sheet → Option Glyph → ℤ → ℤ → List Inked

@@ -10,7 +10,7 @@ use Rattle.cache_core.specs.States.{Cache, StateStands}
 use Rattle.pixel_round.specs.Preamble.{AreUnits}
 use Rattle.font_decode.specs.Decoding.{IsFontOf}
 use Rattle.font_decode.specs.Desks.{Trail}
-use Rattle.font_decode.specs.declared.decoded.Decoded.{Decoded}
+use Rattle.font_decode.specs.declared.font_or_fault.Decoded.{Decoded}
 
 pub record SoloView (F : Type 0) : Type 0 where
   pub source : F
@@ -18,20 +18,21 @@ pub record SoloView (F : Type 0) : Type 0 where
   pub cache : Cache Decoded
 
 -- a font stands for its key
-abbrev pub stands_so : Decoded → FontKey → Common → Type 0
-stands_so font k part = IsFontOf part.library (Some part.units) k font
+abbrev pub stands_for_key : Decoded → FontKey → Common → Type 0
+stands_for_key font k part = IsFontOf part.library (Some part.units) k font
 
-abbrev pub part_of : Option FileTable → Units → ℕ → Common
-part_of library units capacity = record { capacity = capacity; units = units; library = library }
+abbrev pub common_part : Option FileTable → Units → ℕ → Common
+common_part library units capacity =
+    record { capacity = capacity; units = units; library = library }
 
 -- the cache has one seat, with number 1, which holds no claim, and each font there is its key's
 pub record IsAlone (library : Option FileTable) (u : Units) (c : Cache Decoded) : Type 0 where
   pub units : AreUnits u
   pub free : claim_of 1 c.claims ≡ None
   pub own : AreOf 1 c.history
-  pub stands : StateStands stands_so c (part_of library u c.capacity)
+  pub stands : StateStands stands_for_key c (common_part library u c.capacity)
 
--- ---- what is told
+-- ---- what is known
 
 abbrev pub asked_by : Cache Decoded → Option (List FontKey)
 asked_by c = Some (looks c.history)

@@ -3,27 +3,27 @@
 use Rattle.std.specs.Prelude.{◌≡◌, ℕ, List, [], ◌∷◌, Result, Ok, Err}
 use Rattle.outside.specs.declared.keys.FontKey.{FontKey}
 use Rattle.pixel_round.specs.Pixels.{Fraction}
-use Rattle.drift_rules.specs.Position.{State, after, at_origin}
+use Rattle.drift_rules.specs.Position.{State, state_after, at_origin}
 use Rattle.drift_rules.specs.declared.faults.PenFault.{PenFault}
 use Rattle.drift_rules.specs.declared.faults.PenFault.TheVariants.{StackLeft}
 use Rattle.drift_rules.specs.declared.flat.Registers.{Registers}
 use Rattle.packed_rows.specs.Bitmap.{Bitmap}
 use Rattle.raster_page.specs.Ink.{page_of}
 use Rattle.vf_expand.specs.Course.{Course, Gives, Asks, Ends, Stops}
-use Rattle.vf_expand.specs.Faults.{PageFaultSeen, Pen}
+use Rattle.vf_expand.specs.Faults.{PageFaultValue, Pen}
 use Rattle.page_draw.specs.Members.{Finding, Unfolds, Member, last_state, looks_of, marks_from}
 use Rattle.page_draw.specs.declared.sheet.Sheet.{Sheet}
 
 -- why a page has no bitmap, with the position of the page's command that has the fault, or of its
 -- Eop
 pub record PlacedFault : Type 0 where
-  pub fault : PageFaultSeen
+  pub fault : PageFaultValue
   pub at : ℕ
 
 abbrev pub PageValue : Type 0
 PageValue = Result Bitmap PlacedFault
 
-abbrev pub fault_at : PageFaultSeen → ℕ → PageValue
+abbrev pub fault_at : PageFaultValue → ℕ → PageValue
 fault_at fault at = Err (record { fault = fault; at = at })
 
 -- the page's dots, each decided alone by the marks of its list
@@ -39,7 +39,7 @@ ended_with (r ∷ saved) eop page = fault_at (Pen StackLeft) eop
 -- next state, at a stop, or at its end
 abbrev pub EndsIn : Fraction → State → Bitmap → Course → PageValue → Type 0
 EndsIn c s page (Gives f g at rest) value =
-    (fault : PenFault) × (after c s f ≡ Err fault) × (value ≡ fault_at (Pen fault) at)
+    (fault : PenFault) × (state_after c s f ≡ Err fault) × (value ≡ fault_at (Pen fault) at)
 EndsIn c s page (Asks k at rest) value = ⊥
 EndsIn c s page (Ends at) value = value ≡ ended_with s.saved at page
 EndsIn c s page (Stops fault at) value = value ≡ fault_at fault at

@@ -7,15 +7,15 @@ ghost use Rattle.page_index.specs.Document.{pages_begun};
 ghost use Rattle.page_index.specs.Pages.{document_units};
 ghost use Rattle.raster_page.specs.Ink.{page_of};
 ghost use Rattle.font_decode.specs.Decoding.{IsFontOf};
-ghost use Rattle.font_decode.specs.declared.decoded.Decoded.{Decoded};
-ghost use Rattle.vf_expand.specs.Expansion.{IsAtLook, answered, asks_left, left, steps_left};
+ghost use Rattle.font_decode.specs.declared.font_or_fault.Decoded.{Decoded};
+ghost use Rattle.vf_expand.specs.Expansion.{IsAtLook, after_answer, asks_left, rest_of, steps_left};
 ghost use Rattle.vf_expand.specs.Steps.{Steps};
 ghost use Rattle.vf_expand.specs.declared.step.Step.TheVariants.{Ask};
 ghost use Rattle.page_draw.specs.Sheets.{IsDrawable};
 ghost use Rattle.page_draw.specs.Values.{EndsIn, ended_with};
 ghost use Rattle.font_decode.specs.Desks.{GrewBy, GrewByAtMost, TrailGrew};
 ghost use Rattle.page_draw.specs.Drawn.{IsDrawn, IsFaultOf, IsLeft, IsOwnStop, IsStop, IsWhole};
-ghost use Rattle.vf_expand.specs.Course.{MOST_FLAT};
+ghost use Rattle.vf_expand.specs.Limits.{MAX_FLAT_COMMANDS};
 
 use crate::flats::draw_flats;
 use crate::indexed_page::IndexedPage;
@@ -31,7 +31,7 @@ use std::sync::{Arc, Wait};
 use vf_expand::{Expander, PageFault, Step};
 
 // The page at its end, where no registers may be saved.
-fn finished(page: Page, pen: &Pen, at: usize) -> Result<Page, PageStop>
+fn finish_page(page: Page, pen: &Pen, at: usize) -> Result<Page, PageStop>
     ensures whole { IfOk result (λ done. ended_with pen.now.state.saved at page ≡ Ok done) }
     ensures left { IfErr result (λ stop. IsLeft stop (ended_with pen.now.state.saved at page)) }
 {
@@ -45,16 +45,16 @@ fn finished(page: Page, pen: &Pen, at: usize) -> Result<Page, PageStop>
 }
 
 // The page where nothing of it is left, or the fault at which its commands stop.
-fn ended(page: Page, pen: &Pen, expander: &Expander, step: Step) -> Result<Page, PageStop>
+fn end_page(page: Page, pen: &Pen, expander: &Expander, step: Step) -> Result<Page, PageStop>
     requires next { Steps expander.now step expander.now }
     requires no_look { (key : _) → step ≡ Ask key → ⊥ }
     ensures whole { IfOk result (λ done.
-        EndsIn pen.now.conv pen.now.state page (left expander.now) (Ok done)) }
+        EndsIn pen.now.conv pen.now.state page (rest_of expander.now) (Ok done)) }
     ensures stop { IfErr result (λ stop. IsFaultOf stop
-        (EndsIn pen.now.conv pen.now.state page (left expander.now))) }
+        (EndsIn pen.now.conv pen.now.state page (rest_of expander.now))) }
 {
     match step {
-        Step::End => finished(page, pen, expander.at()),
+        Step::End => finish_page(page, pen, expander.at()),
         Step::Stop(fault) => Err(PageStop::Fault {
             fault,
             at: expander.at(),
@@ -76,10 +76,10 @@ fn look_up<R: Wait, D: Desk>(
     requires fits { D.fits desk.old shared.now }
     requires room { 1 ≤ D.room desk.old }
     requires key { IsFontKey (arc_value key.now) }
-    requires look { IsAtLook (left expander.old) }
+    requires look { IsAtLook (rest_of expander.old) }
     ensures answered { OnOk result ((font : Decoded)
         × IsFontOf (D.library desk.old) (D.units desk.old) (arc_value key.now) font
-        × (left expander.new ≡ answered (left expander.old) font)) }
+        × (rest_of expander.new ≡ after_answer (rest_of expander.old) font)) }
     ensures asks { OnOk result (asks_left expander.new + 1 ≡ asks_left expander.old) }
     ensures fewer { OnOk result (steps_left expander.new < steps_left expander.old) }
     ensures broken { IfErr result (λ stop. IsOwnStop stop → ⊥) }
@@ -126,12 +126,12 @@ pub fn draw_on<R: Wait, D: Desk>(
     requires fits { D.fits desk.old shared.now }
     requires units { IfSome (D.units desk.old) (λ u.
         document_units wanted.index.now.res wanted.index.now.reading ≡ Some u) }
-    requires room { MOST_FLAT ≤ D.room desk.old }
+    requires room { MAX_FLAT_COMMANDS ≤ D.room desk.old }
     requires blank { page ≡ page_of sheet.now.width sheet.now.height [] }
 
     // What the desk is afterwards.
     ensures fits { D.fits desk.new shared.now }
-    ensures room { D.room desk.old ≤ D.room desk.new + MOST_FLAT }
+    ensures room { D.room desk.old ≤ D.room desk.new + MAX_FLAT_COMMANDS }
     ensures library { D.library desk.new ≡ D.library desk.old }
     ensures units { D.units desk.new ≡ D.units desk.old }
     ensures cause { HasCause (D.faults desk.old) (D.faults desk.new)
@@ -154,7 +154,7 @@ pub fn draw_on<R: Wait, D: Desk>(
     'steps: loop {
         match draw_flats(&mut page, &mut pen, sheet, &mut expander)? {
             Step::Ask(key) => look_up(rt, alloc, desk, shared, &mut expander, &key)?,
-            step => return ended(page, &pen, &expander, step),
+            step => return end_page(page, &pen, &expander, step),
         }
     }
 }
@@ -181,11 +181,11 @@ pub fn draw<R: Wait, D: Desk>(
     requires fits { D.fits desk.old shared.now }
     requires units { IfSome (D.units desk.old) (λ u. document_units index.now.res index.now.reading
         ≡ Some u) }
-    requires room { MOST_FLAT ≤ D.room desk.old }
+    requires room { MAX_FLAT_COMMANDS ≤ D.room desk.old }
 
     // What the desk is afterwards.
     ensures fits { D.fits desk.new shared.now }
-    ensures room { D.room desk.old ≤ D.room desk.new + MOST_FLAT }
+    ensures room { D.room desk.old ≤ D.room desk.new + MAX_FLAT_COMMANDS }
     ensures library { D.library desk.new ≡ D.library desk.old }
     ensures units { D.units desk.new ≡ D.units desk.old }
     ensures cause { HasCause (D.faults desk.old) (D.faults desk.new)
@@ -203,8 +203,8 @@ pub fn draw<R: Wait, D: Desk>(
     ensures trail { TrailGrew (IsWhole result) (D.asked desk.old) (D.asked desk.new)
         (D.trail desk.old) (D.trail desk.new) }
 {
-    // A document has units, so where memory runs out its page was broken off before its first
-    // command.
+    // For the proof: a document has units, so where memory runs out its page was broken off before
+    // its first command.
     let _conv = index.conv();
     let page = Page::blank(alloc, sheet.width, sheet.height)?;
     let wanted = IndexedPage { index, number: i };

@@ -3,17 +3,17 @@ ghost use Rattle.std.specs.Prelude.{◌≡◌, ◌≤◌, ◌<ℤ◌, ◌≤ℤ�
 ghost use Rattle.std.specs.Prelude.{List, None, Some, IfOk, IfErr, IfSome, IsErrOf, OnOk};
 ghost use Rattle.std.specs.Option.{option_map};
 ghost use Rattle.outside.specs.declared.keys.FontKey.{FontKey};
-ghost use Rattle.drift_rules.specs.Position.{seen_flat};
+ghost use Rattle.drift_rules.specs.Position.{value_of_flat};
 ghost use Rattle.drift_rules.specs.Bounds.{IsInReach, IsNumber, IsPaintable, IsPlaceable};
 ghost use Rattle.raster_page.specs.Ink.{Inked, page_of};
-ghost use Rattle.vf_expand.specs.Expansion.{asks_left, left};
-ghost use Rattle.vf_expand.specs.Steps.{Fits, Steps};
+ghost use Rattle.vf_expand.specs.Expansion.{asks_left, rest_of};
+ghost use Rattle.vf_expand.specs.Steps.{StepFits, Steps};
 ghost use Rattle.packed_rows.specs.declared.offset.TheConstants.{MAX_COORDINATE};
 ghost use Rattle.page_draw.specs.Inking.{Inks, Moves, step_of, set_in};
 ghost use Rattle.page_draw.specs.Sheets.{IsDrawable, inks_of};
-ghost use Rattle.page_draw.specs.SoFar.{GoesOn, HasFewerAtLook, StopsSo};
+ghost use Rattle.page_draw.specs.DrawnUpTo.{Continues, HasFewerAtLook, StopsWith};
 ghost use Rattle.page_draw.specs.Drawn.{IsPenStop};
-ghost use Rattle.raster_page.specs.Limits.{LONGEST_PAGE_SIDE};
+ghost use Rattle.raster_page.specs.Limits.{MAX_PAGE_SIDE};
 
 use crate::sheet::Sheet;
 use crate::stop::PageStop;
@@ -21,14 +21,14 @@ use drift_rules::{Flat, Mark, Pen, PenStop};
 use glyph_paint::paint;
 use pk_runs::Glyph;
 use raster_page::Page;
-use vf_expand::{Expander, PageFault, PlainStep, Step};
+use vf_expand::{Expander, PackedChar, PageFault, Step};
 
 // Where a glyph's upper left pixel stands on the sheet, across or down, whose reference pixel
 // stands at this place.
 #[inline(always)]
-fn placed(place: i64, offset: i32, margin: u32) -> i64
+fn top_left(place: i64, offset: i32, margin: u32) -> i64
     requires near { IsPlaceable place }
-    requires few { margin ≤ LONGEST_PAGE_SIDE }
+    requires few { margin ≤ MAX_PAGE_SIDE }
     ensures value { result ≡ place -ℤ offset +ℤ pos margin }
     ensures low { neg_ℤ (pos MAX_COORDINATE) ≤ℤ result }
     ensures high { result <ℤ pos MAX_COORDINATE }
@@ -51,8 +51,8 @@ fn ink(page: &mut Page, sheet: &Sheet, mark: Option<Mark>, glyph: Option<&Glyph>
         }
         Some(Mark::Char { hh, vv }) => {
             if let Some(glyph) = glyph {
-                let column = placed(hh, glyph.hoff, sheet.left);
-                let row = placed(vv, glyph.voff, sheet.top);
+                let column = top_left(hh, glyph.hoff, sheet.left);
+                let row = top_left(vv, glyph.voff, sheet.top);
                 paint(page, &glyph.raster, column, row);
             }
         }
@@ -70,12 +70,13 @@ fn draw_one(
     flat: &Flat,
 ) -> Result<(), PageStop>
     requires sheet { IsDrawable sheet.now }
-    requires reach { IsInReach (seen_flat flat.now) }
-    ensures moved { IfOk result (λ _. Moves pen.old (seen_flat flat.now) pen.new) }
-    ensures inked { IfOk result (λ _. Inks sheet.now pen.old (seen_flat flat.now)
+    requires reach { IsInReach (value_of_flat flat.now) }
+    ensures moved { IfOk result (λ _. Moves pen.old (value_of_flat flat.now) pen.new) }
+    ensures inked { IfOk result (λ _. Inks sheet.now pen.old (value_of_flat flat.now)
         None page.old page.new) }
     ensures conv { pen.new.conv ≡ pen.old.conv }
-    ensures stop { IfErr result (IsPenStop (step_of pen.old (seen_flat flat.now)) expander.now.at) }
+    ensures stop { IfErr result (IsPenStop (step_of pen.old (value_of_flat flat.now))
+        expander.now.at) }
 {
     match pen.step(flat) {
         Ok(mark) => {
@@ -92,38 +93,38 @@ fn draw_one(
 
 // Draws a character that the expander gave with its glyph.
 #[inline(always)]
-fn draw_plain(
+fn draw_packed_char(
     page: &mut Page,
     pen: &mut Pen,
     sheet: &Sheet,
-    plain: PlainStep,
+    packed: PackedChar,
 ) -> Result<(), PageStop>
     requires sheet { IsDrawable sheet.now }
-    requires reach { IsNumber plain.width }
-    ensures moved { IfOk result (λ _. (key : FontKey) → Moves pen.old (set_in key plain.entry)
+    requires reach { IsNumber packed.width }
+    ensures moved { IfOk result (λ _. (key : FontKey) → Moves pen.old (set_in key packed.entry)
         pen.new) }
     ensures inked { IfOk result (λ _. (key : FontKey) → Inks sheet.now pen.old
-        (set_in key plain.entry)
-        (Some plain.entry.glyph.now) page.old page.new) }
+        (set_in key packed.entry)
+        (Some packed.entry.glyph.now) page.old page.new) }
     ensures conv { pen.new.conv ≡ pen.old.conv }
     ensures stop { IfErr result (λ stop. (key : FontKey)
-        → IsPenStop (step_of pen.old (set_in key plain.entry)) plain.entry.at stop) }
+        → IsPenStop (step_of pen.old (set_in key packed.entry)) packed.entry.at stop) }
 {
-    match pen.character(plain.width, plain.put) {
+    match pen.character(packed.width, packed.put) {
         Ok(mark) => {
-            ink(page, sheet, Some(mark), Some(plain.glyph));
+            ink(page, sheet, Some(mark), Some(packed.glyph));
             Ok(())
         }
         Err(fault) => Err(PageStop::Fault {
             fault: PageFault::Pen(fault),
-            at: plain.at,
+            at: packed.at,
         }),
     }
 }
 
-/// Draws the flat commands that stand next, up to a step of another kind. A page's commands are
-/// almost all of them flat ones: this loop is one for all desks, and what a command passes through
-/// stands in it.
+/// Draws the flat commands that come next, up to a step of another kind. A page's commands are
+/// almost all of them flat ones: this loop is the same for all desks, and what a command passes
+/// through is inlined into it.
 #[inline(never)]
 pub fn draw_flats(
     page: &mut Page,
@@ -132,22 +133,23 @@ pub fn draw_flats(
     expander: &mut Expander,
 ) -> Result<Step, PageStop>
     requires sheet { IsDrawable sheet.now }
-    ensures drawn { OnOk result (GoesOn pen.old.conv sheet.now
-        (left expander.old) pen.old.state page.old (left expander.new) pen.new.state page.new) }
+    ensures drawn { OnOk result (Continues pen.old.conv sheet.now
+        (rest_of expander.old) pen.old.state page.old (rest_of expander.new) pen.new.state
+        page.new) }
     ensures conv { OnOk result (pen.new.conv ≡ pen.old.conv) }
     ensures asks { OnOk result (asks_left expander.new ≤ asks_left expander.old) }
     ensures steps { IfOk result (λ step. HasFewerAtLook expander.old step expander.new) }
 
     // The step that stands next is no flat command: it leaves the same to do.
     ensures next { IfOk result (λ step. Steps expander.new step expander.new) }
-    ensures fits { IfOk result Fits }
+    ensures fits { IfOk result StepFits }
     ensures source { IsErrOf result PageStop.SourceFault → ⊥ }
-    ensures stop { IfErr result (StopsSo pen.old.conv sheet.now
-        (left expander.old) pen.old.state page.old) }
+    ensures stop { IfErr result (StopsWith pen.old.conv sheet.now
+        (rest_of expander.old) pen.old.state page.old) }
 {
     'flats: loop {
-        if let Some(plain) = expander.next_plain() {
-            draw_plain(page, pen, sheet, plain)?;
+        if let Some(packed) = expander.next_packed_char() {
+            draw_packed_char(page, pen, sheet, packed)?;
             continue;
         }
         match expander.next()? {

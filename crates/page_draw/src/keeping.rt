@@ -8,7 +8,7 @@ ghost use Rattle.cache_core.specs.declared.calls.Done.TheVariants.{Filled, Relea
 ghost use Rattle.cache_core.specs.Machine.{claim_of};
 ghost use Rattle.cache_core.specs.States.{call, StateStands};
 ghost use Rattle.font_decode.specs.Decoding.{IsFontOf};
-ghost use Rattle.page_draw.specs.SoloDesks.{stands_so};
+ghost use Rattle.page_draw.specs.SoloDesks.{stands_for_key};
 
 use cache_core::CacheState;
 use font_decode::{Decoded, DeskStop};
@@ -33,9 +33,9 @@ pub fn keep(
         ≡ cache.old.history ++ call 1 (arc_value key.now) (Filled gone) ∷ [])) }
     ensures released { OnErr result (cache.new.history ≡ cache.old.history ++ call 1
         (arc_value key.now) Released ∷ []) }
-    ensures stands { (part : Common) → StateStands stands_so cache.old part
+    ensures stands { (part : Common) → StateStands stands_for_key cache.old part
         → IsFontOf part.library (Some part.units) (arc_value key.now) (arc_value font)
-        → StateStands stands_so cache.new part }
+        → StateStands stands_for_key cache.new part }
     ensures memory { OnErr result (IsErrOf result DeskStop.NoMemory) }
 {
     if let Ok(kept) = Arc::try_clone(&font) {

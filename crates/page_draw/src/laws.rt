@@ -1,4 +1,4 @@
-//! What is true of the values of pages.
+//! Laws of the values of pages.
 ghost use Rattle.page_draw.specs.Laws.{PagesHaveOneValue, EachPageHasOneValue, BrokenPagesBegin, PacketsAreSetInPlace};
 
 /// Over a library a page has exactly one value, and its keys are looked up in one order; a page
@@ -9,8 +9,8 @@ pub fn values()
     ensures begun { BrokenPagesBegin }
 {}
 
-/// The packet of a virtual character is set where the character stands, and moves nothing of the
-/// rest.
+/// The packet of a virtual character is set where the character is, and moves nothing that comes
+/// after it.
 pub fn packets()
     ensures in_place { PacketsAreSetInPlace }
 {}

@@ -9,8 +9,8 @@ use std::alloc::Global;
 use std::marker::Model;
 use std::sync::{Arc, Wait};
 
-/// A desk that loads and decodes a font each time it is asked for one. It tells the library of its
-/// source, where that tells one, and the units; not which keys were asked for.
+/// A desk that loads and decodes a font each time it is asked for one. Its units are known, and its
+/// library where that of its source is; which keys were asked for is not.
 #[derive(Drop)]
 pub struct PlainDesk<F: FontSource> {
     source: F,
@@ -58,7 +58,7 @@ impl<F: FontSource> Desk for PlainDesk<F> {
 
     ghost room = { λ d. 2 ^ 48 };
 
-    ghost told = { λ d some. refl };
+    ghost known = { λ d some. refl };
 
     ghost asks = { λ d some. some };
 

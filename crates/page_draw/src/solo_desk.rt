@@ -10,6 +10,7 @@ ghost use Rattle.pixel_round.specs.Preamble.{AreUnits};
 ghost use Rattle.font_decode.specs.Decoding.{IsFontOf};
 ghost use Rattle.font_decode.specs.Desks.{GrewBy, GrewByAtMost, TrailGrew};
 ghost use Rattle.page_draw.specs.SoloDesks.{IsAlone, asked_by, room_by, trail_by};
+ghost use Rattle.cache_core.specs.Limits.{MAX_CACHED_FONTS};
 
 use crate::keeping::keep;
 use cache_core::{CacheState, Entry, Look, laws};
@@ -20,8 +21,8 @@ use std::alloc::{AllocError as NoMemory, Global};
 use std::marker::Model;
 use std::sync::{Arc, Wait};
 
-/// A desk that keeps fonts in a cache, whose only seat it has, with number 1. It tells the library
-/// of its source, where that tells one, the units, the keys asked for, and the calls of its seat.
+/// A desk that keeps fonts in a cache, whose only seat it has, with number 1. Its units, the keys
+/// asked for and the calls of its seat are known, and its library where that of its source is.
 #[derive(Drop)]
 pub struct SoloDesk<F: FontSource> {
     source: F,
@@ -41,7 +42,7 @@ impl<F: FontSource> Model for SoloDesk<F> {
 
 impl<F: FontSource> SoloDesk<F> {
     /// A desk over a source, for the units of a document, with a cache of n fonts at most: 1 to
-    /// 256. `NoMemory` lets the source go.
+    /// 256. `NoMemory` drops the source.
     pub fn new(
         alloc: Global,
         source: F,
@@ -50,7 +51,7 @@ impl<F: FontSource> SoloDesk<F> {
     ) -> Result<SoloDesk<F>, NoMemory>
         requires units { AreUnits units }
         requires some_font { 1 ≤ capacity }
-        requires few_fonts { capacity ≤ 256 }
+        requires few_fonts { capacity ≤ MAX_CACHED_FONTS }
         ensures source { IfOk result (λ d. d.source ≡ source) }
         ensures units { IfOk result (λ d. d.units ≡ units) }
         ensures capacity { IfOk result (λ d. d.cache.capacity ≡ capacity) }
@@ -99,7 +100,7 @@ impl<F: FontSource> Desk for SoloDesk<F> {
 
     ghost room = { λ d. room_by d.cache.turns };
 
-    ghost told = { λ d some. refl };
+    ghost known = { λ d some. refl };
 
     ghost asks = { λ d some. refl };
 
@@ -140,7 +141,7 @@ fn ask<F: FontSource>(
     ensures trail { TrailGrew (IsOk result) (asked_by cache.old) (asked_by cache.new)
         (trail_by (F.loads source.old) cache.old) (trail_by (F.loads source.new) cache.new) }
 {
-    // No look of the only seat is busy.
+    // For the proof: no look of the only seat is busy.
     laws::solo();
     match cache.look(1, key)? {
         Look::Hit(font) => Ok(font),

@@ -14,7 +14,7 @@ use Rattle.dvi_commands.specs.Reading.{Placed, command_of}
 use Rattle.dvi_commands.specs.declared.command.CommandFault.{CommandFault}
 use Rattle.dvi_commands.specs.declared.command.Context.TheVariants as context
 use Rattle.dvi_commands.proofs.Commands.{parted}
-use Rattle.dvi_commands.proofs.Told.{told_by_bytes}
+use Rattle.dvi_commands.proofs.Determined.{determined_by_bytes}
 use Rattle.page_index.specs.Judged.{preamble_fault, preamble_fields}
 use Rattle.page_index.specs.Document.{context_after, is_bop, is_post, is_postpost, key_or, preamble_or, whole_fault}
 use Rattle.page_index.specs.Fonts.{Fonts}
@@ -59,7 +59,7 @@ is_pre : (bytes : List ℕ) (c : DviCommand) → Spells c bytes → slice_index 
 is_pre [] c h op = cc
 is_pre (b ∷ fields) c h op =
     let first : b ≡ 247 = op in
-    (_, told_by_bytes c (b ∷ fields) h ∙ ap (λ (n : ℕ). command_of (n ∷ fields)) first)
+    (_, determined_by_bytes c (b ∷ fields) h ∙ ap (λ (n : ℕ). command_of (n ∷ fields)) first)
 
 -- a number of four bytes at the beginning is read again
 four : (z : ℤ) (more : List ℕ) → IsSigned 4 z → signed_of (take 4 (quad z ++ more)) ≡ z

@@ -6,7 +6,7 @@ use Rattle.dvi_commands.specs.Refusal.{may_stand}
 use Rattle.dvi_commands.specs.Reading.{Placed, command_of}
 use Rattle.dvi_commands.specs.declared.command.Context.{Context}
 use Rattle.dvi_commands.specs.declared.command.Context.TheVariants as context
-use Rattle.dvi_commands.proofs.Told.{told_by_bytes}
+use Rattle.dvi_commands.proofs.Determined.{determined_by_bytes}
 use Rattle.page_index.specs.Document.{Reading, context_after, is_bop, is_eop, is_page_open, is_post, is_post_read, pages_begun}
 
 abbrev pub SaysOf : Context → Reading → Type 0
@@ -88,4 +88,4 @@ pub pre_by_opcode : (c : DviCommand) (bytes : List ℕ) → Spells c bytes → s
 pre_by_opcode c [] h op = cc
 pre_by_opcode c (b ∷ bytes) h op =
     let first : b ≡ 247 = op in
-    ap is_pre (told_by_bytes c (b ∷ bytes) h ∙ ap (λ (n : ℕ). command_of (n ∷ bytes)) first)
+    ap is_pre (determined_by_bytes c (b ∷ bytes) h ∙ ap (λ (n : ℕ). command_of (n ∷ bytes)) first)

@@ -14,7 +14,7 @@ use Rattle.dvi_commands.specs.Reading.{Placed, Reads, placed_from}
 use Rattle.dvi_commands.specs.declared.command.Context.{Context}
 use Rattle.dvi_commands.specs.declared.command.Context.TheVariants as context
 use Rattle.page_index.specs.Judged.{is_filler, tail_fault}
-use Rattle.page_index.specs.Limits.{LONGEST}
+use Rattle.page_index.specs.Limits.{MAX_DOCUMENT_LENGTH}
 use Rattle.page_index.specs.Document.{IsDocument, Reading, Sound, context_after, end_of, is_ended, is_post_read, is_postpost, pages_begun, text_of, units_of}
 use Rattle.page_index.specs.Faults.{FaultAfterCommand, FaultAfter, IsFirstFault}
 use Rattle.page_index.specs.Fonts.{Fonts}
@@ -142,7 +142,7 @@ module _ (bytes : List ℕ) (r : Reading) (i : ℕ) (s : PageSpan) (is : IsSpan 
     pub page_reads : Reads context.Page part
     page_reads = subst (Reads context.Page) (sym same) (runs_read s.start (page_commands i r) text is.fills.runs is.fills.allowed)
 
-    pub page_within : length bytes ≤ LONGEST → at + length part ≤ LONGEST
+    pub page_within : length bytes ≤ MAX_DOCUMENT_LENGTH → at + length part ≤ MAX_DOCUMENT_LENGTH
     page_within fits =
         let size : length text ≡ s.end - s.start = grind (arith, length-take, length-drop, is.fills.inside) in
         omega (arith, size, is.fills.order, is.fills.inside, fits, place, ap length same)

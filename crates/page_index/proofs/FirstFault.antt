@@ -13,7 +13,7 @@ use Rattle.page_index.specs.Laws.{DocumentsHaveNoFault, FirstFaultsAreOne, Docum
 use Rattle.dvi_commands.specs.declared.command.CommandFault.{CommandFault}
 use Rattle.page_index.specs.declared.faults.DocFault.{DocFault}
 use Rattle.dvi_commands.proofs.Prefix.{no_spelling_begins_another}
-use Rattle.dvi_commands.proofs.Told.{spelling_tells_the_command, told_by_bytes}
+use Rattle.dvi_commands.proofs.Determined.{spelling_determines_the_command, determined_by_bytes}
 use Rattle.dvi_commands.proofs.Refusals.{spelled_is_not_refused, spelled_some}
 use Rattle.page_index.proofs.Fields.{postpost_same, preamble_same}
 use Rattle.page_index.proofs.Readings.{Begins, readings_agree, split_last, sound_older, text_after, cancelled}
@@ -27,12 +27,12 @@ first_is (b ∷ fields) op some e = (fields, ap (λ x. x ∷ fields) e)
 pub is_pre : (c : DviCommand) (bytes : List ℕ) → Spells c bytes → slice_index bytes 0 ≡ 247 → (p : Preamble) × (c ≡ Pre p)
 is_pre c bytes h e =
     let first = first_is bytes 247 (omega arith) e in
-    (_, told_by_bytes c bytes h ∙ ap command_of first.1)
+    (_, determined_by_bytes c bytes h ∙ ap command_of first.1)
 
 pub is_post_post : (c : DviCommand) (bytes : List ℕ) → Spells c bytes → slice_index bytes 0 ≡ 249 → (q : ℤ) × (id : ℕ) × (c ≡ PostPost q id)
 is_post_post c bytes h e =
     let first = first_is bytes 249 (omega arith) e in
-    (_, _, told_by_bytes c bytes h ∙ ap command_of first.1)
+    (_, _, determined_by_bytes c bytes h ∙ ap command_of first.1)
 
 -- the first byte of a command's bytes is that of all bytes from there on
 pub first_of : (bytes more : List ℕ) → 0 < length bytes → slice_index (bytes ++ more) 0 ≡ slice_index bytes 0
@@ -76,7 +76,7 @@ no_command_fault res r q more f h (inl e) = no_refusal _ e.0 (spelled_is_not_ref
 no_command_fault res r q more f h (inr e) =
     let parts = no_spelling_begins_another q.command e.0 q.bytes e.1 more e.2 h.spelled e.4 e.3 in
     let spelled : Spells e.0 q.bytes = subst (λ (b : List ℕ). Spells e.0 b) (sym parts.0) e.4 in
-    let command : q.command ≡ e.0 = spelling_tells_the_command q.command e.0 q.bytes h.spelled spelled in
+    let command : q.command ≡ e.0 = spelling_determines_the_command q.command e.0 q.bytes h.spelled spelled in
     let right : whole_fault res r (end_of r) e.1 e.0 ≡ None =
     subst (λ (c : DviCommand). whole_fault res r (end_of r) e.1 c ≡ None) command
     (subst (λ (b : List ℕ). whole_fault res r (end_of r) b q.command ≡ None) parts.0
@@ -208,7 +208,7 @@ one_at_command res r rest f g (inr e) (inl h) =
 one_at_command res r rest f g (inr e) (inr h) =
     let parts = no_spelling_begins_another e.0 h.0 e.1 h.1 e.2 h.2 e.4 h.4 (sym e.3 ∙ h.3) in
     let spelled : Spells h.0 e.1 = subst (λ (b : List ℕ). Spells h.0 b) (sym parts.0) h.4 in
-    let command : e.0 ≡ h.0 = spelling_tells_the_command e.0 h.0 e.1 e.4 spelled in
+    let command : e.0 ≡ h.0 = spelling_determines_the_command e.0 h.0 e.1 e.4 spelled in
     let moved : whole_fault res r (end_of r) h.1 h.0 ≡ Some f =
     subst (λ (c : DviCommand). whole_fault res r (end_of r) h.1 c ≡ Some f) command
     (subst (λ (b : List ℕ). whole_fault res r (end_of r) b e.0 ≡ Some f) parts.0 e.6) in

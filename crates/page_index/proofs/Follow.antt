@@ -8,7 +8,7 @@ use Rattle.dvi_commands.specs.Reading.{Placed}
 use Rattle.dvi_commands.specs.declared.command.Context.{Context}
 use Rattle.dvi_commands.specs.declared.command.Context.TheVariants as context
 use Rattle.page_index.specs.Judged.{define_fault}
-use Rattle.page_index.specs.Limits.{MOST_PAGES}
+use Rattle.page_index.specs.Limits.{MAX_PAGES}
 use Rattle.page_index.specs.Document.{Reading, context_after, font_table, is_bop, is_eop, is_ended, is_post, is_page_open, is_postpost, key_or, last_bop, pages_begun}
 use Rattle.page_index.specs.Fonts.{Fonts}
 use Rattle.page_index.specs.Pages.{is_on_page, is_page, page_commands}
@@ -99,8 +99,8 @@ module _ (bytes : List ℕ) (p : Progress) (pages : List PageSpan) (fonts : Font
     fills_there context.Packet e on = cc
     fills_there context.Post e on = cc
 
-    pub plain : Follows bytes (record p { at = next }) pages table (q ∷ r)
-    plain = record {
+    pub skippable : Follows bytes (record p { at = next }) pages table (q ∷ r)
+    skippable = record {
       at = end_is;
       stands = f.stands ∙ same_context (context_after r) (says_of r) allowed;
       begun = f.begun ∙ sym (ap (λ (b : Bool). if b then suc (pages_begun r) else pages_begun r) not_bop);
@@ -157,7 +157,7 @@ module _ (bytes : List ℕ) (p : Progress) (pages : List PageSpan) (fonts : Font
               same_number : (n : ℕ) → (suc n == suc n) ≡ true
               same_number n = grind arith
 
-  pub follows_bop : (counts : List ℤ) (back : ℤ) → q.command ≡ Bop counts back → p.begun < MOST_PAGES → Follows bytes (progress_after p (Bop counts back) next) pages fonts (q ∷ r)
+  pub follows_bop : (counts : List ℤ) (back : ℤ) → q.command ≡ Bop counts back → p.begun < MAX_PAGES → Follows bytes (progress_after p (Bop counts back) next) pages fonts (q ∷ r)
   follows_bop counts back e few =
       let spelled_so : Spells (Bop counts back) q.bytes = subst (λ (c : DviCommand). Spells c q.bytes) e spelled in
       let here : context_after r ≡ context.Between = between_pages (context_after r) (opcode 139 (first 139 _ spelled_so.2)) in
@@ -235,7 +235,7 @@ module _ (bytes : List ℕ) (p : Progress) (pages : List PageSpan) (fonts : Font
   -- nothing is wrong with it, as far as what is kept tells
   abbrev pub IsGood : DviCommand → Type 0
   IsGood (Define d) = define_fault (get fonts d.number) p.at d ≡ None
-  IsGood (Bop counts back) = p.begun < MOST_PAGES
+  IsGood (Bop counts back) = p.begun < MAX_PAGES
   IsGood _ = Unit {0}
 
   pub follows_next : (c : DviCommand) → q.command ≡ c → IsGood c → Follows bytes (progress_after p c next) (pages_after p pages c) (fonts_after fonts c) (q ∷ r)
@@ -245,6 +245,6 @@ module _ (bytes : List ℕ) (p : Progress) (pages : List PageSpan) (fonts : Font
   follows_next (Post post) e good = follows_post post e
   follows_next (PostPost pointer id) e good = follows_postpost pointer id e
   follows_next (Define d) e good =
-      plain (ap is_bop e) (ap is_eop e) (ap is_post e) (ap is_postpost e) (ap is_pre e) (fonts_after fonts (Define d))
+      skippable (ap is_bop e) (ap is_eop e) (ap is_post e) (ap is_postpost e) (ap is_pre e) (fonts_after fonts (Define d))
       (λ k. keys_more fonts r d p.at f.keys good k ∙ sym (ap (key_or (font_table r k) k) e))
-  follows_next c e good = plain (ap is_bop e) (ap is_eop e) (ap is_post e) (ap is_postpost e) (ap is_pre e) fonts (plain_keys c e (λ k. refl))
+  follows_next c e good = skippable (ap is_bop e) (ap is_eop e) (ap is_post e) (ap is_postpost e) (ap is_pre e) fonts (plain_keys c e (λ k. refl))

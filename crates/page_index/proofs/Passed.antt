@@ -1,7 +1,7 @@
--- Plain commands of a page, passed over.
+-- Skippable commands of a page, passed over.
 use Rattle.std.proofs.Common.{◌≡◌, ℕ, ◌≤◌, true, false, List, length, drop, refl, sym, subst, arith, None}
 use Rattle.std.specs.Prelude.{slice_index, IsTrue}
-use Rattle.dvi_commands.specs.Plain.{IsPlainTo, is_plain}
+use Rattle.dvi_commands.specs.Skippable.{IsSkippableTo, is_skippable}
 use Rattle.dvi_commands.specs.Spelling.{DviCommand, Bop, Eop, Special, Define, Pre, Post, PostPost}
 use Rattle.dvi_commands.specs.Refusal.{may_stand}
 use Rattle.dvi_commands.specs.declared.command.Context.{Context}
@@ -15,14 +15,14 @@ use Rattle.page_index.specs.declared.progress.Progress.{Progress}
 use Rattle.page_index.specs.declared.progress.PageSpan.{PageSpan}
 use Rattle.page_index.proofs.Steps.{read_as, reads_more}
 
--- nothing is wrong with a plain command, and all but the place stays
+-- nothing is wrong with a skippable command, and all but the place stays
 record IsKept (s : Scaled) (p : Progress) (pages : List PageSpan) (fonts : Fonts) (c : DviCommand) (next : ℕ) : Type 0 where
   good : fault_by p s fonts c ≡ None
   progress : record p { at = next } ≡ progress_after p c next
   pages_stay : pages ≡ pages_after p pages c
   fonts_stay : fonts ≡ fonts_after fonts c
 
-kept : (s : Scaled) (p : Progress) (pages : List PageSpan) (fonts : Fonts) (c : DviCommand) (next : ℕ) → is_plain c ≡ true → IsKept s p pages fonts c next
+kept : (s : Scaled) (p : Progress) (pages : List PageSpan) (fonts : Fonts) (c : DviCommand) (next : ℕ) → is_skippable c ≡ true → IsKept s p pages fonts c next
 kept s p pages fonts (Bop counts back) next h = cc
 kept s p pages fonts Eop next h = cc
 kept s p pages fonts (Special text) next h = cc
@@ -38,14 +38,14 @@ no_postpost bytes p page here =
     let on_page : is_postpost_at context.Page (drop p.at bytes) ≡ true = subst (λ (x : Context). is_postpost_at x (drop p.at bytes) ≡ true) page here in
     cc
 
-plain_more : (bytes : List ℕ) (s : Scaled) (p : Progress) (pages : List PageSpan) (fonts : Fonts) (next : ℕ) → IsPlainTo bytes p.at next → p.context ≡ context.Page → p.is_ended ≡ false
+plain_more : (bytes : List ℕ) (s : Scaled) (p : Progress) (pages : List PageSpan) (fonts : Fonts) (next : ℕ) → IsSkippableTo bytes p.at next → p.context ≡ context.Page → p.is_ended ≡ false
     → IsReadTo bytes s p pages fonts → IsReadTo bytes s (record p { at = next }) pages fonts
-plain_more bytes s p pages fonts next plain page going w =
-    let stays = kept s p pages fonts plain.command next plain.plain in
-    let allowed : IsTrue (may_stand p.context (slice_index bytes p.at)) = subst (λ (x : Context). IsTrue (may_stand x (slice_index bytes p.at))) (sym page) plain.allowed in
-    read_as bytes s (progress_after p plain.command next) (record p { at = next }) (pages_after p pages plain.command) pages (fonts_after fonts plain.command) fonts
+plain_more bytes s p pages fonts next skippable page going w =
+    let stays = kept s p pages fonts skippable.command next skippable.skippable in
+    let allowed : IsTrue (may_stand p.context (slice_index bytes p.at)) = subst (λ (x : Context). IsTrue (may_stand x (slice_index bytes p.at))) (sym page) skippable.allowed in
+    read_as bytes s (progress_after p skippable.command next) (record p { at = next }) (pages_after p pages skippable.command) pages (fonts_after fonts skippable.command) fonts
     stays.progress stays.pages_stay stays.fonts_stay
-    (reads_more bytes s p pages fonts w going (no_postpost bytes p page) plain.command next plain.spelled plain.some plain.within allowed stays.good)
+    (reads_more bytes s p pages fonts w going (no_postpost bytes p page) skippable.command next skippable.spelled skippable.some skippable.within allowed stays.good)
 
 pub none_passed : (bytes : List ℕ) (at : ℕ) → at ≤ length bytes → ArePassed bytes at at
 none_passed bytes at inside = record {
@@ -54,10 +54,10 @@ none_passed bytes at inside = record {
   read = λ s p pages fonts place page going w. subst (λ (n : ℕ). IsReadTo bytes s (record p { at = n }) pages fonts) place w;
 }
 
-pub one_more_passed : (bytes : List ℕ) (at next end : ℕ) → ArePassed bytes at next → IsPlainTo bytes next end → ArePassed bytes at end
-one_more_passed bytes at next end passed plain = record {
-  back = omega (arith, passed.back, plain.some);
-  within = plain.within;
+pub one_more_passed : (bytes : List ℕ) (at next end : ℕ) → ArePassed bytes at next → IsSkippableTo bytes next end → ArePassed bytes at end
+one_more_passed bytes at next end passed skippable = record {
+  back = omega (arith, passed.back, skippable.some);
+  within = skippable.within;
   read = λ s p pages fonts place page going w.
-      plain_more bytes s (record p { at = next }) pages fonts end plain page going (passed.read s p pages fonts place page going w);
+      plain_more bytes s (record p { at = next }) pages fonts end skippable page going (passed.read s p pages fonts place page going w);
 }

@@ -5,7 +5,7 @@ use Rattle.dvi_commands.specs.Spelling.{DviCommand, Spells}
 use Rattle.dvi_commands.specs.Reading.{Placed}
 use Rattle.page_index.specs.Document.{Reading, text_of, Sound, IsSound}
 use Rattle.dvi_commands.proofs.Prefix.{no_spelling_begins_another}
-use Rattle.dvi_commands.proofs.Told.{spelling_tells_the_command}
+use Rattle.dvi_commands.proofs.Determined.{spelling_determines_the_command}
 
 -- the last element apart from those before it
 pub split_last : {A : Type 0} (x : A) (xs : List A) → (init : List A) × (last : A) × (x ∷ xs ≡ init ++ last ∷ [])
@@ -37,7 +37,7 @@ one_command res before p q x y hp hq same =
     let parts = no_spelling_begins_another p.command q.command p.bytes q.bytes x y hp.spelled hq.spelled same in
     let bytes : p.bytes ≡ q.bytes = parts.0 in
     let spelled : Spells q.command p.bytes = subst (λ (b : List ℕ). Spells q.command b) (sym bytes) hq.spelled in
-    let command : p.command ≡ q.command = spelling_tells_the_command p.command q.command p.bytes hp.spelled spelled in
+    let command : p.command ≡ q.command = spelling_determines_the_command p.command q.command p.bytes hp.spelled spelled in
     let at : p.at ≡ q.at = hp.place ∙ sym hq.place in
     let whole : made p.at p.command p.bytes ≡ made q.at q.command q.bytes = rw (at, command, bytes) refl in
     (whole, parts.1)

@@ -11,9 +11,9 @@ use Rattle.dvi_commands.specs.declared.command.CommandFault.{CommandFault}
 use Rattle.dvi_commands.specs.declared.command.Context.{Context}
 use Rattle.dvi_commands.specs.declared.command.Context.TheVariants as context
 use Rattle.dvi_commands.proofs.Commands.{parted}
-use Rattle.dvi_commands.proofs.Told.{told_by_bytes}
+use Rattle.dvi_commands.proofs.Determined.{determined_by_bytes}
 use Rattle.page_index.specs.Judged.{bop_fault, define_fault, post_fault, post_fault_against, postpost_fault}
-use Rattle.page_index.specs.Limits.{MOST_PAGES}
+use Rattle.page_index.specs.Limits.{MAX_PAGES}
 use Rattle.page_index.specs.Document.{Reading, context_after, end_of, is_ended, is_postpost, last_bop, post_at, preamble_of, preamble_or, text_of, whole_fault}
 use Rattle.page_index.specs.Faults.{FaultAfterCommand, FaultAtCommand, FaultAfter, FaultWithin, IsFirstFault, as_doc_fault, is_postpost_at}
 use Rattle.page_index.specs.Fonts.{Fonts}
@@ -51,7 +51,7 @@ post_is : (bytes : List ℕ) (c : DviCommand) → Spells c bytes → slice_index
 post_is [] c h op = cc
 post_is (b ∷ bytes) c h op =
     let first : b ≡ 249 = op in
-    ap is_postpost (told_by_bytes c (b ∷ bytes) h ∙ ap (λ (n : ℕ). command_of (n ∷ bytes)) first)
+    ap is_postpost (determined_by_bytes c (b ∷ bytes) h ∙ ap (λ (n : ℕ). command_of (n ∷ bytes)) first)
 
 module _ (bytes : List ℕ) (s : Scaled) (p : Progress) (pages : List PageSpan) (fonts : Fonts) (w : IsReadTo bytes s p pages fonts) (open_end : p.is_ended ≡ false) where
   abbrev f : Follows bytes p pages fonts w.reading
@@ -217,12 +217,12 @@ module _ (bytes : List ℕ) (s : Scaled) (p : Progress) (pages : List PageSpan) 
         right (Post x) e h = same_fault (Post x) q.bytes refl ∙ h
         right _ e h = refl
 
-        few_begun : (n : ℕ) (last : ℤ) (at : ℕ) (back : ℤ) → bop_fault n last at back ≡ None → n < MOST_PAGES
-        few_begun n last at back h = by (nat_le MOST_PAGES n) refl (not (int_eq back last)) h
+        few_begun : (n : ℕ) (last : ℤ) (at : ℕ) (back : ℤ) → bop_fault n last at back ≡ None → n < MAX_PAGES
+        few_begun n last at back h = by (nat_le MAX_PAGES n) refl (not (int_eq back last)) h
           where
-            by : (many : Bool) → nat_le MOST_PAGES n ≡ many → (wrong : Bool) → (if many then Some (fault.TooManyPages at) else if wrong then Some (fault.BackPointer at) else None) ≡ None → n < MOST_PAGES
+            by : (many : Bool) → nat_le MAX_PAGES n ≡ many → (wrong : Bool) → (if many then Some (fault.TooManyPages at) else if wrong then Some (fault.BackPointer at) else None) ≡ None → n < MAX_PAGES
             by true e wrong h = cc
-            by false e wrong h = leb-false MOST_PAGES n e
+            by false e wrong h = leb-false MAX_PAGES n e
 
         is_good : (d : DviCommand) → fault_by p s fonts d ≡ None → IsGood bytes p pages fonts w.reading q next f refl refl some within spelled stands going begun d
         is_good (Define d) h = h

@@ -12,7 +12,7 @@ use Rattle.dvi_commands.specs.declared.command.Context.{Context}
 use Rattle.dvi_commands.proofs.Refusals.{spelled_some}
 use Rattle.dvi_commands.proofs.Unrefused.{unrefused_is_spelled}
 use Rattle.page_index.specs.Judged.{preamble_fault, postpost_fault, tail_fault}
-use Rattle.page_index.specs.Limits.{LONGEST}
+use Rattle.page_index.specs.Limits.{MAX_DOCUMENT_LENGTH}
 use Rattle.page_index.specs.Document.{IsDocument, IsSound, Reading, Sound, context_after, end_of, is_ended, is_postpost, post_at, text_of, whole_fault}
 use Rattle.page_index.specs.Faults.{FaultAfterCommand, FaultAtCommand, FaultAfter, FaultWithin, IsFirstFault, as_doc_fault, is_postpost_at}
 use Rattle.page_index.specs.Laws.{BytesAreADocumentOrHaveAFault}
@@ -147,7 +147,7 @@ rest_are (b ∷ prefix) rest h = rest_are prefix rest h.1
 abbrev Stands : ℕ → List ℕ → Type 0
 Stands res bytes = ((reading : Reading) × IsDocument res bytes reading) ⊎ ((f : DocFault) × IsFirstFault res bytes f)
 
-ends : (res : ℕ) (bytes : List ℕ) (fits : length bytes ≤ LONGEST) (fuel : ℕ) (r : Reading) (rest : List ℕ) → AreBytes rest → Sound res r → bytes ≡ text_of r ++ rest → length rest < fuel → Stands res bytes
+ends : (res : ℕ) (bytes : List ℕ) (fits : length bytes ≤ MAX_DOCUMENT_LENGTH) (fuel : ℕ) (r : Reading) (rest : List ℕ) → AreBytes rest → Sound res r → bytes ≡ text_of r ++ rest → length rest < fuel → Stands res bytes
 ends res bytes fits zero r rest few sound text short = absurd (omega (arith, short))
 ends res bytes fits (suc fuel) r rest few sound text short = elim (next_then res r rest few) [
   | inl end ↦
@@ -163,7 +163,7 @@ ends res bytes fits (suc fuel) r rest few sound text short = elim (next_then res
 ]
 
 pub bytes_are_a_document_or_have_a_fault : BytesAreADocumentOrHaveAFault
-bytes_are_a_document_or_have_a_fault res bytes few = elim (cases_lt LONGEST (length bytes)) [
-  | inl long ↦ inr (fault.TooLong LONGEST, inl (long, refl))
+bytes_are_a_document_or_have_a_fault res bytes few = elim (cases_lt MAX_DOCUMENT_LENGTH (length bytes)) [
+  | inl long ↦ inr (fault.TooLong MAX_DOCUMENT_LENGTH, inl (long, refl))
   | inr fits ↦ ends res bytes fits (suc (length bytes)) [] bytes few tt refl (omega arith)
 ]

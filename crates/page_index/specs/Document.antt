@@ -12,7 +12,7 @@ use Rattle.dvi_commands.specs.Refusal.{may_stand}
 use Rattle.dvi_commands.specs.Reading.{Placed}
 use Rattle.dvi_commands.specs.declared.command.Context.{Context}
 use Rattle.dvi_commands.specs.declared.command.Context.TheVariants as context
-use Rattle.page_index.specs.Limits.{LONGEST}
+use Rattle.page_index.specs.Limits.{MAX_DOCUMENT_LENGTH}
 use Rattle.page_index.specs.Judged.{bop_fault, define_fault, post_fault, postpost_fault, preamble_fault}
 use Rattle.page_index.specs.declared.faults.DocFault.{DocFault}
 
@@ -148,7 +148,7 @@ Sound res (p ∷ before) = Sound res before × IsSound res before p
 
 -- the bytes are a document, of which this is the reading, at a resolution
 pub record IsDocument (res : ℕ) (bytes : List ℕ) (reading : Reading) : Type 0 where
-  pub fits : length bytes ≤ LONGEST
+  pub fits : length bytes ≤ MAX_DOCUMENT_LENGTH
   pub sound : Sound res reading
   pub ended : IsTrue (is_ended reading)
   pub filler : ℕ

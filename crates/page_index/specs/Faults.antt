@@ -8,7 +8,7 @@ use Rattle.dvi_commands.specs.declared.command.Context.{Context}
 use Rattle.dvi_commands.specs.declared.command.CommandFault.{CommandFault}
 use Rattle.dvi_commands.specs.declared.command.CommandFault.TheVariants as command_fault
 use Rattle.page_index.specs.Judged.{preamble_fault, postpost_fault, tail_fault}
-use Rattle.page_index.specs.Limits.{LONGEST}
+use Rattle.page_index.specs.Limits.{MAX_DOCUMENT_LENGTH}
 use Rattle.page_index.specs.Document.{Reading, Sound, context_after, end_of, post_at, text_of, whole_fault}
 use Rattle.page_index.specs.declared.faults.DocFault.{DocFault}
 use Rattle.page_index.specs.declared.faults.DocFault.TheVariants as fault
@@ -56,9 +56,9 @@ FaultAfter res (p ∷ before) rest f = FaultAfterCommand res (p ∷ before) p.co
 -- the first fault of a file at a resolution
 abbrev pub IsFirstFault : ℕ → List ℕ → DocFault → Type 0
 IsFirstFault res bytes f =
-    ((LONGEST < length bytes) × (f ≡ fault.TooLong LONGEST))
-    ⊎ ((length bytes ≤ LONGEST) × (reading : Reading) × (rest : List ℕ) × Sound res reading
-    × (bytes ≡ text_of reading ++ rest) × FaultAfter res reading rest f)
+    ((MAX_DOCUMENT_LENGTH < length bytes) × (f ≡ fault.TooLong MAX_DOCUMENT_LENGTH))
+    ⊎ ((length bytes ≤ MAX_DOCUMENT_LENGTH) × (reading : Reading) × (rest : List ℕ)
+    × Sound res reading × (bytes ≡ text_of reading ++ rest) × FaultAfter res reading rest f)
 
 -- why a file was not read: a fault is its first one; want of memory may come at any file
 abbrev pub IsStopFor : IndexStop → ℕ → List ℕ → Type 0

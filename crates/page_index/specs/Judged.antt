@@ -10,7 +10,7 @@ use Rattle.big_endian.specs.Fields.{judge, whole_until, signed_at, Field}
 use Rattle.outside.specs.declared.keys.FontKey.{FontKey}
 use Rattle.dvi_commands.specs.Spelling.{Definition, Preamble, Postamble}
 use Rattle.outside.specs.Limits.{SIZES}
-use Rattle.page_index.specs.Limits.{MOST_PAGES}
+use Rattle.page_index.specs.Limits.{MAX_PAGES}
 use Rattle.page_index.specs.declared.faults.DocFault.{DocFault}
 use Rattle.page_index.specs.declared.faults.DocFault.TheVariants as fault
 use Rattle.page_index.specs.declared.faults.PostField.TheVariants as field
@@ -64,7 +64,7 @@ preamble_fault res bytes =
 -- pointer
 abbrev pub bop_fault : ℕ → ℤ → ℕ → ℤ → Option DocFault
 bop_fault pages last at back =
-    if nat_le MOST_PAGES pages then Some (fault.TooManyPages at)
+    if nat_le MAX_PAGES pages then Some (fault.TooManyPages at)
     else if not (int_eq back last) then Some (fault.BackPointer at)
     else None
 

@@ -2,9 +2,9 @@
 use Rattle.std.specs.Prelude.{ℕ}
 
 -- the most bytes that a document may have
-abbrev pub LONGEST : ℕ
-LONGEST = 67108864
+abbrev pub MAX_DOCUMENT_LENGTH : ℕ
+MAX_DOCUMENT_LENGTH = 67108864
 
 -- the most pages that it may have
-abbrev pub MOST_PAGES : ℕ
-MOST_PAGES = 1000000
+abbrev pub MAX_PAGES : ℕ
+MAX_PAGES = 1000000

@@ -9,12 +9,12 @@ use Rattle.pixel_round.specs.declared.units.Units.{Units}
 use Rattle.dvi_commands.specs.Spelling.{DviCommand, Preamble, Bop, Eop, Define, Post, PostPost, Spells}
 use Rattle.dvi_commands.specs.Refusal.{may_stand}
 use Rattle.dvi_commands.specs.Reading.{Begins, Placed}
-use Rattle.dvi_commands.specs.Plain.{is_plain}
+use Rattle.dvi_commands.specs.Skippable.{is_skippable}
 use Rattle.dvi_commands.specs.declared.command.Context.{Context}
 use Rattle.dvi_commands.specs.declared.command.Context.TheVariants as context
 use Rattle.page_index.specs.Judged.{bop_fault, define_fault, post_fault_against, postpost_fault, preamble_fault}
 use Rattle.page_index.specs.Faults.{is_postpost_at}
-use Rattle.page_index.specs.Limits.{LONGEST, MOST_PAGES}
+use Rattle.page_index.specs.Limits.{MAX_DOCUMENT_LENGTH, MAX_PAGES}
 use Rattle.page_index.specs.Document.{Reading, Sound, context_after, end_of, font_table, is_ended, key_of, last_bop, pages_begun, post_at, preamble_of, text_of}
 use Rattle.pixel_round.specs.Preamble.{AreUnits}
 use Rattle.page_index.specs.Pages.{document_units, eop_at, is_page, page_commands}
@@ -138,7 +138,7 @@ pub record Follows (bytes : List ℕ) (p : Progress) (pages : List PageSpan) (fo
   pub at : p.at ≡ end_of reading
   pub stands : p.context ≡ context_after reading
   pub begun : p.begun ≡ pages_begun reading
-  pub few : p.begun ≤ MOST_PAGES
+  pub few : p.begun ≤ MAX_PAGES
   pub bop : position_or_none p.bop ≡ last_bop reading
   pub post : p.post ≡ post_at reading
   pub ended : p.is_ended ≡ is_ended reading
@@ -152,7 +152,7 @@ pub record Follows (bytes : List ℕ) (p : Progress) (pages : List PageSpan) (fo
 pub record IsReadTo (bytes : List ℕ) (s : Scaled) (p : Progress) (pages : List PageSpan)
     (fonts : Fonts) : Type 0 where
   pub reading : Reading
-  pub fits : length bytes ≤ LONGEST
+  pub fits : length bytes ≤ MAX_DOCUMENT_LENGTH
   pub sound : Sound s.units.res reading
   pub text : text_of reading ++ drop p.at bytes ≡ bytes
   pub within : p.at ≤ length bytes
@@ -168,14 +168,14 @@ pub record ArePassed (bytes : List ℕ) (at next : ℕ) : Type 0 where
       → IsReadTo bytes s p pages fonts → IsReadTo bytes s (record p { at = next }) pages fonts
 
 -- on a page the bytes begin with no command of which only the place is kept
-abbrev pub BeginsNoPlain : List ℕ → Type 0
-BeginsNoPlain bytes =
+abbrev pub BeginsNoSkippable : List ℕ → Type 0
+BeginsNoSkippable bytes =
     (c : DviCommand) (prefix rest : List ℕ) → Begins context.Page c prefix rest bytes
-    → IsFalse (is_plain c)
+    → IsFalse (is_skippable c)
 
 -- the preamble was judged, and its numbers are kept
 pub record IsBegun (bytes : List ℕ) (s : Scaled) : Type 0 where
-  pub fits : length bytes ≤ LONGEST
+  pub fits : length bytes ≤ MAX_DOCUMENT_LENGTH
   pub right : preamble_fault s.units.res bytes ≡ None
   pub scaled : IsScaled s (signed_at bytes 2 4) (signed_at bytes 6 4) (signed_at bytes 10 4)
 
@@ -188,9 +188,9 @@ EarlyFault place post at rest f =
 
 pub record IsIndex (bytes : List ℕ) (units : Units) (conv : Fraction) (reading : Reading)
     (pages : List PageSpan) (fonts : Fonts) : Type 0 where
-  pub fits : length bytes ≤ LONGEST
+  pub fits : length bytes ≤ MAX_DOCUMENT_LENGTH
   pub count : length pages ≡ pages_begun reading
-  pub few : length pages ≤ MOST_PAGES
+  pub few : length pages ≤ MAX_PAGES
   pub spans : AreSpans bytes reading pages
   pub keys : (k : ℤ) → get fonts k ≡ font_table reading k
   pub fonts_fit : (k : ℤ) → IfSome (font_table reading k) IsFontKey

@@ -2,7 +2,7 @@
 use dvi_commands::CommandFault;
 use std::alloc::AllocError;
 
-/// A field of the postamble that doesn't agree with what stands before it.
+/// A field of the postamble that doesn't agree with what comes before it.
 #[derive(Clone, Copy, Debug, PartialEq, Eq)]
 pub enum PostField {
     /// The pointer to the last page's beginning.
@@ -15,8 +15,8 @@ pub enum PostField {
 }
 
 /// What is wrong with a document, and at which byte, counted from 0: the first fault from the left.
-/// Knuth, DVItype, "Device-independent file format"; that a fault ends the reading, and the order
-/// of faults that meet, is this project's own choice.
+/// Knuth, DVItype, "Device-independent file format"; that a fault ends the reading, and which of
+/// several faults at one place comes first, is this project's own choice.
 #[derive(Clone, Copy, Debug, PartialEq, Eq)]
 pub enum DocFault {
     /// The file ends where a further byte is needed; `at` is its length.
@@ -28,7 +28,7 @@ pub enum DocFault {
     Command { fault: CommandFault, at: usize },
     /// The pointer of the Bop at this place doesn't lead to the Bop before it.
     BackPointer { at: usize },
-    /// The definition at this place says something else of the font number than one before it.
+    /// The definition at this place defines its font number otherwise than one before it.
     FontClash { number: i32, at: usize },
     /// A field of the postamble at this place is wrong.
     Postamble { field: PostField, at: usize },
@@ -38,9 +38,10 @@ pub enum DocFault {
     FontDef { number: i32, at: usize },
     /// A DVI unit would be more than 512 dots; `at` is the place of num.
     Scale { at: usize },
-    /// The Bop at this place begins a page after the last of [`MOST_PAGES`](crate::MOST_PAGES).
+    /// The Bop at this place begins a page after the last of [`MAX_PAGES`](crate::MAX_PAGES).
     TooManyPages { at: usize },
-    /// The file has more than [`LONGEST`](crate::LONGEST) bytes; `at` is that number.
+    /// The file has more than [`MAX_DOCUMENT_LENGTH`](crate::MAX_DOCUMENT_LENGTH) bytes; `at` is
+    /// that number.
     TooLong { at: usize },
 }
 

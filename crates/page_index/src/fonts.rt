@@ -5,7 +5,7 @@ ghost use Rattle.std.specs.Arc.{arc_value};
 ghost use Rattle.std.specs.FinMap as map;
 ghost use Rattle.page_index.specs.Judged.{define_fault, is_size as is_size_of, is_same_font};
 ghost use Rattle.page_index.specs.Document.{key_of};
-ghost use Rattle.dvi_commands.specs.Spelling.{seen_definition};
+ghost use Rattle.dvi_commands.specs.Spelling.{value_of_definition};
 
 use crate::faults::DocFault;
 use crate::limits::SIZES;
@@ -71,7 +71,7 @@ fn is_size(size: i32) -> bool
 
 // Whether a definition says this key. The checksum isn't compared.
 fn is_same(key: &FontKey, def: &FontDef) -> bool
-    ensures { result ≡ is_same_font key.now (seen_definition def.now) }
+    ensures { result ≡ is_same_font key.now (value_of_definition def.now) }
 {
     i64::from(key.size) == i64::from(def.size)
         && i64::from(key.design) == i64::from(def.design)
@@ -82,7 +82,7 @@ fn is_same(key: &FontKey, def: &FontDef) -> bool
 /// What is wrong with the definition at a place, where the number was defined to be `known` before.
 pub fn fault_of(known: Option<&Arc<FontKey>>, at: usize, def: &FontDef) -> Option<DocFault>
     ensures { result ≡ define_fault (option_map (λ key. arc_value key.now) known.entry) at
-        (seen_definition def.now) }
+        (value_of_definition def.now) }
 {
     if !(is_size(def.size) && is_size(def.design)) {
         return Some(DocFault::FontDef {
@@ -101,7 +101,7 @@ pub fn fault_of(known: Option<&Arc<FontKey>>, at: usize, def: &FontDef) -> Optio
 
 /// The key of a definition whose sizes are right.
 pub fn key(alloc: Global, def: &FontDef) -> Result<Arc<FontKey>, NoMemory>
-    ensures { IfOk result (λ key. arc_value key ≡ key_of (seen_definition def.now)) }
+    ensures { IfOk result (λ key. arc_value key ≡ key_of (value_of_definition def.now)) }
 {
     let key = FontKey {
         area: def.area,

@@ -7,7 +7,7 @@ ghost use Rattle.dvi_commands.specs.declared.command.Context.TheVariants as cont
 ghost use Rattle.page_index.specs.Document.{font_table, pages_begun};
 ghost use Rattle.outside.specs.FontKeys.{IsFontKey};
 ghost use Rattle.pixel_round.specs.Preamble.{AreUnits};
-ghost use Rattle.page_index.specs.Limits.{LONGEST, MOST_PAGES};
+ghost use Rattle.page_index.specs.Limits.{MAX_DOCUMENT_LENGTH, MAX_PAGES};
 ghost use Rattle.page_index.specs.Pages.{IsConversionOf, document_units, eop_at, page_commands};
 
 use crate::fonts::FontTable;
@@ -41,7 +41,7 @@ pub struct Index<'a> {
 }
 
 impl<'a> Model for Index<'a> {
-    ghost use Rattle.page_index.specs.Limits.{LONGEST, MOST_PAGES};
+    ghost use Rattle.page_index.specs.Limits.{MAX_DOCUMENT_LENGTH, MAX_PAGES};
     ghost use Rattle.page_index.specs.Pages.{Indexed, reading_to};
 
     ghost Value = { Indexed };
@@ -68,10 +68,10 @@ fn part<'a>(bytes: &'a [u8], span: PageSpan) -> PageBytes<'a>
 }
 
 impl<'a> Index<'a> {
-    /// How many pages the document has: at most [`MOST_PAGES`](crate::MOST_PAGES).
+    /// How many pages the document has: at most [`MAX_PAGES`](crate::MAX_PAGES).
     pub fn pages(&self) -> usize
         ensures count { result ≡ pages_begun self.now.reading }
-        ensures few { result ≤ MOST_PAGES }
+        ensures few { result ≤ MAX_PAGES }
     {
         self.pages.len()
     }
@@ -83,7 +83,7 @@ impl<'a> Index<'a> {
             ≡ page_commands i self.now.reading }
         ensures readable { Reads context.Page result.bytes.now }
         ensures ends { eop_at i self.now.reading ≡ Some (result.at + length result.bytes.now) }
-        ensures within { result.at + length result.bytes.now ≤ LONGEST }
+        ensures within { result.at + length result.bytes.now ≤ MAX_DOCUMENT_LENGTH }
     {
         part(self.bytes, self.pages[i])
     }

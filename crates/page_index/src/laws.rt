@@ -10,8 +10,8 @@ pub fn documents()
     ensures one_fault { FirstFaultsAreOne }
 {}
 
-/// Each page that a document begins has its end, the pages follow one another, and no command
-/// stands on two pages.
+/// Each page that a document begins has its end, the pages follow one another, and no command is on
+/// two pages.
 pub fn pages()
     ensures ended { EachPageEnds }
     ensures in_order { PagesFollowOneAnother }

@@ -17,4 +17,4 @@ mod walk;
 
 pub use faults::{DocFault, IndexStop, PostField};
 pub use index::{Index, PageBytes};
-pub use limits::{LONGEST, MOST_PAGES, SIZES};
+pub use limits::{MAX_DOCUMENT_LENGTH, MAX_PAGES, SIZES};

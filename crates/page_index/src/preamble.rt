@@ -3,7 +3,7 @@ ghost use Rattle.std.specs.Prelude.{◌≡◌, ◌+◌, ◌≤◌, ◌<◌, ◌^
 ghost use Rattle.big_endian.specs.Fields.{signed_at};
 ghost use Rattle.page_index.specs.Judged.{preamble_fault};
 ghost use Rattle.page_index.specs.Walked.{IsScaled, positive_fault};
-ghost use Rattle.pixel_round.specs.Limits.{HIGHEST_RESOLUTION};
+ghost use Rattle.pixel_round.specs.Limits.{MAX_RESOLUTION};
 
 use crate::faults::DocFault;
 use big_endian::signed;
@@ -41,7 +41,7 @@ fn positive(bytes: &[u8], at: usize) -> Result<u32, DocFault>
 /// their conversion at a resolution.
 pub fn judge_preamble(bytes: &[u8], res: u32) -> Result<Scaled, DocFault>
     requires some { 1 ≤ res }
-    requires fine { res ≤ HIGHEST_RESOLUTION }
+    requires fine { res ≤ MAX_RESOLUTION }
     ensures right { IfOk result (λ _. preamble_fault res bytes.now ≡ None) }
     ensures scaled { IfOk result (λ scaled. IsScaled scaled (signed_at bytes.now 2 4)
         (signed_at bytes.now 6 4) (signed_at bytes.now 10 4)) }

@@ -1,17 +1,17 @@
 //! What was read of a document so far.
 ghost use Rattle.std.specs.Prelude.{◌≡◌, ◌<◌, ◌≤◌, ◌^◌};
 ghost use Rattle.big_endian.specs.Numbers.{int_eq};
-ghost use Rattle.dvi_commands.specs.Spelling.{seen};
+ghost use Rattle.dvi_commands.specs.Spelling.{value_of_command};
 ghost use Rattle.page_index.specs.Judged.{bop_fault};
 ghost use Rattle.page_index.specs.Walked.{after_preamble as begun, fault_by, position_or_none, progress_after};
 
 use crate::faults::{DocFault, PostField};
 use crate::fonts::{FontTable, fault_of};
-use crate::limits::MOST_PAGES;
+use crate::limits::MAX_PAGES;
 use crate::preamble::Scaled;
 use dvi_commands::{Command, Context};
 
-/// Where the commands of a page stand: from the first one to the page's Eop.
+/// Where the commands of a page are: from the first one to the page's Eop.
 #[derive(Clone, Copy)]
 pub struct PageSpan {
     pub start: usize,
@@ -21,17 +21,17 @@ pub struct PageSpan {
 /// What was read of a document so far, as far as the commands after it are judged by it.
 #[derive(Clone, Copy)]
 pub struct Progress {
-    /// Where the next command stands.
+    /// The place of the next command.
     pub at: usize,
-    /// What may stand there.
+    /// Which commands may come there.
     pub context: Context,
     /// How many pages were begun.
     pub begun: usize,
     /// Where the last of them begins.
     pub bop: Option<usize>,
-    /// Where its first command stands.
+    /// The place of its first command.
     pub start: usize,
-    /// Where the postamble stands.
+    /// The place of the postamble.
     pub post: Option<usize>,
     /// Whether the last command is PostPost.
     pub is_ended: bool,
@@ -68,7 +68,7 @@ impl Progress {
         ensures { result ≡ bop_fault self.now.begun (position_or_none self.now.bop)
             self.now.at back }
     {
-        if self.begun >= MOST_PAGES {
+        if self.begun >= MAX_PAGES {
             return Some(DocFault::TooManyPages { at: self.at });
         }
         if !leads_back(self.bop, back) {
@@ -77,10 +77,10 @@ impl Progress {
         None
     }
 
-    /// What is wrong with a command that stands there, where its fields aren't judged one by one.
+    /// What is wrong with a command at that place, where its fields aren't judged one by one.
     #[inline(always)]
     pub fn fault_of(&self, first: &Scaled, fonts: &FontTable, command: &Command) -> Option<DocFault>
-        ensures { result ≡ fault_by self.now first.now fonts.now (seen command.now) }
+        ensures { result ≡ fault_by self.now first.now fonts.now (value_of_command command.now) }
     {
         match command {
             Command::Define(def) => fault_of(fonts.get(def.number), self.at, def),
@@ -116,7 +116,7 @@ impl Progress {
     #[inline(always)]
     pub fn after(self, command: &Command, next: usize) -> Progress
         requires { self.begun < 2 ^ 32 }
-        ensures { result ≡ progress_after self (seen command.now) next }
+        ensures { result ≡ progress_after self (value_of_command command.now) next }
     {
         match command {
             Command::Bop { .. } => Progress {

@@ -3,11 +3,11 @@ ghost use Rattle.std.specs.Prelude.{◌≡◌, ◌≤◌, IfErr, IfOk, true};
 ghost use Rattle.page_index.specs.Document.{IsDocument};
 ghost use Rattle.page_index.specs.Faults.{IsStopFor};
 ghost use Rattle.page_index.specs.Walked.{IsBegun, IsReadTo};
-ghost use Rattle.pixel_round.specs.Limits.{HIGHEST_RESOLUTION};
+ghost use Rattle.pixel_round.specs.Limits.{MAX_RESOLUTION};
 
 use crate::faults::{DocFault, IndexStop};
 use crate::index::Index;
-use crate::limits::LONGEST;
+use crate::limits::MAX_DOCUMENT_LENGTH;
 use crate::preamble::Scaled;
 use crate::walk::Walk;
 use crate::{preamble, trailer};
@@ -23,24 +23,26 @@ fn walked(alloc: Global, bytes: &[u8], first: &Scaled) -> Result<Walk, IndexStop
 {
     let mut walk = Walk::begin(alloc, bytes, first);
     while !walk.progress.is_ended {
-        walk.pass_plain(bytes);
+        walk.pass_skippable(bytes);
         walk.step(alloc, bytes, first)?;
     }
     Ok(walk)
 }
 
 impl<'a> Index<'a> {
-    /// Reads a document of at most [`LONGEST`] bytes, for a resolution of 1 to 4800 dots to the
-    /// inch.
+    /// Reads a document of at most [`MAX_DOCUMENT_LENGTH`] bytes, for a resolution of 1 to 4800
+    /// dots to the inch.
     pub fn read(alloc: Global, bytes: &'a [u8], res: u32) -> Result<Index<'a>, IndexStop>
         requires some { 1 ≤ res }
-        requires fine { res ≤ HIGHEST_RESOLUTION }
+        requires fine { res ≤ MAX_RESOLUTION }
         ensures document { IfOk result (λ index. IsDocument res bytes.now index.reading) }
         ensures resolution { IfOk result (λ index. index.res ≡ res) }
         ensures stop { IfErr result (λ stop. IsStopFor stop res bytes.now) }
     {
-        if bytes.len() > LONGEST {
-            return Err(IndexStop::Fault(DocFault::TooLong { at: LONGEST }));
+        if bytes.len() > MAX_DOCUMENT_LENGTH {
+            return Err(IndexStop::Fault(DocFault::TooLong {
+                at: MAX_DOCUMENT_LENGTH,
+            }));
         }
         let first = preamble::judge_preamble(bytes, res)?;
         let walk = walked(alloc, bytes, &first)?;

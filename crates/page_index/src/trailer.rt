@@ -57,7 +57,7 @@ fn filler_length(bytes: &[u8]) -> usize
     bytes.iter().take_while(|byte| **byte == FILLER).count()
 }
 
-/// Judges what stands after PostPost: at least four bytes 223, and nothing else.
+/// Judges what follows PostPost: at least four bytes 223, and nothing else.
 pub fn judge_filler(bytes: &[u8], at: usize) -> Result<(), DocFault>
     requires { at ≤ length bytes.now }
     ensures right { OnOk result (tail_fault at (drop at bytes.now) ≡ None) }

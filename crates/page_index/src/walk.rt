@@ -1,18 +1,18 @@
 //! The walk over a document's commands.
 ghost use Rattle.std.specs.Prelude.{◌≡◌, ◌<◌, ◌≤◌, IfErr, OnOk, None, drop, false, length, true};
-ghost use Rattle.dvi_commands.specs.Spelling.{Define, seen, seen_definition};
+ghost use Rattle.dvi_commands.specs.Spelling.{Define, value_of_command, value_of_definition};
 ghost use Rattle.dvi_commands.specs.declared.command.Context.TheVariants as context;
 ghost use Rattle.page_index.specs.declared.preamble.Scaled.{Scaled};
 ghost use Rattle.page_index.specs.Judged.{postpost_fault};
 ghost use Rattle.page_index.specs.Faults.{IsStopFor, as_doc_fault, is_postpost_at};
-ghost use Rattle.page_index.specs.Walked.{ArePassed, BeginsNoPlain, EarlyFault, IsBegun, IsReadTo, fonts_after, pages_after, progress_after};
+ghost use Rattle.page_index.specs.Walked.{ArePassed, BeginsNoSkippable, EarlyFault, IsBegun, IsReadTo, fonts_after, pages_after, progress_after};
 
 use crate::faults::{DocFault, IndexStop};
 use crate::fonts::{FontTable, key};
 use crate::preamble::Scaled;
 use crate::progress::{PageSpan, Progress};
 use crate::trailer;
-use dvi_commands::{Command, CommandFault, Context, FontDef, plain_end, read_command};
+use dvi_commands::{Command, CommandFault, Context, FontDef, end_of_skippable, read_command};
 use std::alloc::{AllocError as NoMemory, Global};
 
 const POSTPOST: u8 = 249;
@@ -60,14 +60,15 @@ fn judge_early(
     }
 }
 
-// The place after the plain commands that stand there one after another: most of a page's.
-fn after_plain(bytes: &[u8], at: usize) -> usize
+// The place after the commands there that can be skipped unread, one after another: most of a
+// page's.
+fn after_skippable(bytes: &[u8], at: usize) -> usize
     requires { at ≤ length bytes.now }
     ensures passed { ArePassed bytes.now at result }
-    ensures all { BeginsNoPlain (drop result bytes.now) }
+    ensures all { BeginsNoSkippable (drop result bytes.now) }
 {
     let mut end = at;
-    while let Some(next) = plain_end(bytes, end) {
+    while let Some(next) = end_of_skippable(bytes, end) {
         end = next;
     }
     end
@@ -94,7 +95,7 @@ impl Walk {
     #[inline(never)]
     fn define(&mut self, alloc: Global, def: &FontDef) -> Result<(), NoMemory>
         ensures fonts { OnOk result (self.new.fonts ≡ fonts_after self.old.fonts
-            (Define (seen_definition def.now))) }
+            (Define (value_of_definition def.now))) }
         ensures progress { self.new.progress ≡ self.old.progress }
         ensures pages { self.new.pages ≡ self.old.pages }
     {
@@ -110,9 +111,9 @@ impl Walk {
         ensures progress { self.new.progress ≡ self.old.progress }
         ensures pages { OnOk result
             (self.new.pages.items ≡ pages_after self.old.progress self.old.pages.items
-            (seen command.now)) }
+            (value_of_command command.now)) }
         ensures fonts { OnOk result
-            (self.new.fonts ≡ fonts_after self.old.fonts (seen command.now)) }
+            (self.new.fonts ≡ fonts_after self.old.fonts (value_of_command command.now)) }
     {
         match command {
             Command::Define(def) => self.define(alloc, def),
@@ -127,8 +128,8 @@ impl Walk {
         }
     }
 
-    /// Goes on after the plain commands of a page, which change nothing but the place.
-    pub fn pass_plain(&mut self, bytes: &[u8])
+    /// Skips the commands of a page that change nothing but the place.
+    pub fn pass_skippable(&mut self, bytes: &[u8])
         requires inside { self.old.progress.at ≤ length bytes.now }
         requires going { self.old.progress.is_ended ≡ false }
         ensures read { (first : Scaled)
@@ -137,10 +138,10 @@ impl Walk {
         ensures going { self.new.progress.is_ended ≡ false }
         ensures back { self.old.progress.at ≤ self.new.progress.at }
         ensures all { self.new.progress.context ≡ context.Page
-            → BeginsNoPlain (drop self.new.progress.at bytes.now) }
+            → BeginsNoSkippable (drop self.new.progress.at bytes.now) }
     {
         if let Context::Page = self.progress.context {
-            self.progress.at = after_plain(bytes, self.progress.at);
+            self.progress.at = after_skippable(bytes, self.progress.at);
         }
     }
 

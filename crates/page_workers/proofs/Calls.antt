@@ -37,7 +37,7 @@ module _ (s t : SeatView) (calls : List Call) (grew : Grew s t calls) where
     record {
       keys = keys;
       grew = asked_grew keys looked;
-      went = record { seat = grew.number; capacity = grew.capacity; calls = calls; grew = own_grew; own = mine; for_keys = for_keys; last = last; answered = answered; loaded = loaded };
+      answers = record { seat = grew.number; capacity = grew.capacity; calls = calls; grew = own_grew; own = mine; for_keys = for_keys; last = last; answered = answered; loaded = loaded };
     },
   )
 
@@ -52,34 +52,34 @@ nothing_loaded l c = record {
 -- ---- one key
 
 module _ (W : Type 0) (k : FontKey) (s t : SeatView) (l m c d : ℕ) where
-  abbrev Tells : Type 0
-  Tells = TrailGrew W (asked_at (Some s)) (asked_at (Some t)) (trail_at l c (Some s)) (trail_at m d (Some t))
+  abbrev Knows : Type 0
+  Knows = TrailGrew W (asked_at (Some s)) (asked_at (Some t)) (trail_at l c (Some s)) (trail_at m d (Some t))
 
   -- the look was refused
-  pub refused_grew : Grew s t [] → m ≡ l → d ≡ c → Tells
+  pub refused_grew : Grew s t [] → m ≡ l → d ≡ c → Knows
   refused_grew grew same counted =
       trail_grew s t [] grew W [] l m c d refl tt refl tt (λ w. tt)
       (subst (λ (x : ℕ). Loaded 0 l x c d) (sym same) (subst (λ (x : ℕ). Loaded 0 l l c x) (sym counted) (nothing_loaded l c)))
 
-  pub hit_grew : Grew s t (call s.view.number k Hit ∷ []) → m ≡ l → d ≡ c → Tells
+  pub hit_grew : Grew s t (call s.view.number k Hit ∷ []) → m ≡ l → d ≡ c → Knows
   hit_grew grew same counted =
       trail_grew s t (call s.view.number k Hit ∷ []) grew W (k ∷ []) l m c d refl (refl, tt)
       (call s.view.number k Hit ∷ [], [], refl, inl (call s.view.number k Hit, refl, refl, inl refl), refl) (inl refl) (λ w. ((λ e. cc), tt))
       (subst (λ (x : ℕ). Loaded 0 l x c d) (sym same) (subst (λ (x : ℕ). Loaded 0 l l c x) (sym counted) (nothing_loaded l c)))
 
-  pub busy_grew : Grew s t (call s.view.number k Busy ∷ []) → Loaded 5 l m c d → Tells
+  pub busy_grew : Grew s t (call s.view.number k Busy ∷ []) → Loaded 5 l m c d → Knows
   busy_grew grew loaded =
       trail_grew s t (call s.view.number k Busy ∷ []) grew W (k ∷ []) l m c d refl (refl, tt)
       (call s.view.number k Busy ∷ [], [], refl, inl (call s.view.number k Busy, refl, refl, inr refl), refl) (inl refl) (λ w. ((λ e. cc), tt)) loaded
 
-  pub filled_grew : (gone : Option FontKey) → Grew s t (call s.view.number k Claimed ∷ call s.view.number k (Filled gone) ∷ []) → Loaded 5 l m c d → Tells
+  pub filled_grew : (gone : Option FontKey) → Grew s t (call s.view.number k Claimed ∷ call s.view.number k (Filled gone) ∷ []) → Loaded 5 l m c d → Knows
   filled_grew gone grew loaded =
       let first = call s.view.number k Claimed in
       let second = call s.view.number k (Filled gone) in
       trail_grew s t (first ∷ second ∷ []) grew W (k ∷ []) l m c d refl (refl, (refl, tt))
       (first ∷ second ∷ [], [], refl, inr (first, second, refl, refl, refl, refl, inl (gone, refl)), refl) (inr ((λ e. cc), inl refl)) (λ w. ((λ e. cc), ((λ e. cc), tt))) loaded
 
-  pub released_grew : (W → ⊥) → Grew s t (call s.view.number k Claimed ∷ call s.view.number k Released ∷ []) → Loaded 5 l m c d → Tells
+  pub released_grew : (W → ⊥) → Grew s t (call s.view.number k Claimed ∷ call s.view.number k Released ∷ []) → Loaded 5 l m c d → Knows
   released_grew never grew loaded =
       let first = call s.view.number k Claimed in
       let second = call s.view.number k Released in

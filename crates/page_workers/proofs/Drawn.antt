@@ -15,8 +15,8 @@ use Rattle.page_workers.specs.declared.bench.Bench.{Bench}
 use Rattle.page_workers.specs.declared.worker.PageResult.{PageResult}
 use Rattle.page_workers.specs.declared.worker.Worker.{Worker}
 use Rattle.page_workers.specs.Seats.{library_at, units_at, asked_at, trail_at, room_at}
-use Rattle.page_workers.proofs.Rested.{rested_self, rests}
-use Rattle.page_workers.specs.Rounds.{IsOutcome, Rested, DrewPage, Drew, BitmapsToLast, LacksBitmap, HasBitmap, pages_of, trail_of}
+use Rattle.page_workers.proofs.NothingDrawn.{rested_self, rests}
+use Rattle.page_workers.specs.Rounds.{IsOutcome, DrewNothing, DrewPage, Drew, BitmapsToLast, LacksBitmap, HasBitmap, pages_of, trail_of}
 
 module _ {F : Type 0} (library : F → Option FileTable) (faults loads : F → ℕ) (bench : Bench) (indexed : Indexed) (sheet : Sheet) where
   abbrev Page : PageResult → Worker F → Worker F → Type 0
@@ -25,7 +25,7 @@ module _ {F : Type 0} (library : F → Option FileTable) (faults loads : F → �
   abbrev Pages : List PageResult → Worker F → Worker F → Type 0
   Pages rs a b = Drew library faults loads bench indexed sheet rs a b
 
-  page_after_rest : (r : PageResult) (a b c : Worker F) → Rested a b → Page r b c → Page r a c
+  page_after_rest : (r : PageResult) (a b c : Worker F) → DrewNothing a b → Page r b c → Page r a c
   page_after_rest r a b c rest d = record {
     result = d.result ∙ ap (λ (l : List PageResult). l ++ r ∷ []) rest.results;
     pages = d.pages ∙ ap (λ (l : List ℕ). l ++ r.page ∷ []) rest.pages;
@@ -41,11 +41,11 @@ module _ {F : Type 0} (library : F → Option FileTable) (faults loads : F → �
         (subst (λ (x : F). TrailGrew (IsWhole r.outcome) (asked_at b.seat) (asked_at c.seat) (trail_at (loads x) b.loads b.seat) (trail_of loads c)) rest.source d.trail));
   }
 
-  pub drew_after_rest : (rs : List PageResult) (a b c : Worker F) → Rested a b → Pages rs b c → Pages rs a c
+  pub drew_after_rest : (rs : List PageResult) (a b c : Worker F) → DrewNothing a b → Pages rs b c → Pages rs a c
   drew_after_rest [] a b c rest d = rests a b c rest d
   drew_after_rest (r ∷ rs) a b c rest d = (d.0, page_after_rest r a b d.0 rest d.1, d.2)
 
-  pub drew_before_rest : (rs : List PageResult) (a b c : Worker F) → Pages rs a b → Rested b c → Pages rs a c
+  pub drew_before_rest : (rs : List PageResult) (a b c : Worker F) → Pages rs a b → DrewNothing b c → Pages rs a c
   drew_before_rest [] a b c d rest = rests a b c d rest
   drew_before_rest (r ∷ rs) a b c d rest = (d.0, d.1, drew_before_rest rs d.0 b c d.2 rest)
 

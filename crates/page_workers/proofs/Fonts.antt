@@ -8,10 +8,10 @@ use Rattle.pixel_round.specs.declared.units.Units.{Units}
 use Rattle.font_decode.specs.Names.{is_valid_name, dpi, is_resolution, tfm_name, vf_name, pk_names}
 use Rattle.font_decode.specs.Files.{FontFiles, IsFound, IsInOrder, first_there, pk_choices}
 use Rattle.font_decode.specs.Decoding.{IsDecodingOf, IsFontOf, IsFontBySome}
-use Rattle.font_decode.specs.declared.decoded.Decoded.{Decoded}
+use Rattle.font_decode.specs.declared.font_or_fault.Decoded.{Decoded}
 
-pub found_in : (told : Option library.FileTable) (u : Units) (k : FontKey) (files : FontFiles) (d : Decoded) → IfSome told (λ l. IsFound l u k files) → IsInOrder u k files → IsDecodingOf u k files d
-    → IsFontOf told (Some u) k d
+pub found_in : (known : Option library.FileTable) (u : Units) (k : FontKey) (files : FontFiles) (d : Decoded) → IfSome known (λ l. IsFound l u k files) → IsInOrder u k files → IsDecodingOf u k files d
+    → IsFontOf known (Some u) k d
 found_in None u k files d found order decoding = record { files = files; order = order; decoding = decoding }
 found_in (Some l) u k files d found order decoding = record { files = files; found = found; decoding = decoding }
 
@@ -46,17 +46,17 @@ in_order l u k f found = record {
 }
 
 -- a font of a library is one by some files
-by_some : (told : Option library.FileTable) (u : Units) (k : FontKey) (d : Decoded) → IsFontOf told (Some u) k d → IsFontBySome u k d
+by_some : (known : Option library.FileTable) (u : Units) (k : FontKey) (d : Decoded) → IsFontOf known (Some u) k d → IsFontBySome u k d
 by_some None u k d font = font
 by_some (Some l) u k d font = record { files = font.files; order = in_order l u k font.files font.found; decoding = font.decoding }
 
 -- a font by what the source tells is one by what the common part tells, where the source tells as
 -- much
-pub as_told : (common told : Option library.FileTable) (u v : Units) (k : FontKey) (d : Decoded) → IfSome common (λ l. told ≡ Some l) → u ≡ v → IsFontOf told (Some u) k d
+pub as_known : (common known : Option library.FileTable) (u v : Units) (k : FontKey) (d : Decoded) → IfSome common (λ l. known ≡ Some l) → u ≡ v → IsFontOf known (Some u) k d
     → IsFontOf common (Some v) k d
-as_told None told u v k d tells same font = subst (λ (w : Units). IsFontBySome w k d) same (by_some told u k d font)
-as_told (Some l) told u v k d tells same font =
-    subst (λ (w : Units). IsFontOf (Some l) (Some w) k d) same (subst (λ (o : Option library.FileTable). IsFontOf o (Some u) k d) tells font)
+as_known None known u v k d knows_library same font = subst (λ (w : Units). IsFontBySome w k d) same (by_some known u k d font)
+as_known (Some l) known u v k d knows_library same font =
+    subst (λ (w : Units). IsFontOf (Some l) (Some w) k d) same (subst (λ (o : Option library.FileTable). IsFontOf o (Some u) k d) knows_library font)
 
 -- ---- of a result
 

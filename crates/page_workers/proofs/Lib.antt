@@ -1,6 +1,6 @@
 pub mod Fonts
 pub mod Calls
-pub mod Rested
+pub mod NothingDrawn
 pub mod Lists
 pub mod Numbers
 pub mod Drawn
@@ -9,4 +9,4 @@ pub mod Parts
 pub mod Shares
 pub mod Rounds
 pub mod Claims
-pub mod Papered
+pub mod WithSparePages

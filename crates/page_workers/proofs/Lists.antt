@@ -4,8 +4,8 @@ use Rattle.std.proofs.lemmas.List.{get_or-set_same, get_or-set_other, get_or_app
 use mathlib.Core.Logic.{dite}
 use native.Mathlib.Decide.{ℕ_discrete}
 use Rattle.page_workers.specs.declared.worker.Worker.{Worker}
-use Rattle.page_workers.specs.Claims.{HasRoom, RestsAtCounter}
-use Rattle.page_workers.proofs.Rested.{rests}
+use Rattle.page_workers.specs.Claims.{HasRoom, DrewNothingAtCounter}
+use Rattle.page_workers.proofs.NothingDrawn.{rests}
 
 -- inside a list the default plays no part
 pub same_default : {A : Type 0} (l : List A) (i : ℕ) (a b : A) → i < length l → get_or l i a ≡ get_or l i b
@@ -13,18 +13,18 @@ same_default [] i a b lt = absurd (omega arith)
 same_default (x ∷ xs) zero a b lt = refl
 same_default (x ∷ xs) (suc i) a b lt = same_default xs i a b (omega arith)
 
-keeps : {F : Type 0} (a b c : Worker F) → RestsAtCounter a b → RestsAtCounter b c → RestsAtCounter a c
+keeps : {F : Type 0} (a b c : Worker F) → DrewNothingAtCounter a b → DrewNothingAtCounter b c → DrewNothingAtCounter a c
 keeps a b c p q = record { rested = rests a b c p.rested q.rested; counter = q.counter ∙ p.counter }
 
 module _ {F : Type 0} (xs ws : List (Worker F)) (i : ℕ) (w v : Worker F) (inside : i < length ws) where
-  pub kept_step : length ws ≡ length xs → RestsAtCounter (get_or ws i w) v → ((k : ℕ) (d : Worker F) → k < length xs → RestsAtCounter (get_or xs k d) (get_or ws k d))
-      → (k : ℕ) (d : Worker F) → k < length xs → RestsAtCounter (get_or xs k d) (get_or (set ws i v) k d)
+  pub kept_step : length ws ≡ length xs → DrewNothingAtCounter (get_or ws i w) v → ((k : ℕ) (d : Worker F) → k < length xs → DrewNothingAtCounter (get_or xs k d) (get_or ws k d))
+      → (k : ℕ) (d : Worker F) → k < length xs → DrewNothingAtCounter (get_or xs k d) (get_or (set ws i v) k d)
   kept_step long new was k d lt = dite (ℕ_discrete k i)
-      (λ e. subst (λ (j : ℕ). RestsAtCounter (get_or xs j d) (get_or (set ws i v) j d)) (sym e)
-      (subst (λ (x : Worker F). RestsAtCounter (get_or xs i d) x) (sym (get_or-set_same ws i v d inside))
+      (λ e. subst (λ (j : ℕ). DrewNothingAtCounter (get_or xs j d) (get_or (set ws i v) j d)) (sym e)
+      (subst (λ (x : Worker F). DrewNothingAtCounter (get_or xs i d) x) (sym (get_or-set_same ws i v d inside))
       (keeps (get_or xs i d) (get_or ws i w) v
-      (subst (λ (x : Worker F). RestsAtCounter (get_or xs i d) x) (same_default ws i d w inside) (was i d (omega arith))) new)))
-      (λ other. subst (λ (x : Worker F). RestsAtCounter (get_or xs k d) x) (sym (get_or-set_other ws i k v d other)) (was k d lt))
+      (subst (λ (x : Worker F). DrewNothingAtCounter (get_or xs i d) x) (same_default ws i d w inside) (was i d (omega arith))) new)))
+      (λ other. subst (λ (x : Worker F). DrewNothingAtCounter (get_or xs k d) x) (sym (get_or-set_other ws i k v d other)) (was k d lt))
 
   pub room_step : (n : ℕ) → HasRoom n v → ((k : ℕ) (d : Worker F) → k < i → HasRoom n (get_or ws k d)) → (k : ℕ) (d : Worker F) → k < i + 1 → HasRoom n (get_or (set ws i v) k d)
   room_step n new was k d lt = dite (ℕ_discrete k i)

@@ -12,16 +12,16 @@ use Rattle.page_draw.specs.declared.sheet.Sheet.{Sheet}
 use Rattle.page_workers.specs.declared.bench.Bench.{Bench}
 use Rattle.page_workers.specs.declared.worker.PageResult.{PageResult}
 use Rattle.page_workers.specs.declared.worker.Worker.{Worker}
-use Rattle.page_workers.specs.Seats.{Fits, room_at}
-use Rattle.page_workers.specs.Rounds.{Rested, Drew, HasBitmap, pages_of}
-use Rattle.page_workers.specs.Claims.{HasRoom, HasSeat, IsClaimOf, Claimed, MayTakePart, DrewNext, TookPart, claims_at}
-use Rattle.page_workers.proofs.Rested.{rested_self}
+use Rattle.page_workers.specs.Seats.{BenchFits, room_at}
+use Rattle.page_workers.specs.Rounds.{DrewNothing, Drew, HasBitmap, pages_of}
+use Rattle.page_workers.specs.Claims.{HasRoom, HasSeat, IsClaimOf, ClaimedPage, MayTakePart, DrewNext, TookPart, claims_at}
+use Rattle.page_workers.proofs.NothingDrawn.{rested_self}
 use Rattle.page_workers.proofs.Drawn.{drew_before_rest, drew_more, bitmaps_all, bitmaps_before, lacks_last, pages_of-more}
 use Rattle.page_workers.proofs.Rising.{rising_few, map-more}
 
 -- what draw_page asks of the worker
 pub record MayDrawNext {F : Type 0} (library : F → Option FileTable) (bench : Bench) (w : Worker F) : Type 0 where
-  pub fits : Fits (library w.source) bench w.seat
+  pub fits : BenchFits (library w.source) bench w.seat
   pub look_ups : 2 ^ 24 ≤ room_at w.loads w.seat
   pub space : HasRoom 1 w
 
@@ -39,7 +39,7 @@ module _ {F : Type 0} (library : F → Option FileTable) (faults loads : F → �
     pub bitmaps : All HasBitmap drawn
     pub space : HasRoom left now
     pub look_ups : left * 2 ^ 24 ≤ room_at now.loads now.seat
-    pub fits : Fits (library now.source) bench now.seat
+    pub fits : BenchFits (library now.source) bench now.seat
 
   pub begins : (w : Worker F) → MayTakePart library bench id count w → Midway w w
   begins w may = record {
@@ -59,7 +59,7 @@ module _ {F : Type 0} (library : F → Option FileTable) (faults loads : F → �
 
   -- ---- after a claim
 
-  module _ (start now next : Worker F) (midway : Midway start now) (page : Option ℕ) (claimed : Claimed first count page now next) where
+  module _ (start now next : Worker F) (midway : Midway start now) (page : Option ℕ) (claimed : ClaimedPage first count page now next) where
     abbrev claims : List ℕ
     claims = claims_at now.counter
 
@@ -84,8 +84,8 @@ module _ {F : Type 0} (library : F → Option FileTable) (faults loads : F → �
     has_seat : HasSeat id next
     has_seat = record { seat = seat_after; is = ap (λ (w : Worker F). w.counter) claimed.is; counter = same_id }
 
-    rested : Rested now next
-    rested = subst (λ (w : Worker F). Rested now w) (sym claimed.is) (record { source = refl; seat = refl; results = refl; loads = refl; pages = refl })
+    rested : DrewNothing now next
+    rested = subst (λ (w : Worker F). DrewNothing now w) (sym claimed.is) (record { source = refl; seat = refl; results = refl; loads = refl; pages = refl })
 
     -- the round has no further page
     pub ends_beyond : page ≡ None → TookPart library faults loads bench indexed sheet id first count start next

@@ -12,25 +12,25 @@ use Rattle.page_draw.specs.Drawn.{IsWhole}
 use Rattle.page_workers.specs.declared.bench.Bench.{Bench}
 use Rattle.page_workers.specs.declared.worker.PageResult.{PageResult}
 use Rattle.page_workers.specs.declared.worker.Worker.{Worker}
-use Rattle.page_workers.specs.Seats.{IsAt, Fits, own_calls, asked_at, trail_at, room_at}
+use Rattle.page_workers.specs.Seats.{SeatFits, BenchFits, own_calls, asked_at, trail_at, room_at}
 use Rattle.page_workers.specs.Seating.{IsUnused, WasSeated, MayLeave}
 use Rattle.page_workers.specs.Rounds.{Drew, DrewPage, MayDraw}
 use Rattle.page_workers.specs.Laws.{IsBenchOf, SeatedMayDraw, DrawnMayLeave}
 
 module _ {F : Type 0} (library : F → Option FileTable) (bench : Bench) (part : Common) (n count : ℕ) (before after : Worker F) (few : count ≤ 32) (of_bench : IsBenchOf library bench part before) (unused : IsUnused before)
     (seated : WasSeated bench.cache part n before after) where
-  tells : (common : Option FileTable) → common ≡ part.library → IfSome common (λ l. library after.source ≡ Some l)
-  tells common e = subst (λ (o : Option FileTable). IfSome o (λ l. library after.source ≡ Some l)) (sym e)
-      (subst (λ (x : F). IfSome part.library (λ l. library x ≡ Some l)) (sym seated.same.source) of_bench.tells)
+  knows_library : (common : Option FileTable) → common ≡ part.library → IfSome common (λ l. library after.source ≡ Some l)
+  knows_library common e = subst (λ (o : Option FileTable). IfSome o (λ l. library after.source ≡ Some l)) (sym e)
+      (subst (λ (x : F). IfSome part.library (λ l. library x ≡ Some l)) (sym seated.same.source) of_bench.knows_library)
 
-  is_at : IsAt (library after.source) bench seated.seat
+  is_at : SeatFits (library after.source) bench seated.seat
   is_at = record {
     lock = seated.new.lock;
     idle = seated.new.idle;
     free = ap open_claim seated.new.no_call;
     units = of_bench.units ∙ sym (ap (λ (p : Common). p.units) seated.new.part);
     sound = of_bench.sound;
-    tells = tells seated.seat.view.part.library (ap (λ (p : Common). p.library) seated.new.part);
+    knows_library = knows_library seated.seat.view.part.library (ap (λ (p : Common). p.library) seated.new.part);
   }
 
   room : count * 2 ^ 24 ≤ room_at after.loads after.seat
@@ -42,7 +42,7 @@ module _ {F : Type 0} (library : F → Option FileTable) (bench : Bench) (part :
 
   may_draw : MayDraw library bench count after
   may_draw = record {
-    fits = subst (λ (o : Option SeatView). Fits (library after.source) bench o) (sym seated.is) is_at;
+    fits = subst (λ (o : Option SeatView). BenchFits (library after.source) bench o) (sym seated.is) is_at;
     no_result = seated.same.results ∙ unused.none;
     no_counter = seated.same.counter ∙ unused.counter;
     room = room;
@@ -63,10 +63,10 @@ module _ {F : Type 0} (library : F → Option FileTable) (faults loads : F → �
 
       number : t.view.number ≡ n
       number =
-          let told : trail.0 ≡ record { seat = t.view.number; capacity = t.view.part.capacity; calls = own_calls t; loads = loads after.source; counted = after.loads } = cc trail.1 in
-          sym (ap (λ (x : Trail). x.seat) told) ∙ trail.2.went.seat ∙ may.number
+          let known : trail.0 ≡ record { seat = t.view.number; capacity = t.view.part.capacity; calls = own_calls t; loads = loads after.source; counted = after.loads } = cc trail.1 in
+          sym (ap (λ (x : Trail). x.seat) known) ∙ trail.2.answers.seat ∙ may.number
 
-    at_seat : (o : Option SeatView) → after.seat ≡ o → Fits (library after.source) bench o → MayLeave bench.cache n after
+    at_seat : (o : Option SeatView) → after.seat ≡ o → BenchFits (library after.source) bench o → MayLeave bench.cache n after
     at_seat None is fits = absurd fits
     at_seat (Some t) is fits = record { seat = t; is = is; lock = fits.lock; number = number t is; idle = fits.idle }
 

@@ -19,9 +19,9 @@ use Rattle.page_draw.specs.declared.sheet.Sheet.{Sheet}
 use Rattle.page_workers.specs.declared.bench.Bench.{Bench}
 use Rattle.page_workers.specs.declared.worker.PageResult.{PageResult}
 use Rattle.page_workers.specs.declared.worker.Worker.{Worker}
-use Rattle.page_workers.specs.Rounds.{Rested, Drew, DrewRound, BitmapsToLast, LacksBitmap, pages_of}
-use Rattle.page_workers.specs.Claims.{RestsAtCounter, GotSeat, GaveSeat, TookPart, IsOver, claims_at}
-use Rattle.page_workers.proofs.Rested.{rests}
+use Rattle.page_workers.specs.Rounds.{DrewNothing, Drew, DrewRound, BitmapsToLast, LacksBitmap, pages_of}
+use Rattle.page_workers.specs.Claims.{DrewNothingAtCounter, GotSeat, GaveSeat, TookPart, ClaimsNoMore, claims_at}
+use Rattle.page_workers.proofs.NothingDrawn.{rests}
 use Rattle.page_workers.proofs.Drawn.{drew_after_rest, drew_before_rest}
 use Rattle.page_workers.proofs.Lists.{same_default}
 use Rattle.page_workers.proofs.Rising.{rising_prefix, rising_from, claim_of_page, page_of_claim}
@@ -38,13 +38,13 @@ module _ {F : Type 0} (library : F → Option FileTable) (faults loads : F → �
     pub below : All (λ claim. claim < count) claimed
     pub pages : pages_of drawn ≡ map (λ claim. first + claim) claimed
     pub stopped : BitmapsToLast drawn
-    pub over : IsOver count beyond drawn
+    pub over : ClaimsNoMore count beyond drawn
 
-  pub share_of : (id new : TableId) (a b c d e : Worker F) (taken : SeatClaims) → RestsAtCounter a b → GotSeat id b c → TookPart library faults loads bench indexed sheet new first count c d → GaveSeat taken d e
+  pub share_of : (id new : TableId) (a b c d e : Worker F) (taken : SeatClaims) → DrewNothingAtCounter a b → GotSeat id b c → TookPart library faults loads bench indexed sheet new first count c d → GaveSeat taken d e
       → Share a e taken
   share_of id new a b c d e taken kept got part gave =
-      let seated : Rested b c = subst (λ (w : Worker F). Rested b w) (sym got.is) (record { source = refl; seat = refl; results = refl; loads = refl; pages = refl }) in
-      let left : Rested d e = subst (λ (w : Worker F). Rested d w) (sym gave.is) (record { source = refl; seat = refl; results = refl; loads = refl; pages = refl }) in
+      let seated : DrewNothing b c = subst (λ (w : Worker F). DrewNothing b w) (sym got.is) (record { source = refl; seat = refl; results = refl; loads = refl; pages = refl }) in
+      let left : DrewNothing d e = subst (λ (w : Worker F). DrewNothing d w) (sym gave.is) (record { source = refl; seat = refl; results = refl; loads = refl; pages = refl }) in
       record {
         drawn = part.drawn;
         drew = drew_after_rest library faults loads bench indexed sheet part.drawn a c e (rests a b c kept.rested seated)

@@ -14,15 +14,15 @@ use Rattle.page_draw.specs.declared.stop.PageStop.{PageStop}
 use Rattle.page_workers.specs.declared.bench.Bench.{Bench}
 use Rattle.page_workers.specs.declared.worker.PageResult.{PageResult}
 use Rattle.page_workers.specs.declared.worker.Worker.{Worker}
-use Rattle.page_workers.specs.Seats.{Fits, room_at}
-use Rattle.page_workers.specs.Rounds.{Rested, Drew, DrewPage, BitmapsToLast, LacksBitmap, pages_of}
-use Rattle.vf_expand.specs.Course.{MOST_FLAT}
+use Rattle.page_workers.specs.Seats.{BenchFits, room_at}
+use Rattle.page_workers.specs.Rounds.{DrewNothing, Drew, DrewPage, BitmapsToLast, LacksBitmap, pages_of}
+use Rattle.vf_expand.specs.Limits.{MAX_FLAT_COMMANDS}
 
 -- ---- the worker's parts that a round takes
 
 -- the worker drew nothing, and has the seat at a counter that it had
-pub record RestsAtCounter {F : Type 0} (before after : Worker F) : Type 0 where
-  pub rested : Rested before after
+pub record DrewNothingAtCounter {F : Type 0} (before after : Worker F) : Type 0 where
+  pub rested : DrewNothing before after
   pub counter : after.counter ≡ before.counter
 
 -- room for n results and pages more was taken
@@ -65,7 +65,7 @@ IsClaimOf first count claim None = count ≤ claim
 IsClaimOf first count claim (Some page) = (claim < count) × (page ≡ first + claim)
 
 -- the worker claimed a page
-pub record Claimed {F : Type 0} (first count : ℕ) (page : Option ℕ) (before after : Worker F)
+pub record ClaimedPage {F : Type 0} (first count : ℕ) (page : Option ℕ) (before after : Worker F)
     : Type 0 where
   pub claim : ℕ
   pub seat : SeatView
@@ -80,16 +80,16 @@ pub record Claimed {F : Type 0} (first count : ℕ) (page : Option ℕ) (before 
 -- the worker may draw n pages, as it claims them from this counter
 pub record MayTakePart {F : Type 0} (library : F → Option FileTable) (bench : Bench) (id : TableId)
     (count : ℕ) (w : Worker F) : Type 0 where
-  pub fits : Fits (library w.source) bench w.seat
-  pub look_ups : count * MOST_FLAT ≤ room_at w.loads w.seat
+  pub fits : BenchFits (library w.source) bench w.seat
+  pub look_ups : count * MAX_FLAT_COMMANDS ≤ room_at w.loads w.seat
   pub space : HasRoom count w
   pub seated : HasSeat id w
   pub unused : claims_at w.counter ≡ []
 
 -- why the worker claims no more: it has claimed what is no page of the round, or its last page has
 -- no bitmap
-abbrev pub IsOver : ℕ → List ℕ → List PageResult → Type 0
-IsOver count beyond drawn = ((claim : ℕ) × (beyond ≡ claim ∷ []) × (count ≤ claim))
+abbrev pub ClaimsNoMore : ℕ → List ℕ → List PageResult → Type 0
+ClaimsNoMore count beyond drawn = ((claim : ℕ) × (beyond ≡ claim ∷ []) × (count ≤ claim))
     ⊎ ((beyond ≡ []) × LacksBitmap drawn)
 
 module _ {F : Type 0} (library : F → Option FileTable) (faults loads : F → ℕ) where
@@ -116,4 +116,4 @@ module _ {F : Type 0} (library : F → Option FileTable) (faults loads : F → �
     pub below : All (λ claim. claim < count) claimed
     pub pages : pages_of drawn ≡ map (λ claim. first + claim) claimed
     pub stopped : BitmapsToLast drawn
-    pub over : IsOver count beyond drawn
+    pub over : ClaimsNoMore count beyond drawn

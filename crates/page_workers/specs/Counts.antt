@@ -3,7 +3,7 @@ use Rattle.std.specs.Prelude.{◌≡◌, ℕ, ◌+◌, ◌-◌, ◌^◌, ◌<◌
 
 -- the source's count rose from `begun` by `count`, or by less where it stands still at the last
 -- value of a `u64`
-pub record Counted (begun count now : ℕ) : Type 0 where
+pub record CountedLoads (begun count now : ℕ) : Type 0 where
   pub most : now ≤ begun + count
   pub least : min begun (2 ^ 64 - 1) ≤ now
   pub exact : now < 2 ^ 64 - 1 → now ≡ begun + count

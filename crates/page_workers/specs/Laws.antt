@@ -11,12 +11,12 @@ use Rattle.page_workers.specs.declared.worker.Worker.{Worker}
 use Rattle.page_workers.specs.Rounds.{MayDraw, Drew}
 use Rattle.page_workers.specs.Seating.{IsUnused, MayLeave, WasSeated}
 
--- the bench is of this common part, whose library the worker's source tells where it is told
+-- the bench is of this common part, whose library the worker's source has where it is known
 pub record IsBenchOf {F : Type 0} (library : F → Option FileTable) (bench : Bench) (part : Common)
     (w : Worker F) : Type 0 where
   pub units : bench.units ≡ part.units
   pub sound : AreUnits bench.units
-  pub tells : IfSome part.library (λ l. library w.source ≡ Some l)
+  pub knows_library : IfSome part.library (λ l. library w.source ≡ Some l)
 
 -- a worker that drew nothing yet may draw a round as soon as it has a seat
 abbrev pub SeatedMayDraw : {F : Type 0} → (F → Option FileTable) → Type 0

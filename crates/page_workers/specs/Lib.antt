@@ -1,7 +1,8 @@
+pub mod Limits
 pub mod Counts
 pub mod Seats
 pub mod Rounds
 pub mod Claims
 pub mod Seating
 pub mod Laws
-pub mod Paper
+pub mod SparePages

@@ -16,8 +16,8 @@ use Rattle.page_draw.specs.declared.stop.PageStop.TheVariants.{SourceFault}
 use Rattle.page_workers.specs.declared.bench.Bench.{Bench}
 use Rattle.page_workers.specs.declared.worker.PageResult.{PageResult}
 use Rattle.page_workers.specs.declared.worker.Worker.{Worker}
-use Rattle.page_workers.specs.Seats.{Fits, library_at, units_at, asked_at, trail_at, room_at}
-use Rattle.vf_expand.specs.Course.{MOST_FLAT}
+use Rattle.page_workers.specs.Seats.{BenchFits, library_at, units_at, asked_at, trail_at, room_at}
+use Rattle.vf_expand.specs.Limits.{MAX_FLAT_COMMANDS}
 
 -- what came of a page is what its drawing says
 abbrev pub IsOutcome : Finding → Indexed → Sheet → ℕ → Result Bitmap PageStop
@@ -46,7 +46,7 @@ LacksBitmap results = (r : PageResult) × Contains results r × IsErr r.outcome
 -- ---- one worker
 
 -- the worker drew nothing
-pub record Rested {F : Type 0} (before after : Worker F) : Type 0 where
+pub record DrewNothing {F : Type 0} (before after : Worker F) : Type 0 where
   pub source : after.source ≡ before.source
   pub seat : after.seat ≡ before.seat
   pub results : after.results.items ≡ before.results.items
@@ -56,10 +56,10 @@ pub record Rested {F : Type 0} (before after : Worker F) : Type 0 where
 -- the worker may draw n pages at this bench
 pub record MayDraw {F : Type 0} (library : F → Option FileTable) (bench : Bench) (count : ℕ)
     (w : Worker F) : Type 0 where
-  pub fits : Fits (library w.source) bench w.seat
+  pub fits : BenchFits (library w.source) bench w.seat
   pub no_result : w.results.items ≡ []
   pub no_counter : w.counter ≡ None
-  pub room : count * MOST_FLAT ≤ room_at w.loads w.seat
+  pub room : count * MAX_FLAT_COMMANDS ≤ room_at w.loads w.seat
 
 abbrev pub trail_of : {F : Type 0} → (F → ℕ) → Worker F → Option Trail
 trail_of loads w = trail_at (loads w.source) w.loads w.seat
@@ -72,8 +72,8 @@ module _ {F : Type 0} (library : F → Option FileTable) (faults loads : F → �
     pub pages : after.pages.items ≡ before.pages.items ++ r.page ∷ []
     pub value : IsOutcome (IsFontOf (library_at before.seat) (units_at before.seat))
         indexed sheet r.page r.outcome (asked_at before.seat) (asked_at after.seat)
-    pub fits : Fits (library after.source) bench after.seat
-    pub room : room_at before.loads before.seat ≤ room_at after.loads after.seat + MOST_FLAT
+    pub fits : BenchFits (library after.source) bench after.seat
+    pub room : room_at before.loads before.seat ≤ room_at after.loads after.seat + MAX_FLAT_COMMANDS
     pub same_library : library_at after.seat ≡ library_at before.seat
     pub same_units : units_at after.seat ≡ units_at before.seat
     pub cause : HasCause (faults before.source) (faults after.source)
@@ -83,7 +83,7 @@ module _ {F : Type 0} (library : F → Option FileTable) (faults loads : F → �
 
   -- the worker drew the pages of these results, one after another
   abbrev pub Drew : Bench → Indexed → Sheet → List PageResult → Worker F → Worker F → Type 0
-  Drew bench indexed sheet [] before after = Rested before after
+  Drew bench indexed sheet [] before after = DrewNothing before after
   Drew bench indexed sheet (r ∷ results) before after = (between : Worker F)
       × DrewPage bench indexed sheet r before between
       × Drew bench indexed sheet results between after

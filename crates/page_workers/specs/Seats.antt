@@ -1,4 +1,4 @@
--- What a worker tells of its seat at a cache, and when a bench is its own.
+-- What is known of a worker's seat at a cache, and when a bench is its own.
 use Rattle.std.specs.Prelude.{◌≡◌, ℕ, ◌-◌, ◌/◌, ◌^◌, min, List, Option, Some, None, IfSome, IsSome, refl}
 use Rattle.outside.specs.Library.{FileTable}
 use Rattle.outside.specs.declared.keys.FontKey.{FontKey}
@@ -11,7 +11,7 @@ use Rattle.pixel_round.specs.Preamble.{AreUnits}
 use Rattle.font_decode.specs.Desks.{Trail}
 use Rattle.page_workers.specs.declared.bench.Bench.{Bench}
 
--- ---- what is told of a seat
+-- ---- what is known of a seat
 
 abbrev pub own_calls : SeatView → List Call
 own_calls s = own s.view.number s.view.seen
@@ -48,31 +48,31 @@ room_at counted (Some s) = min ((2 ^ 48 - s.view.drawn) / 3) ((2 ^ 62 - counted)
 -- ---- a bench and a seat
 
 -- the seat is of the bench's cache and has neither the turn nor a claim, and the units are those of
--- its common part. Where that tells a library, the worker's source tells it too
-pub record IsAt (told : Option FileTable) (bench : Bench) (s : SeatView) : Type 0 where
+-- its common part. Where that knows a library, the worker's source has it too
+pub record SeatFits (known : Option FileTable) (bench : Bench) (s : SeatView) : Type 0 where
   pub lock : s.lock ≡ bench.cache
   pub idle : s.view.stage ≡ Idle
   pub free : open_claim (own_calls s) ≡ None
   pub units : bench.units ≡ s.view.part.units
   pub sound : AreUnits bench.units
-  pub tells : IfSome s.view.part.library (λ l. told ≡ Some l)
+  pub knows_library : IfSome s.view.part.library (λ l. known ≡ Some l)
 
-abbrev pub Fits : Option FileTable → Bench → Option SeatView → Type 0
-Fits told bench None = ⊥
-Fits told bench (Some s) = IsAt told bench s
+abbrev pub BenchFits : Option FileTable → Bench → Option SeatView → Type 0
+BenchFits known bench None = ⊥
+BenchFits known bench (Some s) = SeatFits known bench s
 
 -- the seat holds no claim: it has filled or released each key that it claimed
 abbrev pub HoldsNoClaim : Option SeatView → Type 0
 HoldsNoClaim None = Unit {0}
 HoldsNoClaim (Some s) = open_claim (own_calls s) ≡ None
 
--- ---- what is told goes together
+-- ---- what is known goes together
 
-pub units_told : (seat : Option SeatView) → IsSome (library_at seat) → IsSome (units_at seat)
-units_told None some = some
-units_told (Some s) some = refl
+pub units_known : (seat : Option SeatView) → IsSome (library_at seat) → IsSome (units_at seat)
+units_known None some = some
+units_known (Some s) some = refl
 
-pub asked_told : (loads counted : ℕ) (seat : Option SeatView) → IsSome (trail_at loads counted seat)
-    → IsSome (asked_at seat)
-asked_told loads counted None some = some
-asked_told loads counted (Some s) some = refl
+pub asked_known : (loads counted : ℕ) (seat : Option SeatView)
+    → IsSome (trail_at loads counted seat) → IsSome (asked_at seat)
+asked_known loads counted None some = some
+asked_known loads counted (Some s) some = refl

@@ -2,7 +2,8 @@
 ghost use Rattle.std.specs.Prelude.{◌≡◌, ℕ, ◌+◌, ◌^◌, ◌<◌, ◌≤◌, [], ◌∷◌, ◌++◌, None, Some, length, slice_index_or};
 ghost use Rattle.page_counter.specs.declared.view.SeatClaims.{SeatClaims};
 ghost use Rattle.page_counter.specs.Views.{split_view};
-ghost use Rattle.page_workers.specs.Claims.{Claimed, GaveSeat, GotSeat, HasSeat, claims_at};
+ghost use Rattle.page_workers.specs.Claims.{ClaimedPage, GaveSeat, GotSeat, HasSeat, claims_at};
+ghost use Rattle.page_workers.specs.Limits.{MAX_WORKERS};
 
 use crate::job::PageRange;
 use crate::worker::Worker;
@@ -38,7 +39,7 @@ pub fn seat_at_counter<F: FontSource>(
     requires counter { first.old.counter ≡ counter.now }
     requires number { first.old.view.number ≡ 0 }
     requires made { first.old.view.made ≡ 1 }
-    requires few { length workers.old ≤ 32 }
+    requires few { length workers.old ≤ MAX_WORKERS }
     ensures counter { first.new.counter ≡ first.old.counter }
     ensures same { (first.new.view.number ≡ 0) × (first.new.view.claims ≡ first.old.view.claims)
         × (first.new.view.joined ≡ first.old.view.joined) }
@@ -56,7 +57,7 @@ pub fn seat_at_counter<F: FontSource>(
 pub fn claim_page<F: FontSource>(worker: &mut Worker<F>, round: &Round) -> Option<usize>
     requires seated { HasSeat round.now.counter worker.old }
     requires few { length (claims_at worker.old.counter) < 64 }
-    ensures { Claimed round.now.pages.first round.now.pages.count result worker.old worker.new }
+    ensures { ClaimedPage round.now.pages.first round.now.pages.count result worker.old worker.new }
 {
     let Some(seat) = &mut worker.counter else {
         unreachable!()
@@ -87,8 +88,8 @@ fn join_one<F: FontSource>(counter: &PageCounter, first: &mut CounterSeat, worke
     counter.join(first, seat);
 }
 
-/// Takes in the seats of all workers at the counter, in their order. Seat 0 keeps their claims. It
-/// takes no memory.
+/// Joins the seats of all workers at the counter to seat 0, in their order. Seat 0 keeps their
+/// claims. It takes no memory.
 pub fn join_at_counter<F: FontSource>(
     counter: &PageCounter,
     first: &mut CounterSeat,

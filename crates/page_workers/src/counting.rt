@@ -4,7 +4,7 @@ ghost use Rattle.outside.specs.Counts.{HasCause};
 ghost use Rattle.outside.specs.FontKeys.{IsFontKey};
 ghost use Rattle.pixel_round.specs.Preamble.{AreUnits};
 ghost use Rattle.font_decode.specs.Files.{bytes_of, IsFound, IsInOrder};
-ghost use Rattle.page_workers.specs.Counts.{Counted};
+ghost use Rattle.page_workers.specs.Counts.{CountedLoads};
 
 use font_decode::{Files, fetch};
 use outside::{FileName, FontKey, FontSource, LoadStop};
@@ -35,7 +35,7 @@ struct Counting<'a, F: FontSource, K: Loan> {
     of: PhantomData<K>,
     ghost loads_fit: { loads < 2 ^ 64 },
     ghost same: { source.ghost_name ≡ K.reference },
-    ghost counted: { Counted K.begun loads (F.loads source.now) },
+    ghost counted: { CountedLoads K.begun loads (F.loads source.now) },
 }
 
 impl<F: FontSource, K: Loan> FontSource for Counting<'_, F, K> {
@@ -77,7 +77,7 @@ fn fetch_lent<'a, K: Loan, F: FontSource>(
     ensures cause { HasCause (F.faults source.old) (F.faults result.now)
         (IsErrOf fetched.new.files LoadStop.Failed) }
     ensures few { fetched.new.loads ≤ 5 }
-    ensures counted { Counted (F.loads source.old) fetched.new.loads (F.loads result.now) }
+    ensures counted { CountedLoads (F.loads source.old) fetched.new.loads (F.loads result.now) }
 {
     let mut counting = Counting::<F, K> {
         source,
@@ -101,7 +101,7 @@ pub struct Fetched {
     pub loads: u64,
 }
 
-/// Fetches the files of a font, and tells how many loads it asked of the source: at most five.
+/// Fetches the files of a font, and answers how many loads it asked of the source: at most five.
 /// `Failed` comes only where the source's count of faults rose, `NoMemory` where memory ran out.
 pub fn fetch_counted<F: FontSource>(
     alloc: Global,
@@ -118,7 +118,7 @@ pub fn fetch_counted<F: FontSource>(
     ensures cause { HasCause (F.faults source.old) (F.faults source.new)
         (IsErrOf result.files LoadStop.Failed) }
     ensures few { result.loads ≤ 5 }
-    ensures counted { Counted (F.loads source.old) result.loads (F.loads source.new) }
+    ensures counted { CountedLoads (F.loads source.old) result.loads (F.loads source.new) }
 {
     let mut fetched = Fetched {
         files: Err(LoadStop::NoMemory),

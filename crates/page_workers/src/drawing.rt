@@ -6,13 +6,13 @@ ghost use Rattle.font_decode.specs.Decoding.{IsFontOf};
 ghost use Rattle.font_decode.specs.Desks.{TrailGrew};
 ghost use Rattle.page_draw.specs.Drawn.{IsWhole};
 ghost use Rattle.page_workers.specs.Rounds.{IsOutcome, trail_of};
-ghost use Rattle.page_workers.specs.Seats.{Fits, asked_at, library_at, room_at, units_at};
+ghost use Rattle.page_workers.specs.Seats.{BenchFits, asked_at, library_at, room_at, units_at};
 ghost use Rattle.page_workers.specs.Claims.{DrewNext, HasRoom, MayTakePart, TookPart};
-ghost use Rattle.vf_expand.specs.Course.{MOST_FLAT};
+ghost use Rattle.vf_expand.specs.Limits.{MAX_FLAT_COMMANDS};
 
 use crate::claiming::{Round, claim_page};
 use crate::job::Job;
-use crate::paper::blank_page;
+use crate::spare_pages::blank_page;
 use crate::worker::{PageResult, Worker};
 use font_decode::Desk;
 use outside::FontSource;
@@ -22,8 +22,8 @@ use std::alloc::Global;
 use std::mem;
 use std::sync::Wait;
 
-// Draws a page on the worker's paper, or on a new page.
-fn draw_on_paper<R: Wait, F: FontSource>(
+// Draws a page on one of the worker's spare pages, or on a new one.
+fn draw_on_spare_page<R: Wait, F: FontSource>(
     rt: &R,
     alloc: Global,
     worker: &mut Worker<F>,
@@ -31,14 +31,14 @@ fn draw_on_paper<R: Wait, F: FontSource>(
     page: usize,
 ) -> Result<Page, PageStop>
     requires page { page < pages_begun job.now.index.now.reading }
-    requires fits { Fits (F.library worker.old.source) job.now.bench.now worker.old.seat }
-    requires look_ups { MOST_FLAT ≤ room_at worker.old.loads worker.old.seat }
+    requires fits { BenchFits (F.library worker.old.source) job.now.bench.now worker.old.seat }
+    requires look_ups { MAX_FLAT_COMMANDS ≤ room_at worker.old.loads worker.old.seat }
     ensures value { IsOutcome (IsFontOf (library_at worker.old.seat) (units_at worker.old.seat))
         job.now.index.now job.now.sheet.now page result
         (asked_at worker.old.seat) (asked_at worker.new.seat) }
-    ensures fits { Fits (F.library worker.new.source) job.now.bench.now worker.new.seat }
+    ensures fits { BenchFits (F.library worker.new.source) job.now.bench.now worker.new.seat }
     ensures room { room_at worker.old.loads worker.old.seat
-        ≤ room_at worker.new.loads worker.new.seat + MOST_FLAT }
+        ≤ room_at worker.new.loads worker.new.seat + MAX_FLAT_COMMANDS }
     ensures same_library { library_at worker.new.seat ≡ library_at worker.old.seat }
     ensures same_units { units_at worker.new.seat ≡ units_at worker.old.seat }
     ensures cause { HasCause (F.faults worker.old.source) (F.faults worker.new.source)
@@ -46,20 +46,20 @@ fn draw_on_paper<R: Wait, F: FontSource>(
     ensures trail { TrailGrew (IsWhole result) (asked_at worker.old.seat)
         (asked_at worker.new.seat) (trail_of F.loads worker.old) (trail_of F.loads worker.new) }
 {
-    match blank_page(alloc, &mut worker.paper, job.sheet) {
-        Ok(paper) => {
+    match blank_page(alloc, &mut worker.spare_pages, job.sheet) {
+        Ok(spare_pages) => {
             let wanted = IndexedPage {
                 index: job.index,
                 number: page,
             };
-            draw_on(rt, alloc, worker, job.bench, wanted, job.sheet, paper)
+            draw_on(rt, alloc, worker, job.bench, wanted, job.sheet, spare_pages)
         }
         Err(_) => Err(PageStop::NoMemory),
     }
 }
 
 // Draws a page, and answers whether it has a bitmap. The results, the pages and the seat at the
-// round's counter are kept out of the worker in the meantime, since drawing tells nothing of them.
+// round's counter are kept out of the worker in the meantime, since drawing says nothing of them.
 fn draw_page<R: Wait, F: FontSource>(
     rt: &R,
     alloc: Global,
@@ -68,8 +68,8 @@ fn draw_page<R: Wait, F: FontSource>(
     page: usize,
 ) -> bool
     requires page { page < pages_begun job.now.index.now.reading }
-    requires fits { Fits (F.library worker.old.source) job.now.bench.now worker.old.seat }
-    requires look_ups { MOST_FLAT ≤ room_at worker.old.loads worker.old.seat }
+    requires fits { BenchFits (F.library worker.old.source) job.now.bench.now worker.old.seat }
+    requires look_ups { MAX_FLAT_COMMANDS ≤ room_at worker.old.loads worker.old.seat }
     requires space { HasRoom 1 worker.old }
     ensures { DrewNext F.library F.faults F.loads job.now.bench.now job.now.index.now
         job.now.sheet.now page result worker.old worker.new }
@@ -77,7 +77,7 @@ fn draw_page<R: Wait, F: FontSource>(
     let counter = worker.counter.take();
     let mut results = mem::replace(&mut worker.results, Vec::new(alloc));
     let mut pages = mem::replace(&mut worker.pages, Vec::new(alloc));
-    let outcome = draw_on_paper(rt, alloc, worker, job, page);
+    let outcome = draw_on_spare_page(rt, alloc, worker, job, page);
     let has_bitmap = outcome.is_ok();
     results.push_reserved(PageResult { page, outcome });
     pages.push_reserved(page);

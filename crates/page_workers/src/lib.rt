@@ -10,15 +10,15 @@ mod job;
 mod keeping;
 pub mod laws;
 mod loading;
-pub mod paper;
 mod round;
 mod seating;
+pub mod spare_pages;
 mod worker;
 
 pub use bench::Bench;
 pub use job::{Job, PageRange};
 pub use page_counter::{CounterSeat, PageCounter};
-pub use paper::drop_paper;
-pub use round::{MOST_WORKERS, draw_round, draw_round_on};
+pub use round::{MAX_WORKERS, draw_round, draw_round_on};
 pub use seating::{join_all, seat_all};
+pub use spare_pages::drop_spare_pages;
 pub use worker::{PageResult, Worker};

@@ -3,15 +3,16 @@ ghost use Rattle.std.specs.Prelude.{◌≡◌, ℕ, ◌+◌, ◌<◌, ◌≤◌,
 ghost use Rattle.page_index.specs.Document.{pages_begun};
 ghost use Rattle.page_index.specs.Pages.{document_units};
 ghost use Rattle.page_draw.specs.Sheets.{IsDrawable};
-ghost use Rattle.page_workers.specs.Rounds.{DrewRound, MayDraw, Rested};
+ghost use Rattle.page_workers.specs.Rounds.{DrewRound, MayDraw, DrewNothing};
 ghost use Rattle.page_workers.specs.Seats.{HoldsNoClaim};
-ghost use Rattle.page_workers.specs.Claims.{HasRoom, RestsAtCounter, MayTakePart, TookPart};
+ghost use Rattle.page_workers.specs.Claims.{HasRoom, DrewNothingAtCounter, MayTakePart, TookPart};
+ghost use Rattle.page_workers.specs.Limits as limits;
 
 use crate::Bench;
 use crate::claiming::{Round, join_at_counter, seat_at_counter};
 use crate::drawing::take_part;
 use crate::job::{Job, PageRange};
-use crate::paper::share_paper;
+use crate::spare_pages::share_spare_pages;
 use crate::worker::Worker;
 use font_decode::Desk;
 use outside::FontSource;
@@ -25,11 +26,11 @@ use std::thread;
 use std::thread::Threads;
 
 /// The most workers of a run. Each of them gets a thread of its own.
-pub const MOST_WORKERS: usize = 32;
+pub const MAX_WORKERS: usize = 32;
 
 // Takes room for n results and pages more.
 fn reserve<F: FontSource>(worker: &mut Worker<F>, count: usize) -> Result<(), NoMemory>
-    ensures kept { RestsAtCounter worker.old worker.new }
+    ensures kept { DrewNothingAtCounter worker.old worker.new }
     ensures room { OnOk result (HasRoom count worker.new) }
 {
     worker.results.reserve(count)?;
@@ -40,7 +41,7 @@ fn reserve<F: FontSource>(worker: &mut Worker<F>, count: usize) -> Result<(), No
 // Takes room for n results and pages more of each worker.
 fn reserve_all<F: FontSource>(workers: &mut [Worker<F>], count: usize) -> Result<(), NoMemory>
     ensures kept { (k : ℕ) (d : _) → k < length workers.old
-        → RestsAtCounter (slice_index_or workers.old k d) (slice_index_or workers.new k d) }
+        → DrewNothingAtCounter (slice_index_or workers.old k d) (slice_index_or workers.new k d) }
     ensures room { OnOk result ((k : ℕ) (d : _) → k < length workers.old
         → HasRoom count (slice_index_or workers.new k d)) }
 {
@@ -56,8 +57,8 @@ fn reserve_all<F: FontSource>(workers: &mut [Worker<F>], count: usize) -> Result
 /// So each page that was drawn was drawn by one worker, once. The worker has its results in the
 /// order of their pages, and its `pages` grew by these. What stopped a page is in its result: a
 /// fault of the page or of its source, or that memory ran out. `NoMemory` of the call itself comes
-/// before any page is begun, and changes no worker but in capacity. Whatever its pages came to, no
-/// worker's seat holds a claim afterwards.
+/// before any page is begun, and changes nothing of a worker but the capacity of its lists.
+/// Whatever its pages came to, no worker's seat holds a claim afterwards.
 pub fn draw_round<R: Threads + Wait + Sync, F: FontSource + Send>(
     rt: &R,
     alloc: Global,
@@ -69,7 +70,7 @@ pub fn draw_round<R: Threads + Wait + Sync, F: FontSource + Send>(
     count: usize,
 ) -> Result<(), NoMemory>
     requires some_worker { 1 ≤ length workers.old }
-    requires few_workers { length workers.old ≤ 32 }
+    requires few_workers { length workers.old ≤ limits.MAX_WORKERS }
     requires some_page { 1 ≤ count }
     requires few_pages { count ≤ 32 }
     requires inside { first + count ≤ pages_begun index.now.reading }
@@ -80,7 +81,7 @@ pub fn draw_round<R: Threads + Wait + Sync, F: FontSource + Send>(
     ensures drawn { OnOk result (DrewRound F.library F.faults F.loads bench.now index.now sheet.now
         first count workers.old workers.new) }
     ensures refused { OnErr result ((k : ℕ) (d : _) → k < length workers.old
-        → Rested (slice_index_or workers.old k d) (slice_index_or workers.new k d)) }
+        → DrewNothing (slice_index_or workers.old k d) (slice_index_or workers.new k d)) }
     ensures no_counter { (k : ℕ) (d : _) → k < length workers.old
         → (slice_index_or workers.new k d).counter ≡ None }
     ensures no_claim { (k : ℕ) (d : _) → k < length workers.old
@@ -102,7 +103,7 @@ pub fn draw_round<R: Threads + Wait + Sync, F: FontSource + Send>(
     thread::for_each_mut(
         rt,
         workers,
-        MOST_WORKERS,
+        MAX_WORKERS,
         &|_, worker: &mut Worker<F>|
             requires { (round.pages.first + round.pages.count ≤ pages_begun job.index.now.reading)
                 × MayTakePart F.library job.bench.now round.counter round.pages.count worker.old }
@@ -117,7 +118,7 @@ pub fn draw_round<R: Threads + Wait + Sync, F: FontSource + Send>(
     Ok(())
 }
 
-/// Draws a round as `draw_round` does, on the memory of `paper`: spare pages, of which each worker
+/// Draws a round as `draw_round` does, on the memory of `spare_pages`, of which each worker
 /// takes its share. The others are dropped, and none is left.
 pub fn draw_round_on<R: Threads + Wait + Sync, F: FontSource + Send>(
     rt: &R,
@@ -125,25 +126,25 @@ pub fn draw_round_on<R: Threads + Wait + Sync, F: FontSource + Send>(
     workers: &mut [Worker<F>],
     job: &Job,
     pages: PageRange,
-    paper: &mut Vec<Page>,
+    spare_pages: &mut Vec<Page>,
 ) -> Result<(), NoMemory>
     requires some_worker { 1 ≤ length workers.old }
-    requires few_workers { length workers.old ≤ 32 }
+    requires few_workers { length workers.old ≤ limits.MAX_WORKERS }
     requires inside { pages.first + pages.count ≤ pages_begun job.now.index.now.reading }
     requires ready { (k : ℕ) (d : _) → k < length workers.old
         → MayDraw F.library job.now.bench.now pages.count (slice_index_or workers.old k d) }
     ensures drawn { OnOk result (DrewRound F.library F.faults F.loads job.now.bench.now
         job.now.index.now job.now.sheet.now pages.first pages.count workers.old workers.new) }
     ensures refused { OnErr result ((k : ℕ) (d : _) → k < length workers.old
-        → Rested (slice_index_or workers.old k d) (slice_index_or workers.new k d)) }
+        → DrewNothing (slice_index_or workers.old k d) (slice_index_or workers.new k d)) }
     ensures no_counter { (k : ℕ) (d : _) → k < length workers.old
         → (slice_index_or workers.new k d).counter ≡ None }
     ensures no_claim { (k : ℕ) (d : _) → k < length workers.old
         → HoldsNoClaim (slice_index_or workers.new k d).seat }
-    ensures taken { paper.new.items ≡ [] }
+    ensures taken { spare_pages.new.items ≡ [] }
 {
     let PageRange { first, count } = pages;
-    share_paper(workers, paper, count);
+    share_spare_pages(workers, spare_pages, count);
     draw_round(
         rt, alloc, workers, job.bench, job.index, job.sheet, first, count,
     )

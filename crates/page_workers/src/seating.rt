@@ -1,4 +1,4 @@
-//! All workers get a seat, and all seats are taken in again.
+//! All workers get a seat, and all seats are joined again.
 ghost use Rattle.std.specs.Prelude.{◌≡◌, ℕ, ◌+◌, ◌<◌, [], ◌∷◌, ◌++◌, length, slice_index_or};
 ghost use mathlib.Core.List.{IsPrefix};
 ghost use Rattle.cache_core.specs.Histories.{own};

@@ -5,8 +5,8 @@ ghost use Rattle.outside.specs.Counts.{HasCause};
 ghost use Rattle.outside.specs.FontKeys.{IsFontKey};
 ghost use Rattle.font_decode.specs.Decoding.{IsFontOf};
 ghost use Rattle.font_decode.specs.Desks.{GrewBy, GrewByAtMost, TrailGrew};
-ghost use Rattle.page_workers.specs.Paper.{HasNoPaper};
-ghost use Rattle.page_workers.specs.Seats.{IsAt, asked_at, room_at, trail_at};
+ghost use Rattle.page_workers.specs.SparePages.{HasNoSparePages};
+ghost use Rattle.page_workers.specs.Seats.{SeatFits, asked_at, room_at, trail_at};
 
 use crate::Bench;
 use crate::keeping::keep;
@@ -44,11 +44,12 @@ pub struct Worker<F: FontSource> {
     /// Its seat at the counter of a round, while it draws the round's pages.
     pub counter: Option<CounterSeat>,
     /// Pages that were written, on whose memory it draws again.
-    pub paper: Vec<Page>,
+    pub spare_pages: Vec<Page>,
 }
 
 impl<F: FontSource> Worker<F> {
-    /// A worker without seats, results, pages and paper, and with no loads. It takes no memory.
+    /// A worker without seats, results and pages, also spare ones, and with no loads. It takes no
+    /// memory.
     pub fn new(alloc: Global, source: F) -> Worker<F>
         ensures source { result.source ≡ source }
         ensures seat { result.seat ≡ None }
@@ -56,7 +57,7 @@ impl<F: FontSource> Worker<F> {
         ensures loads { result.loads ≡ 0 }
         ensures pages { result.pages.items ≡ [] }
         ensures counter { result.counter ≡ None }
-        ensures paper { HasNoPaper result }
+        ensures spare_pages { HasNoSparePages result }
     {
         Worker {
             source,
@@ -65,13 +66,13 @@ impl<F: FontSource> Worker<F> {
             loads: 0,
             pages: Vec::new(alloc),
             counter: None,
-            paper: Vec::new(alloc),
+            spare_pages: Vec::new(alloc),
         }
     }
 }
 
 impl<F: FontSource> Desk for Worker<F> {
-    ghost use Rattle.page_workers.specs.Seats.{Fits, library_at, units_at, asked_at, trail_at, room_at, units_told, asked_told};
+    ghost use Rattle.page_workers.specs.Seats.{BenchFits, library_at, units_at, asked_at, trail_at, room_at, units_known, asked_known};
 
     type Shared = Bench;
 
@@ -79,7 +80,7 @@ impl<F: FontSource> Desk for Worker<F> {
 
     ghost units = { λ w. units_at w.seat };
 
-    ghost fits = { λ w bench. Fits (F.library w.source) bench w.seat };
+    ghost fits = { λ w bench. BenchFits (F.library w.source) bench w.seat };
 
     ghost faults = { λ w. F.faults w.source };
 
@@ -89,9 +90,9 @@ impl<F: FontSource> Desk for Worker<F> {
 
     ghost room = { λ w. room_at w.loads w.seat };
 
-    ghost told = { λ w some. units_told w.seat some };
+    ghost known = { λ w some. units_known w.seat some };
 
-    ghost asks = { λ w some. asked_told (F.loads w.source) w.loads w.seat some };
+    ghost asks = { λ w some. asked_known (F.loads w.source) w.loads w.seat some };
 
     fn font<R: Wait>(
         &mut self,
@@ -126,13 +127,13 @@ fn ask<R: Wait, F: FontSource>(
     loads: &mut u64,
     key: &Arc<FontKey>,
 ) -> Result<Arc<Decoded>, DeskStop>
-    requires fits { IsAt (F.library source.old) bench.now seat.old }
+    requires fits { SeatFits (F.library source.old) bench.now seat.old }
     requires room { 1 ≤ room_at loads.old (Some seat.old) }
     requires key { IsFontKey (arc_value key.now) }
     ensures found { IfOk result (λ font. IsFontOf seat.old.view.part.library
         (Some seat.old.view.part.units) (arc_value key.now) (arc_value font)) }
     ensures part { seat.new.view.part ≡ seat.old.view.part }
-    ensures fits { IsAt (F.library source.new) bench.now seat.new }
+    ensures fits { SeatFits (F.library source.new) bench.now seat.new }
     ensures room { room_at loads.old (Some seat.old) ≤ room_at loads.new (Some seat.new) + 1 }
     ensures cause { HasCause (F.faults source.old) (F.faults source.new)
         (IsErrOf result DeskStop.SourceFault) }

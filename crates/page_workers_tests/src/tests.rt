@@ -5,9 +5,9 @@ mod crew;
 mod files;
 mod opening;
 mod outcome;
-mod paper;
 mod rows;
 mod source;
+mod spare_pages;
 
 use crew::{crew, one_round};
 use files::document;
@@ -21,12 +21,12 @@ use std::thread::Threads;
 
 // What a round of all pages of a document comes to.
 fn told<R: Threads + Wait + Sync>(rt: &R, alloc: Global, case: &Case) -> Result<OfRound, Fail> {
-    let (count, fonts, pages, plan, paper, by_chance) = *case;
+    let (count, fonts, pages, plan, spare_pages, by_chance) = *case;
     let bytes = document(alloc, pages)?;
     let Ok(index) = Index::read(alloc, &bytes, 300) else {
         return Err(Fail::from("no document"));
     };
-    let mut workers = crew(alloc, usize::from(count).max(1).min(32), plan, paper)?;
+    let mut workers = crew(alloc, usize::from(count).max(1).min(32), plan, spare_pages)?;
     let history = one_round(rt, alloc, &mut workers, usize::from(fonts).max(1), &index)?;
     Ok(round_told(&workers, &history, by_chance))
 }

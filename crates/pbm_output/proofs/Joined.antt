@@ -10,9 +10,9 @@ joined : (w h rows : List ℕ) → codes "P4" ++ 10 ∷ w ++ 32 ∷ h ++ 10 ∷ 
 joined w h rows = simp append_assoc
 
 -- the text from the pieces that were put
-pub told : (w h rows width height bytes : List ℕ) → width ≡ w → height ≡ h → bytes ≡ rows
+pub text_joined : (w h rows width height bytes : List ℕ) → width ≡ w → height ≡ h → bytes ≡ rows
     → codes "P4" ++ 10 ∷ w ++ 32 ∷ h ++ 10 ∷ rows ≡ codes "P4\n" ++ width ++ codes " " ++ height ++ codes "\n" ++ bytes
-told w h rows width height bytes e f k =
+text_joined w h rows width height bytes e f k =
     joined w h rows ∙ ap (λ l. codes "P4\n" ++ l ++ codes " " ++ h ++ codes "\n" ++ rows) (sym e)
     ∙ ap (λ l. codes "P4\n" ++ width ++ codes " " ++ l ++ codes "\n" ++ rows) (sym f) ∙ ap (λ l. codes "P4\n" ++ width ++ codes " " ++ height ++ codes "\n" ++ l) (sym k)
 

@@ -1,2 +1,2 @@
+pub mod Determined
 pub mod Joined
-pub mod Told

@@ -28,6 +28,6 @@ pub record IsSized (page : Bitmap) : Type 0 where
   pub high : length page.rows ≡ page.height
   pub wide : All (λ row. length row ≡ page.width) page.rows
 
--- the text tells the page
-abbrev pub TextsTellThePage : Type 0
-TextsTellThePage = (a b : Bitmap) → IsSized a → IsSized b → page_text a ≡ page_text b → a ≡ b
+-- the text determines the page
+abbrev pub TextsDetermineThePage : Type 0
+TextsDetermineThePage = (a b : Bitmap) → IsSized a → IsSized b → page_text a ≡ page_text b → a ≡ b

@@ -4,5 +4,5 @@
 mod laws;
 mod write;
 
-pub use laws::{lengths, told_pages, worked_page};
+pub use laws::{determined_pages, lengths, worked_page};
 pub use write::{WriteFault, write_page};

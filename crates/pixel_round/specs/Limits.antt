@@ -2,5 +2,5 @@
 use Rattle.std.specs.Prelude.{ℕ}
 
 -- the most dots to the inch
-abbrev pub HIGHEST_RESOLUTION : ℕ
-HIGHEST_RESOLUTION = 4800
+abbrev pub MAX_RESOLUTION : ℕ
+MAX_RESOLUTION = 4800

@@ -2,7 +2,7 @@
 
 ghost use Rattle.std.specs.Prelude.{◌≡◌, ◌+◌, ◌*◌, ◌/◌, ◌^◌, ◌<◌, ◌≤◌, ◌<ℤ◌, ◌↔◌, pos, unsigned_abs, IfOk, IsErr};
 ghost use Rattle.std.specs.Int.{div_ceil};
-ghost use Rattle.pixel_round.specs.Limits.{HIGHEST_RESOLUTION};
+ghost use Rattle.pixel_round.specs.Limits.{MAX_RESOLUTION};
 ghost use Rattle.pixel_round.specs.Pixels.{AreEqual, conversion, nearest, round, ceil, IsUsable};
 
 use crate::quotients::{gcd, quotient, quotient_by, quotient_up, reciprocal_of};
@@ -59,7 +59,7 @@ impl Conv {
         requires num { (0 < units.now.num) × (units.now.num < 2 ^ 31) }
         requires den { (0 < units.now.den) × (units.now.den < 2 ^ 31) }
         requires mag { (0 < units.now.mag) × (units.now.mag < 2 ^ 31) }
-        requires res { (0 < units.now.res) × (units.now.res ≤ HIGHEST_RESOLUTION) }
+        requires res { (0 < units.now.res) × (units.now.res ≤ MAX_RESOLUTION) }
         ensures made { IfOk result (λ c. AreEqual c (conversion units.now)) }
         ensures usable { IfOk result IsUsable }
         ensures refused { IsErr result ↔ (512 * (conversion units.now).bottom <

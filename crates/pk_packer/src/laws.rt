@@ -18,8 +18,8 @@ pub fn runs_written()
     ensures one { NumbersHaveOneSpelling }
 {}
 
-/// A raster is told by its pixels. A plain bitmap has as few bytes as its pixels take, and its last
-/// bits are zero.
+/// A raster is determined by its pixels. A plain bitmap has as few bytes as its pixels take, and
+/// its last bits are zero.
 pub fn plain_bitmaps()
     ensures seen { ShapedRastersAreTheirPixels }
     ensures packed { PlainBitmapsArePacked }

@@ -1,7 +1,7 @@
 //! The runs of a raster, measured and written.
 
 ghost use Rattle.std.specs.Prelude.{◌≡◌, ◌<◌, ◌≤◌, ℕ, IfOk, slice_index};
-ghost use Rattle.pk_runs.specs.Limits.{LONGEST_SIDE};
+ghost use Rattle.pk_runs.specs.Limits.{MAX_GLYPH_SIDE};
 ghost use Rattle.pk_packer.specs.Choice.{length_of};
 ghost use Rattle.pk_packer.specs.Spelling.{HoldNybbles, items_text};
 ghost use Rattle.pk_packer.specs.Written.{pixel_rows, written_runs};
@@ -16,8 +16,8 @@ use std::alloc::{AllocError as NoMemory, Global};
 
 /// The length of the runs by each `dyn_f`.
 pub fn lengths_of(bits: &PackedBitmap) -> Lengths
-    requires narrow { bits.now.width ≤ LONGEST_SIDE }
-    requires short { bits.now.height ≤ LONGEST_SIDE }
+    requires narrow { bits.now.width ≤ MAX_GLYPH_SIDE }
+    requires short { bits.now.height ≤ MAX_GLYPH_SIDE }
     ensures { (f : ℕ) → f < 14 → slice_index result f ≡ length_of bits.now f }
 {
     let mut lengths = Lengths::none();
@@ -40,8 +40,8 @@ pub fn runs_in_bytes(
     size: usize,
 ) -> Result<Vec<u8>, NoMemory>
     requires form { dyn_f ≤ 13 }
-    requires narrow { bits.now.width ≤ LONGEST_SIDE }
-    requires short { bits.now.height ≤ LONGEST_SIDE }
+    requires narrow { bits.now.width ≤ MAX_GLYPH_SIDE }
+    requires short { bits.now.height ≤ MAX_GLYPH_SIDE }
     ensures { IfOk result (λ bytes. HoldNybbles bytes.items
         (items_text dyn_f (written_runs (pixel_rows bits.now)))) }
 {

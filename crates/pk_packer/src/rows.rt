@@ -7,7 +7,8 @@ ghost use Rattle.pk_packer.specs.Written.{has_both_colours, pixel_rows};
 use crate::row::run_end;
 use packed_rows::{PackedBitmap, is_black};
 
-/// How many copies of a row stand below it that are not written: none where it has one colour.
+/// How many rows below a row are copies of it that are not written: none where the row has one
+/// colour.
 pub fn copies_below(bits: &PackedBitmap, y: u32) -> u32
     requires some { 1 ≤ bits.now.width }
     requires inside { y < bits.now.height }

@@ -2,7 +2,7 @@
 
 ghost use Rattle.std.specs.Prelude.{◌≡◌, ◌+◌, ◌^◌, ◌<◌, ◌≤◌, ◌∷◌, List, [], MatchOption};
 ghost use Rattle.pk_runs.specs.Numbers.{Item, Run};
-ghost use Rattle.pk_runs.specs.Limits.{LONGEST_SIDE};
+ghost use Rattle.pk_runs.specs.Limits.{MAX_GLYPH_SIDE};
 ghost use Rattle.pk_packer.specs.Written.{pixel_rows, with_count, written_runs};
 ghost use Rattle.pk_packer.specs.Places.{IsPlace, IsReached, pixels_after};
 
@@ -21,8 +21,8 @@ pub struct Step {
 /// The run that begins at a place, if one does.
 pub fn next_run(bits: &PackedBitmap, place: Place) -> Option<Step>
     requires some { 1 ≤ bits.now.width }
-    requires narrow { bits.now.width ≤ LONGEST_SIDE }
-    requires short { bits.now.height ≤ LONGEST_SIDE }
+    requires narrow { bits.now.width ≤ MAX_GLYPH_SIDE }
+    requires short { bits.now.height ≤ MAX_GLYPH_SIDE }
     requires place { IsPlace bits.now place }
     ensures step { (items : List Item) → IsReached bits.now place items →
         MatchOption result (items ≡ written_runs (pixel_rows bits.now))

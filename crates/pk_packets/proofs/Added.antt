@@ -3,10 +3,10 @@ use Rattle.std.proofs.Common.{◌≡◌, ◌∙◌, ◌+◌, ◌*◌, ◌≤◌,
 use Rattle.std.specs.Prelude.{◌==◌, ◌&&◌, if◌then◌else◌}
 use Rattle.std.specs.Int.{div_ceil}
 use Rattle.std.proofs.lemmas.Bool.{cases_Bool, le-ltb}
-use Rattle.pk_runs.specs.Limits.{LONGEST_SIDE, MAX_RASTER_BYTES}
+use Rattle.pk_runs.specs.Limits.{MAX_GLYPH_SIDE, MAX_RASTER_BYTES}
 use Rattle.pk_runs.specs.Raster.{IsRaster}
 use Rattle.pk_runs.specs.declared.glyph.Glyph.{Glyph}
-use Rattle.pk_packets.specs.Items.{is_packet, opcode, told_size}
+use Rattle.pk_packets.specs.Items.{is_packet, opcode, given_size}
 use Rattle.pk_packets.specs.Packets.{code_of, dyn_f_of, fixed_size, raster_height, is_first_black, packet_fault, raster_size, raster_sum, raster_width}
 use Rattle.pk_packets.specs.Reading.{IsPacketOf}
 use Rattle.pk_packets.specs.declared.packet.Packet.{Packet}
@@ -16,10 +16,10 @@ pub sum_added : (bytes : List ℕ) (before : List (List ℕ)) (sum : ℕ) → is
 sum_added bytes before sum kind e = e ∙ ap (λ b. raster_sum before + (if b then raster_size bytes else 0)) (sym kind)
 
 -- where a packet passes each limit nothing but its runs can be wrong
-pub within_limits : (bytes : List ℕ) (before : List (List ℕ)) → fixed_size (opcode bytes) ≤ told_size bytes → raster_width bytes ≤ LONGEST_SIDE → raster_height bytes ≤ LONGEST_SIDE
+pub within_limits : (bytes : List ℕ) (before : List (List ℕ)) → fixed_size (opcode bytes) ≤ given_size bytes → raster_width bytes ≤ MAX_GLYPH_SIDE → raster_height bytes ≤ MAX_GLYPH_SIDE
     → raster_sum before + raster_size bytes ≤ MAX_RASTER_BYTES → packet_fault before bytes ≡ None
 within_limits bytes before long narrow low few =
-    rw (le-ltb (told_size bytes) (fixed_size (opcode bytes)) long, le-ltb LONGEST_SIDE (raster_width bytes) narrow, le-ltb LONGEST_SIDE (raster_height bytes) low, le-ltb MAX_RASTER_BYTES (raster_sum before + raster_size bytes) few) refl
+    rw (le-ltb (given_size bytes) (fixed_size (opcode bytes)) long, le-ltb MAX_GLYPH_SIDE (raster_width bytes) narrow, le-ltb MAX_GLYPH_SIDE (raster_height bytes) low, le-ltb MAX_RASTER_BYTES (raster_sum before + raster_size bytes) few) refl
 
 -- which packet has a code now
 chosen : (item : List ℕ) (before : List (List ℕ)) (k : ℕ) (a b : Bool) → is_packet item ≡ a → (code_of item == k) ≡ b
@@ -48,7 +48,7 @@ sum_kept item before kind = ap (λ b. raster_sum before + (if b then raster_size
 
 -- what is read of a sound packet, for the sum and the font
 pub packet_added : (p : Packet) (bytes : List ℕ) (before : List (List ℕ)) (sum new_sum : ℕ) (g : Glyph) (old new : Glyphs) → IsPacketOf p bytes → is_packet bytes ≡ true
-    → fixed_size (opcode bytes) ≤ told_size bytes → p.width ≤ LONGEST_SIDE → p.height ≤ LONGEST_SIDE → new_sum ≡ sum + p.height * div_ceil p.width 8 → new_sum ≤ MAX_RASTER_BYTES
+    → fixed_size (opcode bytes) ≤ given_size bytes → p.width ≤ MAX_GLYPH_SIDE → p.height ≤ MAX_GLYPH_SIDE → new_sum ≡ sum + p.height * div_ceil p.width 8 → new_sum ≤ MAX_RASTER_BYTES
     → IsRaster p.raster.now p.dyn_f p.black p.width p.height g.raster → g.hoff ≡ p.hoff → g.voff ≡ p.voff
     → ((k : ℕ) → glyph_of new k ≡ (if p.code == k then Some g else glyph_of old k)) → sum ≡ raster_sum before → HasGlyphsOf before old
     → (new_sum ≡ raster_sum (bytes ∷ before)) × IsPacketSound before bytes × HasGlyphsOf (bytes ∷ before) new
@@ -59,7 +59,7 @@ packet_added p bytes before sum new_sum g old new is kind long narrow low total 
     (subst (λ (b : Bool). IsRaster p.raster.now p.dyn_f b (raster_width bytes) (raster_height bytes) g.raster) is.black
     (subst (λ (w : ℕ). IsRaster p.raster.now p.dyn_f p.black w (raster_height bytes) g.raster) is.width
     (subst (λ (h : ℕ). IsRaster p.raster.now p.dyn_f p.black p.width h g.raster) is.height raster)))) in
-    let fits : packet_fault before bytes ≡ None = within_limits bytes before long (subst (λ n. n ≤ LONGEST_SIDE) is.width narrow) (subst (λ n. n ≤ LONGEST_SIDE) is.height low) (subst (λ n. n ≤ MAX_RASTER_BYTES) whole few) in
+    let fits : packet_fault before bytes ≡ None = within_limits bytes before long (subst (λ n. n ≤ MAX_GLYPH_SIDE) is.width narrow) (subst (λ n. n ≤ MAX_GLYPH_SIDE) is.height low) (subst (λ n. n ≤ MAX_RASTER_BYTES) whole few) in
     let of : IsGlyphOf bytes g = record { raster = here; hoff = hoff ∙ is.hoff; voff = voff ∙ is.voff } in (
       sum_added bytes before new_sum kind whole,
       (fits, g.raster, here),

@@ -7,7 +7,7 @@ use Rattle.std.proofs.lemmas.List.{drop-drop, drop_at, length-append, take_at}
 use Rattle.big_endian.specs.Fields.{signed_at, unsigned_at}
 use Rattle.big_endian.specs.Numbers.{IsSigned, number_bytes, signed_of, unsigned_of}
 use Rattle.big_endian.proofs.Bytes.{length-number_bytes, signed_is_read_again, unsigned_is_read_again}
-use Rattle.pk_packets.specs.Items.{by_form, code_size, count_size, head_size, told_by_opcode}
+use Rattle.pk_packets.specs.Items.{by_form, code_size, count_size, head_size, given_by_opcode}
 use Rattle.pk_packets.specs.Packets.{escapement_size, fixed_size, side_size, sides_at}
 use Rattle.pk_packets.specs.Written.{ExtendedPacketsAreReadAgain, Fields, IsReadAs, LongPacketsAreReadAgain, ShortPacketsAreReadAgain, flag_with, packet_bytes}
 
@@ -32,7 +32,7 @@ record IsForm (flag c k e n t : ℕ) : Type 0 where
   code : code_size flag ≡ k
   escapements : escapement_size flag ≡ e
   side : side_size flag ≡ n
-  told : told_by_opcode flag ≡ t
+  given : given_by_opcode flag ≡ t
 
 short_form : {A : Type 0} (flag : ℕ) (a b c : A) → flag % 8 ≤ 3 → by_form flag a b c ≡ a
 short_form flag a b c low = rw (le-leb (flag % 8) 3 low) refl
@@ -55,7 +55,7 @@ is_short flag packet low = record {
   code = of_packet flag _ _ packet ∙ short_form flag 1 1 4 low;
   escapements = short_form flag 4 5 12 low;
   side = short_form flag 1 2 4 low;
-  told = of_packet flag _ _ packet ∙ short_form flag (flag % 4 * 256) (flag % 4 * 65536) 0 low;
+  given = of_packet flag _ _ packet ∙ short_form flag (flag % 4 * 256) (flag % 4 * 65536) 0 low;
 }
 
 is_extended : (flag : ℕ) → flag < 240 → 4 ≤ flag % 8 → flag % 8 ≤ 6 → IsForm flag 2 1 5 2 (flag % 4 * 65536)
@@ -64,7 +64,7 @@ is_extended flag packet above low = record {
   code = of_packet flag _ _ packet ∙ extended_form flag 1 1 4 above low;
   escapements = extended_form flag 4 5 12 above low;
   side = extended_form flag 1 2 4 above low;
-  told = of_packet flag _ _ packet ∙ extended_form flag (flag % 4 * 256) (flag % 4 * 65536) 0 above low;
+  given = of_packet flag _ _ packet ∙ extended_form flag (flag % 4 * 256) (flag % 4 * 65536) 0 above low;
 }
 
 is_long : (flag : ℕ) → flag < 240 → 7 ≤ flag % 8 → IsForm flag 4 4 12 4 0
@@ -73,7 +73,7 @@ is_long flag packet above = record {
   code = of_packet flag _ _ packet ∙ long_form flag 1 1 4 above;
   escapements = long_form flag 4 5 12 above;
   side = long_form flag 1 2 4 above;
-  told = of_packet flag _ _ packet ∙ long_form flag (flag % 4 * 256) (flag % 4 * 65536) 0 above;
+  given = of_packet flag _ _ packet ∙ long_form flag (flag % 4 * 256) (flag % 4 * 65536) 0 above;
 }
 
 -- ---- what a flag says beside its low three bits
@@ -131,13 +131,13 @@ read_again f flag c k e n t m form is some_c few_c some_k few_k some few fits_m 
     let at_hoff : sides_at flag + 2 * s ≡ sides_at flag + s + s = omega arith in
     let at_voff : sides_at flag + 3 * s ≡ sides_at flag + s + s + s = omega arith in
     let at_raster : head_size flag + fixed_size flag ≡ sides_at flag + s + s + s + s = omega arith in
-    let told : unsigned_at bytes 1 (count_size flag) ≡ m = number bytes after_count 1 (count_size flag) c m form.count some_c few_c fits_m refl in
+    let given : unsigned_at bytes 1 (count_size flag) ≡ m = number bytes after_count 1 (count_size flag) c m form.count some_c few_c fits_m refl in
     record {
       item = record {
         known = omega (arith, is.packet);
         not_closing = not_post flag is.packet;
         whole = long (number_bytes c (pos m)) (number_bytes k (pos f.code)) f.escapements (number_bytes n (pos f.width)) (number_bytes n (pos f.height)) (number_bytes n f.hoff) (number_bytes n f.voff) f.raster
-            c k e n t m (count_size flag) (code_size flag) (told_by_opcode flag) (unsigned_at bytes 1 (count_size flag)) len_m len_code escapements len_w len_h len_x len_y form.count form.code form.told told total;
+            c k e n t m (count_size flag) (code_size flag) (given_by_opcode flag) (unsigned_at bytes 1 (count_size flag)) len_m len_code escapements len_w len_h len_x len_y form.count form.code form.given given total;
       };
       kind = lt-ltb flag 240 is.packet;
       code = number bytes after_code (1 + count_size flag) (code_size flag) k f.code form.code some_k few_k fits_code p1;

@@ -1,10 +1,10 @@
--- The size of an item is told by its own bytes, so no item begins another.
+-- The size of an item is determined by its own bytes, so no item begins another.
 use Rattle.std.proofs.Common.{◌≡◌, ◌∙◌, ◌+◌, ◌≤◌, ◌<◌, inl, inr, ℕ, List, [], ◌∷◌, ◌++◌, length, take, drop, refl, sym, ap, subst, arith}
 use Rattle.std.proofs.lemmas.Bool.{cases_lt, eq-eqb, true≢false}
 use Rattle.std.proofs.lemmas.List.{drop-append-le, drop_at, get_or-take, length-append, length-drop, length-take-le, take-append-drop, take-append-le, take_at}
 use Rattle.big_endian.specs.Fields.{unsigned_at}
 use Rattle.big_endian.specs.Numbers.{unsigned_of}
-use Rattle.pk_packets.specs.Items.{IsCut, IsItem, count_size, head_size, item_size, opcode, told_by_opcode}
+use Rattle.pk_packets.specs.Items.{IsCut, IsItem, count_size, head_size, item_size, opcode, given_by_opcode}
 use Rattle.pk_packets.specs.Laws.{NoItemBeginsAnother}
 
 pub same_opcode : (item more : List ℕ) → 0 < length item → opcode (item ++ more) ≡ opcode item
@@ -22,8 +22,8 @@ pub same_size : (item more : List ℕ) → head_size (opcode item) ≤ length it
 same_size item more head =
     let op = opcode item in
     let some : 0 < length item = omega arith in
-    ap (λ o. head_size o + (told_by_opcode o + unsigned_at (item ++ more) 1 (count_size o))) (same_opcode item more some)
-    ∙ ap (λ n. head_size op + (told_by_opcode op + n)) (same_number item more 1 (count_size op) (omega arith))
+    ap (λ o. head_size o + (given_by_opcode o + unsigned_at (item ++ more) 1 (count_size o))) (same_opcode item more some)
+    ∙ ap (λ n. head_size op + (given_by_opcode op + n)) (same_number item more 1 (count_size op) (omega arith))
 
 pub has_head : (item : List ℕ) → IsItem item → head_size (opcode item) ≤ length item
 has_head item h = omega (arith, h.whole)

@@ -21,7 +21,7 @@ use Rattle.pk_packets.proofs.ItemLists.{Begins, cancelled, items_agree, next_ite
 
 -- ---- packets
 
--- the flag of a packet tells a form of at most 14
+-- the flag of a packet determines a form of at most 14
 pub small_form : (packet : List ℕ) → is_packet packet ≡ true → dyn_f_of packet ≤ 14
 small_form packet kind = let low : opcode packet < 240 = ltb-true _ _ kind in omega (arith, low)
 

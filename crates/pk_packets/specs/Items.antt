@@ -27,18 +27,18 @@ code_size op = if nat_lt op 240 then by_form op 1 1 4 else 0
 abbrev pub head_size : ℕ → ℕ
 head_size op = 1 + count_size op + code_size op
 
--- then as many bytes follow as the opcode and the count tell. The low two bits of a flag are the
+-- then as many bytes follow as the opcode and the count give. The low two bits of a flag are the
 -- high bits of the length, in the short and the extended form; a y is a number of four bytes
-abbrev pub told_by_opcode : ℕ → ℕ
-told_by_opcode op =
+abbrev pub given_by_opcode : ℕ → ℕ
+given_by_opcode op =
     if nat_lt op 240 then by_form op (op % 4 * 256) (op % 4 * 65536) 0 else if op == 244 then 4
     else 0
 
-abbrev pub told_size : List ℕ → ℕ
-told_size bytes = told_by_opcode (opcode bytes) + unsigned_at bytes 1 (count_size (opcode bytes))
+abbrev pub given_size : List ℕ → ℕ
+given_size bytes = given_by_opcode (opcode bytes) + unsigned_at bytes 1 (count_size (opcode bytes))
 
 abbrev pub item_size : List ℕ → ℕ
-item_size bytes = head_size (opcode bytes) + told_size bytes
+item_size bytes = head_size (opcode bytes) + given_size bytes
 
 -- the bytes of one whole item, other than the closing command
 pub record IsItem (bytes : List ℕ) : Type 0 where

@@ -3,10 +3,10 @@
 use Rattle.std.specs.Prelude.{ℕ, ◌+◌, ◌*◌, ◌/◌, ◌%◌, ℤ, Bool, ◌||◌, List, [], ◌∷◌, drop, nat_lt, ◌==◌, if◌then◌else◌, Option, Some, None}
 use Rattle.std.specs.Int.{div_ceil}
 use Rattle.big_endian.specs.Fields.{unsigned_at, signed_at}
-use Rattle.pk_packets.specs.Items.{by_form, code_size, count_size, head_size, is_packet, opcode, told_size}
+use Rattle.pk_packets.specs.Items.{by_form, code_size, count_size, head_size, is_packet, opcode, given_size}
 use Rattle.pk_packets.specs.declared.faults.PkFault.{PkFault}
 use Rattle.pk_packets.specs.declared.faults.PkFault.TheVariants.{TooBig, FontTooBig, Length}
-use Rattle.pk_runs.specs.Limits.{LONGEST_SIDE, MAX_RASTER_BYTES}
+use Rattle.pk_runs.specs.Limits.{MAX_GLYPH_SIDE, MAX_RASTER_BYTES}
 
 -- ---- the fields
 
@@ -18,7 +18,7 @@ escapement_size flag = by_form flag 4 5 12
 abbrev pub side_size : ℕ → ℕ
 side_size flag = by_form flag 1 2 4
 
--- those of the bytes told by the length that each packet of the form has
+-- those of the bytes given by the length that each packet of the form has
 abbrev pub fixed_size : ℕ → ℕ
 fixed_size flag = escapement_size flag + 4 * side_size flag
 
@@ -70,8 +70,8 @@ raster_sum (item ∷ before) = raster_sum before + (if is_packet item then raste
 -- what is wrong with a whole packet after these items, its runs apart
 abbrev pub packet_fault : List (List ℕ) → List ℕ → Option PkFault
 packet_fault before bytes =
-    if nat_lt (told_size bytes) (fixed_size (opcode bytes)) then Some (Length (code_of bytes))
-    else if nat_lt LONGEST_SIDE (raster_width bytes) || nat_lt LONGEST_SIDE (raster_height bytes)
-    then Some (TooBig (code_of bytes))
+    if nat_lt (given_size bytes) (fixed_size (opcode bytes)) then Some (Length (code_of bytes))
+    else if nat_lt MAX_GLYPH_SIDE (raster_width bytes) || nat_lt MAX_GLYPH_SIDE
+    (raster_height bytes) then Some (TooBig (code_of bytes))
     else if nat_lt MAX_RASTER_BYTES (raster_sum before + raster_size bytes) then Some FontTooBig
     else None

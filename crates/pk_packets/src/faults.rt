@@ -3,7 +3,7 @@ use byte_cursor::Short;
 use pk_runs::{RunFault, RunStop};
 use std::alloc::AllocError;
 
-/// What is wrong with a PK file: the first fault, by items in the order of the file. Of a packet a
+/// What is wrong with a PK file: the first fault, by items in the order of the file. In a packet, a
 /// length that is too small comes first, then a side that is too long, then the sum of the rasters,
 /// then its runs.
 #[derive(Clone, Copy, Debug, PartialEq, Eq, thiserror::Error)]
@@ -23,7 +23,8 @@ pub enum PkFault {
     /// The raster's bytes of this character stand for no raster.
     #[error("the runs of character {0}: {1}")]
     Runs(u32, RunFault),
-    /// The rasters of the packets up to here, of replaced ones too, take more than 8,388,608 bytes.
+    /// The rasters of the packets up to here, with those that were replaced, take more than
+    /// 8,388,608 bytes.
     #[error("the font is too big")]
     FontTooBig,
     /// This character's packet is too short for the fields of its form.

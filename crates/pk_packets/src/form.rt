@@ -1,6 +1,6 @@
 //! The three forms of a character packet.
 ghost use Rattle.std.specs.Prelude.{◌≡◌, ◌<◌, ◌≤◌};
-ghost use Rattle.pk_packets.specs.Items.{code_size, count_size, told_by_opcode};
+ghost use Rattle.pk_packets.specs.Items.{code_size, count_size, given_by_opcode};
 ghost use Rattle.pk_packets.specs.Packets.{escapement_size, side_size};
 
 /// How many bytes the fields of a form have: the length, the code, the width and the escapements
@@ -54,7 +54,7 @@ impl Form {
 /// What a packet's flag adds to its length.
 pub fn high_bits(flag: u8) -> usize
     requires { flag < 240 }
-    ensures bits { result ≡ told_by_opcode flag }
+    ensures bits { result ≡ given_by_opcode flag }
     ensures few { result ≤ 196608 }
 {
     let low = usize::from(flag % 4);

@@ -9,7 +9,7 @@ ghost use Rattle.pk_runs.specs.Limits as limits;
 
 use crate::packet::Packet;
 use crate::{PkFault, PkStop};
-use pk_runs::{Glyph, LONGEST_SIDE, MAX_RASTER_BYTES, RunStop, raster};
+use pk_runs::{Glyph, MAX_GLYPH_SIDE, MAX_RASTER_BYTES, RunStop, raster};
 use std::alloc::Global;
 
 /// The bytes that the rasters take with this packet's, where those before it take n. `TooBig`
@@ -19,16 +19,16 @@ pub fn sum_with(packet: &Packet, before: u32) -> Result<u32, PkFault>
     ensures sum { IfOk result (λ sum. sum ≡ before + packet.now.height
         * div_ceil packet.now.width 8) }
     ensures few { IfOk result (λ sum. sum ≤ limits.MAX_RASTER_BYTES) }
-    ensures narrow { OnOk result (packet.now.width ≤ limits.LONGEST_SIDE) }
-    ensures low { OnOk result (packet.now.height ≤ limits.LONGEST_SIDE) }
+    ensures narrow { OnOk result (packet.now.width ≤ limits.MAX_GLYPH_SIDE) }
+    ensures low { OnOk result (packet.now.height ≤ limits.MAX_GLYPH_SIDE) }
     ensures fault { IfErr result (λ f.
-        (((limits.LONGEST_SIDE < packet.now.width) ⊎ (limits.LONGEST_SIDE < packet.now.height))
+        (((limits.MAX_GLYPH_SIDE < packet.now.width) ⊎ (limits.MAX_GLYPH_SIDE < packet.now.height))
         × (f ≡ fault.TooBig packet.now.code))
-        ⊎ ((packet.now.width ≤ limits.LONGEST_SIDE) × (packet.now.height ≤ limits.LONGEST_SIDE)
+        ⊎ ((packet.now.width ≤ limits.MAX_GLYPH_SIDE) × (packet.now.height ≤ limits.MAX_GLYPH_SIDE)
         × (limits.MAX_RASTER_BYTES < before + packet.now.height * div_ceil packet.now.width 8)
         × (f ≡ fault.FontTooBig))) }
 {
-    if packet.width > LONGEST_SIDE || packet.height > LONGEST_SIDE {
+    if packet.width > MAX_GLYPH_SIDE || packet.height > MAX_GLYPH_SIDE {
         return Err(PkFault::TooBig(packet.code));
     }
     let sum = before + packet.height * packet.width.div_ceil(8);
@@ -41,8 +41,8 @@ pub fn sum_with(packet: &Packet, before: u32) -> Result<u32, PkFault>
 /// The glyph that a packet's raster bytes stand for, or `Runs` with the fault of its runs.
 pub fn glyph(alloc: Global, packet: &Packet) -> Result<Glyph, PkStop>
     requires form { packet.now.dyn_f ≤ 14 }
-    requires narrow { packet.now.width ≤ limits.LONGEST_SIDE }
-    requires low { packet.now.height ≤ limits.LONGEST_SIDE }
+    requires narrow { packet.now.width ≤ limits.MAX_GLYPH_SIDE }
+    requires low { packet.now.height ≤ limits.MAX_GLYPH_SIDE }
     ensures raster { IfOk result
         (λ g. IsRaster packet.now.raster.now packet.now.dyn_f packet.now.black
         packet.now.width packet.now.height g.raster) }

@@ -1,4 +1,4 @@
-//! What is true of PK files, each law the contract of a function without a body.
+//! Laws of PK files, each the contract of a function without a body.
 ghost use Rattle.pk_packets.specs.Written.{ExtendedPacketsAreReadAgain, LongPacketsAreReadAgain, ShortPacketsAreReadAgain};
 ghost use Rattle.pk_packets.specs.Laws.{AnswersAreOne, CutFilesAreShort, FilesAreReadOneWay, FilesAreReadOrHaveAFault, FilesHaveNoFault, FirstFaultsAreOne, NoItemBeginsAnother, SoundItemsHaveGlyphs};
 

@@ -1,6 +1,6 @@
 //! Packed fonts: the glyphs of a PK file (Rokicki, PKtype, "Packed file format"). Every packet is
-//! judged at reading, also one that no page uses or that a later one replaces; the first fault of
-//! the file is answered. A glyph is found by its code's place in a table.
+//! judged when the file is read, even one that no page uses or that a later one replaces; the first
+//! fault of the file is answered. A glyph is found by its code's place in a table.
 #![tactic(auto)]
 
 pub mod examples;

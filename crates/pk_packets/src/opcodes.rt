@@ -9,7 +9,7 @@ pub const LAST_SPECIAL: u8 = 243;
 pub const NUMBER: u8 = 244;
 /// The closing command.
 pub const POST: u8 = 245;
-/// Nothing, and the last opcode that may stand after the preamble.
+/// Does nothing; the last opcode that is allowed after the preamble.
 pub const NO_OP: u8 = 246;
 /// The preamble.
 pub const PRE: u8 = 247;

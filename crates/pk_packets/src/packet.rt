@@ -1,7 +1,7 @@
 //! Character packets.
 ghost use Rattle.std.specs.Prelude.{◌≡◌, ◌≤◌, ◌<◌, ◌+◌, ◌*◌, IfErr, IfOk, IsTrue, OnOk, length};
 ghost use Rattle.big_endian.specs.Fields as fields;
-ghost use Rattle.pk_packets.specs.Items.{IsItem, is_packet, opcode, told_size};
+ghost use Rattle.pk_packets.specs.Items.{IsItem, is_packet, opcode, given_size};
 ghost use Rattle.pk_packets.specs.Packets.{code_of, fixed_size};
 ghost use Rattle.pk_packets.specs.Reading.{IsPacketOf};
 ghost use Rattle.pk_packets.specs.declared.faults.PkFault.TheVariants as fault;
@@ -9,8 +9,8 @@ ghost use Rattle.pk_packets.specs.declared.faults.PkFault.TheVariants as fault;
 use crate::PkFault;
 use crate::form::Form;
 
-/// The fields of a packet, apart from its width and escapements: what they are is told by PKtype.
-/// The sides and offsets are in dots.
+/// The fields of a packet, apart from its width and escapements: PKtype says what they are. The
+/// sides and offsets are in dots.
 #[derive(Drop)]
 pub struct Packet<'a> {
     pub code: u32,
@@ -49,9 +49,9 @@ impl<'a> Packet<'a> {
         requires item { IsItem bytes.now }
         requires packet { IsTrue (is_packet bytes.now) }
         ensures fields { IfOk result (λ p. IsPacketOf p bytes.now) }
-        ensures long { OnOk result (fixed_size (opcode bytes.now) ≤ told_size bytes.now) }
+        ensures long { OnOk result (fixed_size (opcode bytes.now) ≤ given_size bytes.now) }
         ensures fault { IfErr result (λ f. f ≡ fault.Length (code_of bytes.now)) }
-        ensures short { IfErr result (λ _. told_size bytes.now < fixed_size (opcode bytes.now)) }
+        ensures short { IfErr result (λ _. given_size bytes.now < fixed_size (opcode bytes.now)) }
     {
         let flag = bytes[0];
         let form = Form::of(flag);

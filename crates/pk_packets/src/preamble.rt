@@ -9,7 +9,7 @@ use byte_cursor::Cursor;
 // The bytes of the design size, the checksum and the two resolutions, which are passed over.
 const NUMBERS: usize = 16;
 
-/// What stands after the preamble, or what is wrong with it, judged from the left.
+/// What follows the preamble, or what is wrong with the preamble, judged from the left.
 pub fn after_preamble(bytes: &[u8]) -> Result<&[u8], PkFault>
     ensures rest { IfOk result (λ rest. rest.now ≡ drop (preamble_size bytes.now) bytes.now) }
     ensures right { OnOk result (preamble_fault bytes.now ≡ None) }

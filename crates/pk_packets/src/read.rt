@@ -18,10 +18,10 @@ use crate::{PkFont, PkStop};
 use std::alloc::Global;
 
 impl PkFont {
-    /// Reads the glyphs of a PK file, or tells its first fault. What stands after the closing
-    /// command 245 isn't looked at.
+    /// Reads the glyphs of a PK file, or answers its first fault. What follows the closing command
+    /// 245 isn't looked at.
     ///
-    /// Want of memory apart, the font comes exactly where the bytes are a PK file, and a fault
+    /// Unless memory runs out, the font comes exactly where the bytes are a PK file, and a fault
     /// exactly where it is their first.
     pub fn read(alloc: Global, bytes: &[u8]) -> Result<PkFont, PkStop>
         ensures glyphs { IfOk result (λ font. (items : List (List ℕ)) × IsPkFile bytes.now items

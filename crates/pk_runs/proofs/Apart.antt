@@ -2,7 +2,7 @@
 use Rattle.std.proofs.Common.{◌≡◌, ℕ, zero, suc, ◌+◌, ◌-◌, ◌*◌, ◌≤◌, ◌⊎◌, List, [], ◌∷◌, ◌++◌, length, take, replicate, refl, sym, ap, subst, ◌∙◌, arith, inl, inr, append_assoc}
 use Rattle.std.proofs.lemmas.List.{take_at, append-nil}
 use Rattle.pk_runs.specs.Numbers.{Item, Run, Repeat, SpellsNumber, SpellsItem, SpellsItems, hex_of, NoNumberBeginsAnother, NoItemBeginsAnother}
-use Rattle.pk_runs.specs.Raster.{Fits, rows_complete, rows_of, RunRastersAreOne}
+use Rattle.pk_runs.specs.Raster.{ItemsFit, rows_complete, rows_of, RunRastersAreOne}
 use Rattle.pk_runs.proofs.ListEnds.{split_last, cancelled}
 
 pub heads : (i j : ℕ) (s t : List ℕ) → i ∷ s ≡ j ∷ t → (i ≡ j) × (s ≡ t)
@@ -122,7 +122,7 @@ spells_older d (i ∷ newer) older v h =
     let r = spells_older d newer older h.0 h.3 in
     (r.0, r.1 ++ h.1, r.2, h.2 ∙ ap (λ l. l ++ h.1) r.3 ∙ append_assoc r.0 r.1 h.1)
 
-pub fits_older : (w h : ℕ) (newer older : List Item) → Fits w h (newer ++ older) → Fits w h older
+pub fits_older : (w h : ℕ) (newer older : List Item) → ItemsFit w h (newer ++ older) → ItemsFit w h older
 fits_older w h [] older f = f
 fits_older w h (i ∷ newer) older f = fits_older w h newer older f.0
 
@@ -154,11 +154,11 @@ items_agree d (i ∷ b) others u v x y h s t same =
     ]
 
 -- complete items take no further one
-pub complete_is_last : (w h : ℕ) (short long newer : List Item) (n : Item) → rows_complete w short ≡ h → Fits w h long → long ≡ (n ∷ newer) ++ short → ⊥
+pub complete_is_last : (w h : ℕ) (short long newer : List Item) (n : Item) → rows_complete w short ≡ h → ItemsFit w h long → long ≡ (n ∷ newer) ++ short → ⊥
 complete_is_last w h short long newer n complete fits e =
     let parts = split_last n newer in
     let regrouped : long ≡ parts.0 ++ (parts.1 ∷ short) = e ∙ ap (λ l. l ++ short) parts.2 ∙ append_assoc parts.0 (parts.1 ∷ []) short in
-    let older : Fits w h (parts.1 ∷ short) = fits_older w h parts.0 (parts.1 ∷ short) (subst (λ (l : List Item). Fits w h l) regrouped fits) in
+    let older : ItemsFit w h (parts.1 ∷ short) = fits_older w h parts.0 (parts.1 ∷ short) (subst (λ (l : List Item). ItemsFit w h l) regrouped fits) in
     absurd (omega (arith, older.1, complete))
 
 pub run_rasters_are_one : RunRastersAreOne

@@ -176,11 +176,11 @@ word_cut b word row last e =
 
 -- ---- what is seen
 
-abbrev pub seen : Bitmap → ℕ → ℕ → ℕ → ℕ → Bool → Bool → Painter
-seen b word row column copies repeated black = record { bits = with_word b word row (row + 1); row = row; column = column; copies = copies; repeated = repeated; black = black }
+abbrev pub value_of_painter : Bitmap → ℕ → ℕ → ℕ → ℕ → Bool → Bool → Painter
+value_of_painter b word row column copies repeated black = record { bits = with_word b word row (row + 1); row = row; column = column; copies = copies; repeated = repeated; black = black }
 
 pub seen_painted : (b : Bitmap) (word new row column copies n : ℕ) (repeated black : Bool) (old : Painter) → b.width < 64 → HasRun word black column (column + n) new
-    → seen b word row column copies repeated black ≡ old → seen b new row (column + n) copies repeated black ≡ painted old n
+    → value_of_painter b word row column copies repeated black ≡ old → value_of_painter b new row (column + n) copies repeated black ≡ painted old n
 seen_painted b word new row column copies n repeated black old narrow run e =
     ap (λ (q : Bitmap). make q) (word_painted b word new row column n black narrow run) ∙ ap (λ (p : Painter). painted p n) e
   where
@@ -188,9 +188,9 @@ seen_painted b word new row column copies n repeated black old narrow run e =
     make q = record { bits = q; row = row; column = column + n; copies = copies; repeated = repeated; black = black }
 
 pub seen_ended : (b new : Bitmap) (word row column copies : ℕ) (repeated black : Bool) (old : Painter) → new ≡ with_word b word row (row + 1 + copies) → old.row + old.copies < old.bits.height
-    → IsKept b word row column → seen b word row column copies repeated black ≡ old → seen new 0 (row + 1 + copies) 0 0 false black ≡ row_ended old
+    → IsKept b word row column → value_of_painter b word row column copies repeated black ≡ old → value_of_painter new 0 (row + 1 + copies) 0 0 false black ≡ row_ended old
 seen_ended b new word row column copies repeated black old set low kept e =
-    ap (λ (q : Bitmap). seen q 0 (row + 1 + copies) 0 0 false black) set
+    ap (λ (q : Bitmap). value_of_painter q 0 (row + 1 + copies) 0 0 false black) set
     ∙ ap (λ (q : Bitmap). make q (row + 1 + copies)) (word_copied b word row copies column inside kept)
     ∙ ap (λ (r : ℕ). make (with_copies (with_word b word row (row + 1)) row copies) r) next
     ∙ ap (λ (p : Painter). row_ended p) e

@@ -5,7 +5,7 @@ use Rattle.std.specs.Prelude.{◌==◌}
 use Rattle.std.specs.Bool.{MatchBool}
 use Rattle.packed_rows.specs.Bitmap.{Bitmap}
 use Rattle.pk_runs.specs.Numbers.{Item, Run, Repeat, SpellsItem, SpellsItems}
-use Rattle.pk_runs.specs.Raster.{Fits, CanAdd, CantGoOn, IsPlainRaster, IsRunRaster, IsStuck, has_repeat, next_row, rows_complete, is_empty, RunRastersAreNeverStuck, RastersHaveNoFault, RunFaultsAreOne, RastersAreOne}
+use Rattle.pk_runs.specs.Raster.{ItemsFit, CanAdd, CantGoOn, IsPlainRaster, IsRunRaster, IsStuck, has_repeat, next_row, rows_complete, is_empty, RunRastersAreNeverStuck, RastersHaveNoFault, RunFaultsAreOne, RastersAreOne}
 use Rattle.pk_runs.specs.declared.faults.RunFault.{RunFault}
 use Rattle.pk_runs.specs.declared.faults.RunFault.TheVariants as fault
 use Rattle.pk_runs.proofs.ListEnds.{split_last, cancelled}
@@ -52,12 +52,12 @@ one_there d w h items x fault.Overrun fault.Overrun small c e = refl
 
 -- a longer list of items has a next item after the shorter one, and there is no fault there
 no_fault_there : (d w h : ℕ) (short long newer : List Item) (n : Item) (u v x y : List ℕ) (f : RunFault) → d ≤ 13
-    → SpellsItems d u short → SpellsItems d v long → Fits w h long → long ≡ (n ∷ newer) ++ short → u ++ x ≡ v ++ y → CantGoOn d w h short x f → ⊥
+    → SpellsItems d u short → SpellsItems d v long → ItemsFit w h long → long ≡ (n ∷ newer) ++ short → u ++ x ≡ v ++ y → CantGoOn d w h short x f → ⊥
 no_fault_there d w h short long newer n u v x y f small s t fits e same c =
     let parts = split_last n newer in
     let j = parts.1 in
     let regrouped : long ≡ parts.0 ++ (j ∷ short) = e ∙ ap (λ l. l ++ short) parts.2 ∙ append_assoc parts.0 (j ∷ []) short in
-    let fit : Fits w h (j ∷ short) = fits_older w h parts.0 (j ∷ short) (subst (λ (l : List Item). Fits w h l) regrouped fits) in
+    let fit : ItemsFit w h (j ∷ short) = fits_older w h parts.0 (j ∷ short) (subst (λ (l : List Item). ItemsFit w h l) regrouped fits) in
     let older = spells_older d parts.0 (j ∷ short) v (subst (λ (l : List Item). SpellsItems d v l) regrouped t) in
     let right : v ++ y ≡ older.2.0 ++ (older.2.1 ++ (older.1 ++ y)) =
     ap (λ l. l ++ y) older.3 ∙ append_assoc older.0 older.1 y ∙ ap (λ l. l ++ (older.1 ++ y)) older.2.2 ∙ append_assoc older.2.0 older.2.1 (older.1 ++ y) in

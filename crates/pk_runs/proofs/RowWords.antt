@@ -14,7 +14,7 @@ use Rattle.packed_rows.specs.Bitmap.{Bitmap}
 use Rattle.packed_rows.specs.Joined.{IsWhiteFrom, with_word}
 use Rattle.pk_runs.specs.Narrow.{IsAhead, IsKept, prefix}
 use Rattle.pk_runs.specs.declared.painter.Painter.{Painter}
-use Rattle.pk_runs.proofs.Kept.{HasRun, no_pixel, same_seen, seen}
+use Rattle.pk_runs.proofs.Kept.{HasRun, no_pixel, same_seen, value_of_painter}
 
 -- ---- the masks of a word
 
@@ -182,7 +182,7 @@ prefix_none b word first last narrow = same_seen b (prefix word 0) 0 first last
     (λ x in_row. prefix_white word 0 x (omega arith) (omega arith) (omega (arith, in_row, narrow)) ∙ sym (no_pixel x))
 
 pub seen_turned : (b : Bitmap) (word new row column copies : ℕ) (repeated black : Bool) (old : Painter) → b.width < 64 → column < 64 → IsTurned word column new
-    → seen b (prefix word column) row column copies repeated black ≡ old → seen b (prefix new column) row column copies repeated (not black) ≡ record old { black = not old.black }
+    → value_of_painter b (prefix word column) row column copies repeated black ≡ old → value_of_painter b (prefix new column) row column copies repeated (not black) ≡ record old { black = not old.black }
 seen_turned b word new row column copies repeated black old narrow few turned e =
     ap (λ (q : Bitmap). make q) (same_seen b (prefix new column) (prefix word column) row (row + 1) (λ x in_row. prefix_turned word column new x few turned (omega (arith, in_row, narrow))))
     ∙ ap (λ (p : Painter). record p { black = not p.black }) e

@@ -4,11 +4,11 @@ use Rattle.std.proofs.lemmas.List.{length-map, get_or-map}
 use Rattle.std.proofs.lemmas.Nat.{div-mul-add, mod-mul-add, div_below}
 use Rattle.packed_rows.specs.Bitmap.{Bitmap, IsShaped}
 use Rattle.pk_runs.specs.Given.{rows_width, bitmap_of_rows, pixel_at}
-use Rattle.pk_runs.specs.Limits.{LONGEST_SIDE}
+use Rattle.pk_runs.specs.Limits.{MAX_GLYPH_SIDE}
 use Rattle.pk_runs.proofs.Complete.{IsPlainTo, given_all}
 
-abbrev seen_rows : List (Vec Bool Global) → List (List Bool)
-seen_rows rows = map (λ (v : Vec Bool Global). v.items) rows
+abbrev values_of_rows : List (Vec Bool Global) → List (List Bool)
+values_of_rows rows = map (λ (v : Vec Bool Global). v.items) rows
 
 -- where there is a place there are columns
 pub some_columns : (w n k : ℕ) → k < w * n → 1 ≤ w
@@ -25,9 +25,9 @@ on_raster w n k h = div_below k w n (some_columns w n k h) (omega (arith, h))
 pub rows_painted : (rows : List (Vec Bool Global)) (w k : ℕ) (b : Bitmap) → w ≡ rows_width (map (λ v. v.items) rows) → w * length rows ≤ k
     → ((r : ℕ) → r < length rows → length (get_or (map (λ v. v.items) rows) r []) ≡ w) → IsPlainTo (pixel_at w (map (λ v. v.items) rows)) w (length rows) k b → b ≡ bitmap_of_rows (map (λ v. v.items) rows)
 rows_painted rows w k b size all equal d =
-    given_all (pixel_at w (seen_rows rows)) w (length rows) k b (seen_rows rows) all high equal
-    (λ x y in_row inside. ap (λ r. get_or (get_or (seen_rows rows) r []) ((y * w + x) % w) false) (div-mul-add y w x in_row) ∙ ap (λ c. get_or (get_or (seen_rows rows) y []) c false) (mod-mul-add y w x in_row)) d
-    ∙ ap (λ n. make n (length rows) (seen_rows rows)) size ∙ ap (λ n. make (rows_width (seen_rows rows)) n (seen_rows rows)) (sym high)
+    given_all (pixel_at w (values_of_rows rows)) w (length rows) k b (values_of_rows rows) all high equal
+    (λ x y in_row inside. ap (λ r. get_or (get_or (values_of_rows rows) r []) ((y * w + x) % w) false) (div-mul-add y w x in_row) ∙ ap (λ c. get_or (get_or (values_of_rows rows) y []) c false) (mod-mul-add y w x in_row)) d
+    ∙ ap (λ n. make n (length rows) (values_of_rows rows)) size ∙ ap (λ n. make (rows_width (values_of_rows rows)) n (values_of_rows rows)) (sym high)
   where
     high : length (map (λ (v : Vec Bool Global). v.items) rows) ≡ length rows
     high = length-map rows (λ (v : Vec Bool Global). v.items)
@@ -36,8 +36,8 @@ rows_painted rows w k b size all equal d =
     make n m r = record { width = n; height = m; rows = r }
 
 -- a bitmap of rows of one length is as a raster is to be
-pub given_rows : (rows : List (Vec Bool Global)) (b : Bitmap) → b ≡ bitmap_of_rows (map (λ v. v.items) rows) → rows_width (map (λ v. v.items) rows) ≤ LONGEST_SIDE → length rows ≤ LONGEST_SIDE
-    → ((y : ℕ) → y < length rows → length (get_or (map (λ v. v.items) rows) y []) ≡ rows_width (map (λ v. v.items) rows)) → (b.width ≤ LONGEST_SIDE) × (b.height ≤ LONGEST_SIDE) × IsShaped b
+pub given_rows : (rows : List (Vec Bool Global)) (b : Bitmap) → b ≡ bitmap_of_rows (map (λ v. v.items) rows) → rows_width (map (λ v. v.items) rows) ≤ MAX_GLYPH_SIDE → length rows ≤ MAX_GLYPH_SIDE
+    → ((y : ℕ) → y < length rows → length (get_or (map (λ v. v.items) rows) y []) ≡ rows_width (map (λ v. v.items) rows)) → (b.width ≤ MAX_GLYPH_SIDE) × (b.height ≤ MAX_GLYPH_SIDE) × IsShaped b
 given_rows rows b is narrow low equal = rw is (
   narrow,
   omega (arith, low, high),

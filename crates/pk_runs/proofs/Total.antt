@@ -8,7 +8,7 @@ use Rattle.std.proofs.Math.Nat.{mul-le-mul_left, mod-lt, div-le_self}
 use Rattle.std.proofs.lemmas.Nat.{div-add-mod', le-div}
 use Rattle.packed_rows.specs.Bitmap.{Bitmap}
 use Rattle.pk_runs.specs.Numbers.{nybbles_of, hex_of, Item, Run, Repeat, SpellsNumber, SpellsItem, SpellsItems, CutsNumber, IsRepeatMark}
-use Rattle.pk_runs.specs.Raster.{pixel_count, next_row, has_repeat, copies, count_with_copies, rows_complete, rows_of, pixels_left, CanAdd, Fits, CantGoOn, IsRunRaster, IsPlainRaster, IsRaster, IsRunFault, IsStuck, is_empty, plain_rows, HasRows, BytesHaveARasterOrAFault}
+use Rattle.pk_runs.specs.Raster.{pixel_count, next_row, has_repeat, copies, count_with_copies, rows_complete, rows_of, pixels_left, CanAdd, ItemsFit, CantGoOn, IsRunRaster, IsPlainRaster, IsRaster, IsRunFault, IsStuck, is_empty, plain_rows, HasRows, BytesHaveARasterOrAFault}
 use Rattle.pk_runs.specs.declared.faults.RunFault.{RunFault}
 use Rattle.pk_runs.specs.declared.faults.RunFault.TheVariants as fault
 use Rattle.pk_runs.proofs.Apart.{number_head, repeat_head}
@@ -240,7 +240,7 @@ inside_none w h some high = record {
     start : 0 / w ≡ 0
     start = omega (arith, div-add-mod' 0 w, div-le_self 0 w)
 
-inside : (w h : ℕ) (items : List Item) → 1 ≤ w → 1 ≤ h → Fits w h items → IsInside w h items
+inside : (w h : ℕ) (items : List Item) → 1 ≤ w → 1 ≤ h → ItemsFit w h items → IsInside w h items
 inside w h [] some high fits = inside_none w h some high
 inside w h (Run n ∷ items) some high fits = inside_run w h n items some fits.1 fits.2 (inside w h items some high fits.0)
 inside w h (Repeat n ∷ items) some high fits = inside_repeat w h n items fits.2.1 (inside w h items some high fits.0)
@@ -252,7 +252,7 @@ item_is_some d prefix (Run n) small s = let p = number_head d n prefix small s i
 item_is_some d prefix (Repeat n) small s = let p = repeat_head d n prefix s in omega (arith, ap length p.2)
 
 pub runs_end : (fuel : ℕ) (bytes : List ℕ) (d w h : ℕ) (first : Bool) (items : List Item) (used x : List ℕ) → 1 ≤ w → 1 ≤ h → d ≤ 13 → AreNybbles x → nybbles_of bytes ≡ used ++ x
-    → SpellsItems d used items → Fits w h items → length x < fuel → ((rows : List (List Bool)) × IsRunRaster bytes d first w h rows) ⊎ ((f : RunFault) × IsStuck bytes d w h f)
+    → SpellsItems d used items → ItemsFit w h items → length x < fuel → ((rows : List (List Bool)) × IsRunRaster bytes d first w h rows) ⊎ ((f : RunFault) × IsStuck bytes d w h f)
 runs_end zero bytes d w h first items used x some high small few e spelled fits short = absurd (omega (arith, short))
 runs_end (suc fuel) bytes d w h first items used x some high small few e spelled fits short = elim (cases_lt (rows_complete w items) h) [
   | inr done ↦ inl (

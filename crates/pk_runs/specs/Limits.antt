@@ -2,8 +2,8 @@
 use Rattle.std.specs.Prelude.{ℕ}
 
 -- the greatest width and height of a raster, in pixels
-abbrev pub LONGEST_SIDE : ℕ
-LONGEST_SIDE = 16384
+abbrev pub MAX_GLYPH_SIDE : ℕ
+MAX_GLYPH_SIDE = 16384
 
 -- the most bytes that the rasters of a font may take, each row in whole bytes, those among them
 -- that later ones replace

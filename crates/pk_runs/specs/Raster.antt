@@ -77,9 +77,10 @@ CanAdd w h before (Repeat n) =
     IsFalse (has_repeat w before (next_row w before)) × (rows_complete w before + 1 + n ≤ h)
 
 -- each item could be added, and was needed: the rows were not complete without it
-abbrev pub Fits : ℕ → ℕ → List Item → Type 0
-Fits w h [] = Unit {0}
-Fits w h (item ∷ before) = Fits w h before × (rows_complete w before < h) × CanAdd w h before item
+abbrev pub ItemsFit : ℕ → ℕ → List Item → Type 0
+ItemsFit w h [] = Unit {0}
+ItemsFit w h (item ∷ before) =
+    ItemsFit w h before × (rows_complete w before < h) × CanAdd w h before item
 
 -- ---- rasters and faults
 
@@ -101,7 +102,7 @@ pub record IsRunRaster (bytes : List ℕ) (dyn_f : ℕ) (first : Bool) (w h : �
   pub unused : List ℕ
   pub nybbles : nybbles_of bytes ≡ used ++ unused
   pub spelled : SpellsItems dyn_f used items
-  pub fits : Fits w h items
+  pub fits : ItemsFit w h items
   pub complete : rows_complete w items ≡ h
   pub stand : rows ≡ rows_of first w items
 
@@ -142,7 +143,7 @@ pub record IsStuck (bytes : List ℕ) (dyn_f w h : ℕ) (f : RunFault) : Type 0 
   pub rest : List ℕ
   pub nybbles : nybbles_of bytes ≡ used ++ rest
   pub spelled : SpellsItems dyn_f used items
-  pub fits : Fits w h items
+  pub fits : ItemsFit w h items
   pub incomplete : rows_complete w items < h
   pub because : CantGoOn dyn_f w h items rest f
 

@@ -1,7 +1,7 @@
 -- What is read next, and what is read and painted so far.
 use Rattle.std.specs.Prelude.{◌≡◌, ℕ, ◌-◌, ◌^◌, ◌⊎◌, Bool, List, ◌∷◌, ◌++◌, min, IsTrue, IsFalse}
 use Rattle.pk_runs.specs.Numbers.{nybbles_of, Item, Run, Repeat, SpellsItem, SpellsItems, CutsNumber, IsRepeatMark}
-use Rattle.pk_runs.specs.Raster.{pixels, copies, has_repeat, colour_after, Fits}
+use Rattle.pk_runs.specs.Raster.{pixels, copies, has_repeat, colour_after, ItemsFit}
 use Rattle.pk_runs.specs.Painting.{IsDrawn}
 use Rattle.pk_runs.specs.declared.faults.RunFault.{RunFault}
 use Rattle.pk_runs.specs.declared.faults.RunFault.TheVariants as fault
@@ -36,6 +36,6 @@ pub record IsPaintedTo (bytes : List ℕ) (dyn_f : ℕ) (first : Bool) (w h : �
   pub used : List ℕ
   pub nybbles : nybbles_of bytes ≡ used ++ rest
   pub spelled : SpellsItems dyn_f used items
-  pub fits : Fits w h items
+  pub fits : ItemsFit w h items
   pub drawn : IsDrawn (pixels first items) (copies w items) (has_repeat w items) w h p
   pub colour : p.black ≡ colour_after first items

@@ -3,7 +3,7 @@
 ghost use Rattle.std.specs.Prelude.{◌≡◌, ◌≤◌, IfOk, IfErr};
 ghost use Rattle.pk_runs.specs.Raster.{IsRaster, IsRunFault};
 ghost use Rattle.pk_runs.specs.Stops.{IfFault};
-ghost use Rattle.pk_runs.specs.Limits.{LONGEST_SIDE};
+ghost use Rattle.pk_runs.specs.Limits.{MAX_GLYPH_SIDE};
 
 use crate::faults::RunStop;
 use crate::glyph::Raster;
@@ -17,7 +17,7 @@ use std::alloc::Global;
 /// "Packed file format"). Where a side is 0 the bytes aren't looked at.
 ///
 /// No bytes have both a raster and a fault, two rasters or two faults (`one_fault`, `runs_apart`).
-/// So, want of memory apart, the raster comes exactly where the bytes stand for it, and a fault
+/// So, unless memory runs out, the raster comes exactly where the bytes stand for it, and a fault
 /// exactly where they have it. A number is judged as itself however large it is: a run above the
 /// pixels left is `Overrun`, and a repeat count above the rows left is `TooManyRows`.
 pub fn raster(
@@ -29,8 +29,8 @@ pub fn raster(
     h: u32,
 ) -> Result<Raster, RunStop>
     requires form { dyn_f ≤ 14 }
-    requires narrow { w ≤ LONGEST_SIDE }
-    requires short { h ≤ LONGEST_SIDE }
+    requires narrow { w ≤ MAX_GLYPH_SIDE }
+    requires short { h ≤ MAX_GLYPH_SIDE }
     ensures raster { IfOk result (λ r. IsRaster bytes.now dyn_f black w h r) }
     // A raster has no fault beside it, and a fault no other: the laws of `one_fault`.
     ensures fault { IfErr result (λ stop. IfFault stop (IsRunFault bytes.now dyn_f w h)) }

@@ -3,7 +3,7 @@
 ghost use Rattle.std.specs.Prelude.{◌≡◌, ◌+◌, ◌*◌, ◌/◌, ◌%◌, ◌^◌, ◌<◌, ◌≤◌, ℕ, [], length, map, slice_index_or, if◌then◌else◌};
 ghost use Rattle.packed_rows.specs.Changes.{white_bitmap, with_black};
 ghost use Rattle.pk_runs.specs.Given.{rows_width, bitmap_of_rows, pixel_at};
-ghost use Rattle.pk_runs.specs.Limits.{LONGEST_SIDE};
+ghost use Rattle.pk_runs.specs.Limits.{MAX_GLYPH_SIDE};
 
 use packed_rows::{PackedBitmap, Span};
 
@@ -20,8 +20,8 @@ pub fn row_len(rows: &[Vec<bool>]) -> usize
 /// Paints rows on a white raster of their size.
 pub fn paint_rows(bits: &mut PackedBitmap, rows: &[Vec<bool>], w: usize)
     requires size { w ≡ rows_width (map (λ row. row.items) rows.now) }
-    requires narrow { w ≤ LONGEST_SIDE }
-    requires low { length rows.now ≤ LONGEST_SIDE }
+    requires narrow { w ≤ MAX_GLYPH_SIDE }
+    requires low { length rows.now ≤ MAX_GLYPH_SIDE }
     requires equal { (y : ℕ) → y < length rows.now
         → length (slice_index_or (map (λ row. row.items) rows.now) y []) ≡ w }
     requires white { bits.old ≡ white_bitmap w (length rows.now) }

@@ -3,7 +3,7 @@
 ghost use Rattle.std.specs.Prelude.{◌≡◌, ◌<◌, ◌≤◌, ℕ, [], length, map, slice_index_or, IfOk};
 ghost use Rattle.pk_runs.specs.Given.{rows_width, bitmap_of_rows};
 ghost use Rattle.packed_rows.specs.Bitmap.{IsShaped, is_black};
-ghost use Rattle.pk_runs.specs.Limits.{LONGEST_SIDE};
+ghost use Rattle.pk_runs.specs.Limits.{MAX_GLYPH_SIDE};
 
 use crate::given::{paint_rows, row_len};
 use packed_rows::PackedBitmap;
@@ -19,13 +19,13 @@ pub struct Raster {
 impl Model for Raster {
     ghost use Rattle.std.specs.Prelude.{◌≤◌};
     ghost use Rattle.packed_rows.specs.Bitmap.{Bitmap, IsShaped};
-    ghost use Rattle.pk_runs.specs.Limits.{LONGEST_SIDE};
+    ghost use Rattle.pk_runs.specs.Limits.{MAX_GLYPH_SIDE};
 
     ghost Value = { Bitmap };
 
     ghost view = { λ r. r.bits };
 
-    ghost invariant = { λ r. (r.bits.width ≤ LONGEST_SIDE) × (r.bits.height ≤ LONGEST_SIDE)
+    ghost invariant = { λ r. (r.bits.width ≤ MAX_GLYPH_SIDE) × (r.bits.height ≤ MAX_GLYPH_SIDE)
         × IsShaped r.bits };
 }
 
@@ -41,8 +41,8 @@ impl Raster {
     /// The raster of rows of one length, one value a pixel, true for black. Without rows the width
     /// is 0.
     pub fn of(alloc: Global, rows: &[Vec<bool>]) -> Result<Raster, NoMemory>
-        requires low { length rows.now ≤ LONGEST_SIDE }
-        requires narrow { rows_width (map (λ row. row.items) rows.now) ≤ LONGEST_SIDE }
+        requires low { length rows.now ≤ MAX_GLYPH_SIDE }
+        requires narrow { rows_width (map (λ row. row.items) rows.now) ≤ MAX_GLYPH_SIDE }
         requires equal { (y : ℕ) → y < length rows.now →
             length (slice_index_or (map (λ row. row.items) rows.now) y [])
             ≡ rows_width (map (λ row. row.items) rows.now) }
@@ -57,8 +57,8 @@ impl Raster {
 
     /// The raster of a packed bitmap, for whoever paints one by other means than runs.
     pub fn of_bits(bits: PackedBitmap) -> Raster
-        requires narrow { bits.width ≤ LONGEST_SIDE }
-        requires low { bits.height ≤ LONGEST_SIDE }
+        requires narrow { bits.width ≤ MAX_GLYPH_SIDE }
+        requires low { bits.height ≤ MAX_GLYPH_SIDE }
         requires shaped { IsShaped bits }
         ensures { result ≡ bits }
     {
@@ -68,7 +68,7 @@ impl Raster {
     /// How many pixels a row has.
     pub fn width(&self) -> u32
         ensures value { result ≡ self.now.width }
-        ensures narrow { result ≤ LONGEST_SIDE }
+        ensures narrow { result ≤ MAX_GLYPH_SIDE }
     {
         self.bits.width()
     }
@@ -76,7 +76,7 @@ impl Raster {
     /// How many rows there are.
     pub fn height(&self) -> u32
         ensures value { result ≡ self.now.height }
-        ensures low { result ≤ LONGEST_SIDE }
+        ensures low { result ≤ MAX_GLYPH_SIDE }
     {
         self.bits.height()
     }
@@ -93,8 +93,8 @@ impl Raster {
     /// The pixels as a packed bitmap, for whoever sets the raster on a page.
     pub fn bits(&self) -> &PackedBitmap
         ensures value { result.now ≡ self.now }
-        ensures narrow { result.now.width ≤ LONGEST_SIDE }
-        ensures low { result.now.height ≤ LONGEST_SIDE }
+        ensures narrow { result.now.width ≤ MAX_GLYPH_SIDE }
+        ensures low { result.now.height ≤ MAX_GLYPH_SIDE }
         ensures shaped { IsShaped result.now }
     {
         &self.bits

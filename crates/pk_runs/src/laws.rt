@@ -3,8 +3,8 @@
 ghost use Rattle.pk_runs.specs.Numbers.{NoNumberBeginsAnother, NoItemBeginsAnother, NumbersHaveNoGreatest};
 ghost use Rattle.pk_runs.specs.Raster.{RunRastersAreOne, RunRastersHaveTheirSize, RastersAreOne, RunRastersAreNeverStuck, RastersHaveNoFault, RunFaultsAreOne, BytesHaveARasterOrAFault};
 
-/// No run length begins another, nor a repeat count, and none is the greatest. Bytes stand for at
-/// most one raster, and one of runs has the size that is asked for.
+/// No run length begins another, nor does a repeat count, and no number is the greatest. Bytes
+/// stand for at most one raster, and one of runs has the size that is asked for.
 pub fn runs_apart()
     ensures numbers { NoNumberBeginsAnother }
     ensures items { NoItemBeginsAnother }

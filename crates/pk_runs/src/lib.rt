@@ -23,5 +23,5 @@ pub use decode::raster;
 pub use faults::{RunFault, RunStop};
 pub use glyph::{Glyph, Raster};
 pub use laws::{one_fault, runs_apart};
-pub use limits::{LONGEST_SIDE, MAX_RASTER_BYTES};
+pub use limits::{MAX_GLYPH_SIDE, MAX_RASTER_BYTES};
 pub use table::GlyphTable;

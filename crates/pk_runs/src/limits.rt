@@ -1,7 +1,7 @@
 //! The limits of a font's rasters.
 
 /// The longest side of a raster, in dots.
-pub const LONGEST_SIDE: u32 = 16_384;
+pub const MAX_GLYPH_SIDE: u32 = 16_384;
 
 /// The most bytes that the rasters of a font may take, each row in whole bytes. A raster counts
 /// too that a later one of its code replaces.

@@ -6,7 +6,7 @@ ghost use Rattle.pk_runs.specs.Narrow.{IsNextItem};
 ghost use Rattle.pk_runs.specs.Painting.{IsReady};
 ghost use Rattle.pk_runs.specs.Raster.{IsRunRaster, IsStuck};
 ghost use Rattle.pk_runs.specs.Reading.{IsPaintedTo};
-ghost use Rattle.pk_runs.specs.Limits.{LONGEST_SIDE};
+ghost use Rattle.pk_runs.specs.Limits.{MAX_GLYPH_SIDE};
 
 use crate::faults::RunFault;
 use crate::items::{PackedNumber, next_item};
@@ -21,8 +21,8 @@ fn runs_in_row(
     dyn_f: u8,
 ) -> Result<PackedNumber, RunFault>
     requires runs { dyn_f ≤ 13 }
-    requires narrow { painter.old.bits.width ≤ LONGEST_SIDE }
-    requires short { painter.old.bits.height ≤ LONGEST_SIDE }
+    requires narrow { painter.old.bits.width ≤ MAX_GLYPH_SIDE }
+    requires short { painter.old.bits.height ≤ MAX_GLYPH_SIDE }
     requires inside { painter.old.column < painter.old.bits.width }
     requires ready { IsReady painter.old }
     requires low { painter.old.row < painter.old.bits.height }
@@ -54,8 +54,8 @@ fn runs_in_row(
 // Reads and paints runs to a row's end, or takes one repeat count.
 fn step(painter: &mut NarrowPainter, nybbles: &mut Nybbles, dyn_f: u8) -> Result<(), RunFault>
     requires runs { dyn_f ≤ 13 }
-    requires narrow { painter.old.bits.width ≤ LONGEST_SIDE }
-    requires short { painter.old.bits.height ≤ LONGEST_SIDE }
+    requires narrow { painter.old.bits.width ≤ MAX_GLYPH_SIDE }
+    requires short { painter.old.bits.height ≤ MAX_GLYPH_SIDE }
     requires inside { painter.old.column < painter.old.bits.width }
     requires ready { IsReady painter.old }
     requires low { painter.old.row < painter.old.bits.height }
@@ -101,7 +101,7 @@ pub fn paint_narrow(
     requires runs { dyn_f ≤ 13 }
     requires some { 1 ≤ w }
     requires narrow { w < 64 }
-    requires short { h ≤ LONGEST_SIDE }
+    requires short { h ≤ MAX_GLYPH_SIDE }
     requires white { bits ≡ white_bitmap w h }
     ensures { MatchResult result
         (λ b. (b.width ≡ w) × (b.height ≡ h) × IsRunRaster bytes.now dyn_f black w h b.rows)

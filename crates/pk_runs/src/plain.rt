@@ -6,7 +6,7 @@ ghost use Rattle.packed_rows.specs.Packing.{pixel};
 ghost use Rattle.packed_rows.specs.Stamped.{word_pixel};
 ghost use Rattle.pk_runs.specs.Raster.{IsPlainRaster};
 ghost use Rattle.pk_runs.specs.declared.faults.RunFault.TheVariants.{Short};
-ghost use Rattle.pk_runs.specs.Limits.{LONGEST_SIDE};
+ghost use Rattle.pk_runs.specs.Limits.{MAX_GLYPH_SIDE};
 
 use crate::faults::RunFault;
 use crate::row_words::prefix;
@@ -20,8 +20,8 @@ pub fn paint_plain(
     bytes: &[u8],
 ) -> Result<PackedBitmap, RunFault>
     requires some { 1 ≤ w }
-    requires narrow { w ≤ LONGEST_SIDE }
-    requires short { h ≤ LONGEST_SIDE }
+    requires narrow { w ≤ MAX_GLYPH_SIDE }
+    requires short { h ≤ MAX_GLYPH_SIDE }
     requires white { bits ≡ white_bitmap w h }
     ensures { MatchResult result (λ b. (b.width ≡ w) × (b.height ≡ h)
         × IsPlainRaster bytes.now w h b.rows)
@@ -68,7 +68,7 @@ fn paint_place(bits: &mut PackedBitmap, w: usize, bytes: &[u8], place: usize)
 // The same where a row fits in a word: row after row.
 fn paint_narrow_rows(mut bits: PackedBitmap, w: u32, h: u32, bytes: &[u8]) -> PackedBitmap
     requires narrow { w < 64 }
-    requires short { h ≤ LONGEST_SIDE }
+    requires short { h ≤ MAX_GLYPH_SIDE }
     requires white { bits ≡ white_bitmap w h }
     requires enough { w * h ≤ 8 * length bytes.now }
     ensures wide { result.width ≡ w }

@@ -2,5 +2,5 @@
 use Rattle.std.specs.Prelude.{ℕ}
 
 -- the greatest width and height of a page, in dots
-abbrev pub LONGEST_PAGE_SIDE : ℕ
-LONGEST_PAGE_SIDE = 20000
+abbrev pub MAX_PAGE_SIDE : ℕ
+MAX_PAGE_SIDE = 20000

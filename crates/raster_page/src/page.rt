@@ -8,7 +8,7 @@ ghost use Rattle.packed_rows.specs.Coordinates.{IsCoordinate};
 ghost use Rattle.packed_rows.specs.Packing.{row_text, pixels_of, IsPadded};
 ghost use Rattle.raster_page.specs.Ink.{Inked, Dots, Bar, covers, page_of, with_mark};
 ghost use Rattle.packed_rows.specs.Changes.{black_count};
-ghost use Rattle.raster_page.specs.Limits.{LONGEST_PAGE_SIDE};
+ghost use Rattle.raster_page.specs.Limits.{MAX_PAGE_SIDE};
 
 use crate::span::clipped;
 use packed_rows::{PackedBitmap, PaddedBitmap};
@@ -24,23 +24,23 @@ pub struct Page {
 impl Model for Page {
     ghost use Rattle.std.specs.Prelude.{◌≤◌};
     ghost use Rattle.packed_rows.specs.Bitmap.{Bitmap};
-    ghost use Rattle.raster_page.specs.Limits.{LONGEST_PAGE_SIDE};
+    ghost use Rattle.raster_page.specs.Limits.{MAX_PAGE_SIDE};
 
     ghost Value = { Bitmap };
 
     ghost view = { λ p. p.dots };
 
-    ghost invariant = { λ p. (1 ≤ p.dots.width) × (p.dots.width ≤ LONGEST_PAGE_SIDE)
-        × (1 ≤ p.dots.height) × (p.dots.height ≤ LONGEST_PAGE_SIDE) };
+    ghost invariant = { λ p. (1 ≤ p.dots.width) × (p.dots.width ≤ MAX_PAGE_SIDE)
+        × (1 ≤ p.dots.height) × (p.dots.height ≤ MAX_PAGE_SIDE) };
 }
 
 impl Page {
-    /// A page of `w` by `h` white dots. The only call of a page that takes memory.
+    /// A page of `w` by `h` white dots. No other call of a page takes memory.
     pub fn blank(alloc: Global, w: u32, h: u32) -> Result<Page, NoMemory>
         requires wide { 1 ≤ w }
-        requires narrow { w ≤ LONGEST_PAGE_SIDE }
+        requires narrow { w ≤ MAX_PAGE_SIDE }
         requires high { 1 ≤ h }
-        requires low { h ≤ LONGEST_PAGE_SIDE }
+        requires low { h ≤ MAX_PAGE_SIDE }
         ensures white { IfOk result (λ page. page ≡ page_of w h []) }
     {
         Ok(Page {
@@ -59,7 +59,7 @@ impl Page {
     pub fn width(&self) -> u32
         ensures value { result ≡ self.now.width }
         ensures some { 1 ≤ result }
-        ensures narrow { result ≤ LONGEST_PAGE_SIDE }
+        ensures narrow { result ≤ MAX_PAGE_SIDE }
     {
         self.dots.width()
     }
@@ -69,7 +69,7 @@ impl Page {
         ensures value { result ≡ self.now.height }
         ensures rows { length self.now.rows ≡ result }
         ensures some { 1 ≤ result }
-        ensures low { result ≤ LONGEST_PAGE_SIDE }
+        ensures low { result ≤ MAX_PAGE_SIDE }
     {
         self.dots.height()
     }

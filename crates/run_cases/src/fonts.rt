@@ -3,7 +3,8 @@ ghost use Rattle.std.specs.Prelude.{◌<◌, ◌^◌};
 
 use outside::{FileName, FontSource, Library, LoadStop};
 
-/// Files of which the numbered loads fail, and those of files whose names begin so.
+/// Files of which the loads with the listed numbers fail, and the loads of files whose names begin
+/// with the front.
 #[derive(Drop)]
 pub struct Fonts<'a> {
     library: &'a Library,

@@ -115,7 +115,7 @@ fn came_of<R: Threads + Wait + Sync>(
 }
 
 // Tells what comes of a run.
-fn tell<R: Print + Threads + Wait + Sync>(
+fn print_line<R: Print + Threads + Wait + Sync>(
     rt: &R,
     alloc: Global,
     told: &mut Told,
@@ -144,7 +144,7 @@ fn follow<R: Print + Threads + Wait + Sync>(
         "let" => name(alloc, told, rest),
         "file" => put(alloc, told, rest),
         "may" => Ok(permit(alloc, told, rest)?),
-        "run" => tell(rt, alloc, told, rest),
+        "run" => print_line(rt, alloc, told, rest),
         "folder" => {
             told.folder = Library::new(alloc);
             Ok(())

@@ -10,8 +10,8 @@ use Rattle.cache_core.specs.declared.calls.Done.{Done}
 use Rattle.cache_core.specs.declared.calls.Done.TheVariants.{Hit, Claimed, Busy, Filled, Released}
 use Rattle.run_report.specs.Keys.{shown_byte}
 use Rattle.run_report.specs.Trace.{entry_line, trace_text}
-use Rattle.run_report.specs.Laws.{HasKey, IsCall, IsKey, LinesTell, TracesTell, shown}
-use Rattle.run_report.proofs.Words.{AreWords, IsWord, decimal_is_word, line_is_some, line_of, line_tells, name_is_word, visible}
+use Rattle.run_report.specs.Laws.{HasKey, IsCall, IsKey, LinesDetermineCalls, TracesDetermineCalls, shown}
+use Rattle.run_report.proofs.Words.{AreWords, IsWord, decimal_is_word, line_is_some, line_of, line_determines, name_is_word, visible}
 
 -- ---- the words of a line, after the seat
 
@@ -85,17 +85,17 @@ call_reads seat k Released small fits done = simp (value_of seat small, value_of
 
 -- ---- lines and traces
 
-lines_tell_more : (a b : Call) (rest after : List ℕ) → IsCall a → IsCall b → entry_line a ++ rest ≡ entry_line b ++ after → (shown a ≡ shown b) × (rest ≡ after)
-lines_tell_more a b rest after is_a is_b same =
+lines_determine_more : (a b : Call) (rest after : List ℕ) → IsCall a → IsCall b → entry_line a ++ rest ≡ entry_line b ++ after → (shown a ≡ shown b) × (rest ≡ after)
+lines_determine_more a b rest after is_a is_b same =
     let as_words = sym (line_is a.seat a.key a.done rest) ∙ same ∙ line_is b.seat b.key b.done after in
-    let parts = line_tells (decimal a.seat) (act_words a.key a.done) (decimal b.seat) (act_words b.key b.done) rest after
+    let parts = line_determines (decimal a.seat) (act_words a.key a.done) (decimal b.seat) (act_words b.key b.done) rest after
     (number_is_word a.seat is_a.seat) (act_is_words a.key a.done is_a.key is_a.done)
     (number_is_word b.seat is_b.seat) (act_is_words b.key b.done is_b.key is_b.done) as_words in
     (sym (call_reads a.seat a.key a.done is_a.seat is_a.key is_a.done) ∙ ap₂ read_call parts.0 parts.1 ∙ call_reads b.seat b.key b.done is_b.seat is_b.key is_b.done, parts.2)
 
-pub lines_tell : LinesTell
-lines_tell a b is_a is_b same =
-    let parts = lines_tell_more a b [] [] is_a is_b (ap (λ (text : List ℕ). text ++ []) same) in
+pub lines_determine_calls : LinesDetermineCalls
+lines_determine_calls a b is_a is_b same =
+    let parts = lines_determine_more a b [] [] is_a is_b (ap (λ (text : List ℕ). text ++ []) same) in
     parts.0
 
 head_is : (P : Call → Type 0) (x : Call) (xs : List Call) → All P (x ∷ xs) → P x
@@ -104,11 +104,11 @@ head_is P x xs all = all 0 x (omega arith)
 no_line : (x : Call) (rest : List ℕ) → [] ≡ entry_line x ++ rest → ⊥
 no_line x rest same = line_is_some (decimal x.seat) (act_words x.key x.done) rest (same ∙ line_is x.seat x.key x.done rest)
 
-pub traces_tell : TracesTell
-traces_tell [] [] are_xs are_ys same = refl
-traces_tell [] (y ∷ ys) are_xs are_ys same = absurd (no_line y (trace_text ys) same)
-traces_tell (x ∷ xs) [] are_xs are_ys same = absurd (no_line x (trace_text xs) (sym same))
-traces_tell (x ∷ xs) (y ∷ ys) are_xs are_ys same =
-    let parts = lines_tell_more x y (trace_text xs) (trace_text ys) (head_is IsCall x xs are_xs) (head_is IsCall y ys are_ys) same in
-    let more = traces_tell xs ys (All-tail IsCall x xs are_xs) (All-tail IsCall y ys are_ys) parts.1 in
+pub traces_determine_calls : TracesDetermineCalls
+traces_determine_calls [] [] are_xs are_ys same = refl
+traces_determine_calls [] (y ∷ ys) are_xs are_ys same = absurd (no_line y (trace_text ys) same)
+traces_determine_calls (x ∷ xs) [] are_xs are_ys same = absurd (no_line x (trace_text xs) (sym same))
+traces_determine_calls (x ∷ xs) (y ∷ ys) are_xs are_ys same =
+    let parts = lines_determine_more x y (trace_text xs) (trace_text ys) (head_is IsCall x xs are_xs) (head_is IsCall y ys are_ys) same in
+    let more = traces_determine_calls xs ys (All-tail IsCall x xs are_xs) (All-tail IsCall y ys are_ys) parts.1 in
     ap₂ (λ (z : Call) (zs : List Call). z ∷ zs) parts.0 more

@@ -74,20 +74,20 @@ abbrev pub line_of : List ℕ → List (List ℕ) → List ℕ → List ℕ
 line_of w [] rest = w ++ 10 ∷ rest
 line_of w (v ∷ vs) rest = w ++ 32 ∷ line_of v vs rest
 
-pub line_tells : (w : List ℕ) (ws : List (List ℕ)) (v : List ℕ) (vs : List (List ℕ)) (rest after : List ℕ) → IsWord w → AreWords ws → IsWord v → AreWords vs
+pub line_determines : (w : List ℕ) (ws : List (List ℕ)) (v : List ℕ) (vs : List (List ℕ)) (rest after : List ℕ) → IsWord w → AreWords ws → IsWord v → AreWords vs
     → line_of w ws rest ≡ line_of v vs after → (w ≡ v) × (ws ≡ vs) × (rest ≡ after)
-line_tells w [] v [] rest after is_w are_ws is_v are_vs same =
+line_determines w [] v [] rest after is_w are_ws is_v are_vs same =
     let parts = cut w v rest after 10 10 (omega arith) (omega arith) is_w is_v same in
     (parts.0, refl, parts.2)
-line_tells w [] v (u ∷ vs) rest after is_w are_ws is_v are_vs same =
+line_determines w [] v (u ∷ vs) rest after is_w are_ws is_v are_vs same =
     let parts = cut w v rest (line_of u vs after) 10 32 (omega arith) (omega arith) is_w is_v same in
     absurd (omega (arith, parts.1))
-line_tells w (t ∷ ws) v [] rest after is_w are_ws is_v are_vs same =
+line_determines w (t ∷ ws) v [] rest after is_w are_ws is_v are_vs same =
     let parts = cut w v (line_of t ws rest) after 32 10 (omega arith) (omega arith) is_w is_v same in
     absurd (omega (arith, parts.1))
-line_tells w (t ∷ ws) v (u ∷ vs) rest after is_w are_ws is_v are_vs same =
+line_determines w (t ∷ ws) v (u ∷ vs) rest after is_w are_ws is_v are_vs same =
     let parts = cut w v (line_of t ws rest) (line_of u vs after) 32 32 (omega arith) (omega arith) is_w is_v same in
-    let more = line_tells t ws u vs rest after are_ws.0 are_ws.1 are_vs.0 are_vs.1 parts.2 in
+    let more = line_determines t ws u vs rest after are_ws.0 are_ws.1 are_vs.0 are_vs.1 parts.2 in
     (parts.0, ap₂ (λ (z : List ℕ) (zs : List (List ℕ)). z ∷ zs) more.0 more.1, more.2)
 
 -- no line is empty

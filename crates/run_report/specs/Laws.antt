@@ -27,7 +27,7 @@ CountsAddUp =
 abbrev pub TracesAreJoined : Type 0
 TracesAreJoined = (xs ys : List Call) → trace_text (xs ++ ys) ≡ trace_text xs ++ trace_text ys
 
--- ---- what a trace tells
+-- ---- what a trace determines
 
 -- sizes that fit their types
 abbrev pub IsKey : FontKey → Type 0
@@ -43,7 +43,7 @@ pub record IsCall (c : Call) : Type 0 where
   pub key : IsKey c.key
   pub done : HasKey c.done
 
--- a key as a line shows it: bytes that can't be seen are question marks, and the area isn't told
+-- a key as a line shows it: bytes that can't be seen are question marks, and the area isn't printed
 -- apart from the name
 abbrev pub shown_key : FontKey → FontKey
 shown_key k = record k { area = 0; name = map shown_byte k.name }
@@ -58,11 +58,13 @@ shown_done Released = Released
 abbrev pub shown : Call → Call
 shown c = record { seat = c.seat; key = shown_key c.key; done = shown_done c.done }
 
--- a line tells its call: the seat, the key and what was done, with the key that left
-abbrev pub LinesTell : Type 0
-LinesTell = (a b : Call) → IsCall a → IsCall b → entry_line a ≡ entry_line b → shown a ≡ shown b
+-- a line determines its call: the seat, the key and what was done, with the key that left
+abbrev pub LinesDetermineCalls : Type 0
+LinesDetermineCalls =
+    (a b : Call) → IsCall a → IsCall b → entry_line a ≡ entry_line b → shown a ≡ shown b
 
--- a trace tells its history, call by call
-abbrev pub TracesTell : Type 0
-TracesTell = (xs ys : List Call) → All IsCall xs → All IsCall ys → trace_text xs ≡ trace_text ys
+-- a trace determines its history, call by call
+abbrev pub TracesDetermineCalls : Type 0
+TracesDetermineCalls =
+    (xs ys : List Call) → All IsCall xs → All IsCall ys → trace_text xs ≡ trace_text ys
     → map shown xs ≡ map shown ys

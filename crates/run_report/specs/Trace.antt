@@ -8,16 +8,16 @@ use Rattle.cache_core.specs.declared.calls.Done.TheVariants.{Hit, Claimed, Busy,
 use Rattle.run_report.specs.Keys.{key_text}
 
 -- the key whose font left for another, or a dash
-abbrev pub gone_text : Option FontKey → List ℕ
-gone_text None = codes "-"
-gone_text (Some k) = key_text k
+abbrev pub evicted_text : Option FontKey → List ℕ
+evicted_text None = codes "-"
+evicted_text (Some k) = key_text k
 
 -- what was done with a key
 abbrev pub act_text : FontKey → Done → List ℕ
 act_text k Hit = codes "look " ++ key_text k ++ codes " hit"
 act_text k Claimed = codes "look " ++ key_text k ++ codes " claimed"
 act_text k Busy = codes "look " ++ key_text k ++ codes " busy"
-act_text k (Filled gone) = codes "fill " ++ key_text k ++ codes " evict " ++ gone_text gone
+act_text k (Filled gone) = codes "fill " ++ key_text k ++ codes " evict " ++ evicted_text gone
 act_text k Released = codes "release " ++ key_text k
 
 -- the seat, and what it did

@@ -1,6 +1,6 @@
-//! What a run counts beside its font cache's calls.
+//! What a run counts besides the calls of its font cache.
 
-/// What a run counts beside the calls of its font cache.
+/// What a run counts besides the calls of its font cache.
 #[derive(Clone, Copy, Debug, PartialEq, Eq)]
 pub struct Counts {
     /// The pages that were written whole.

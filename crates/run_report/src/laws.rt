@@ -2,7 +2,7 @@
 ghost use Rattle.std.specs.Prelude.{◌≡◌};
 ghost use Rattle.cache_core.specs.Examples.{history_of_one, history_of_three, second_is_busy};
 ghost use Rattle.run_report.specs.Laws.{CountsAddUp, LooksAreAnswers};
-ghost use Rattle.run_report.specs.Laws.{LinesTell, TracesAreJoined, TracesTell};
+ghost use Rattle.run_report.specs.Laws.{LinesDetermineCalls, TracesAreJoined, TracesDetermineCalls};
 ghost use Rattle.run_report.specs.Examples.{page_counts, summary_of_one, summary_of_three};
 ghost use Rattle.run_report.specs.Examples.{summary_of_two_seats, trace_of_two_seats};
 ghost use Rattle.run_report.specs.Examples.{trace_of_one, trace_of_three};
@@ -15,12 +15,13 @@ pub fn counts()
     ensures joined { CountsAddUp }
 {}
 
-/// The trace of joined histories is one trace after the other. A line tells its call: the seat, the
-/// key as it is shown, and what was done, with the key that left. A trace tells each of its calls.
+/// The trace of joined histories is one trace after the other. A line determines its call: the
+/// seat, the key as it is printed, and what was done, with the key that was evicted. A trace
+/// determines each of its calls.
 pub fn traces()
     ensures joined { TracesAreJoined }
-    ensures lines { LinesTell }
-    ensures tell { TracesTell }
+    ensures lines { LinesDetermineCalls }
+    ensures tell { TracesDetermineCalls }
 {}
 
 /// The traces of a page that looks fonts up five times, with a cache of one font and of three, and

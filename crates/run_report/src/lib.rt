@@ -1,4 +1,4 @@
-//! What a run tells of itself: the trace, a line for each call of the font cache, and the summary,
+//! What a run prints of itself: the trace, a line for each call of the font cache, and the summary,
 //! nine lines of counts. Each text is put into pieces that are gathered for writing, after what was
 //! put before, and none takes memory.
 #![tactic(auto)]

@@ -9,7 +9,7 @@ use Rattle.dvi_commands.specs.Spelling.{Bop, DviCommand, Eop, Post, PostPost, Pr
 use Rattle.dvi_commands.specs.ShortestSpelling.{shortest_spelling}
 use Rattle.pixel_round.specs.declared.units.Units.{Units}
 use Rattle.outside.specs.declared.keys.FontKey.{FontKey}
-use Rattle.sample_maker.specs.DviFile.{IsFontSpelled, IsWritable, beginning, definition, fonts_text, last_page, page_text, pages_text, postamble, preamble}
+use Rattle.sample_maker.specs.DviFile.{IsFontSpelled, IsWritable, beginning, definition, fonts_text, last_page, page_bytes, pages_text, postamble, preamble}
 
 abbrev texts : List (Vec ℕ Global) → List (List ℕ)
 texts pages = map (λ page. page.items) pages
@@ -18,16 +18,16 @@ here : (pages : List (Vec ℕ Global)) (i : ℕ) (p : Vec ℕ Global) → i < le
 here pages i p lt e = ap texts (drop_more pages i p lt) ∙ ap (λ x. x.items ∷ texts (drop (i + 1) pages)) (sym e)
 
 module _ (prefix now : List ℕ) (number : ℕ) (back next : ℤ) (pages : List (Vec ℕ Global)) (i : ℕ) (p : Vec ℕ Global) (lt : i < length pages) (e : p ≡ get_or pages i p)
-    (appended : now ≡ prefix ++ page_text number back p.items) (at : next ≡ pos (length prefix)) where
-  long : length prefix + length (page_text number back p.items) ≡ length now
-  long = omega (arith, length-append prefix (page_text number back p.items), ap length appended)
+    (appended : now ≡ prefix ++ page_bytes number back p.items) (at : next ≡ pos (length prefix)) where
+  long : length prefix + length (page_bytes number back p.items) ≡ length now
+  long = omega (arith, length-append prefix (page_bytes number back p.items), ap length appended)
 
   pub one_page : (whole : List ℕ) → whole ≡ prefix ++ pages_text (length prefix) number back (texts (drop i pages))
       → whole ≡ now ++ pages_text (length now) (number + 1) next (texts (drop (i + 1) pages))
   one_page whole w =
       w ∙ ap (λ t. prefix ++ pages_text (length prefix) number back t) (here pages i p lt e)
-      ∙ sym (append_assoc prefix (page_text number back p.items) (pages_text (length prefix + length (page_text number back p.items)) (number + 1) (pos (length prefix)) (texts (drop (i + 1) pages))))
-      ∙ ap (λ t. t ++ pages_text (length prefix + length (page_text number back p.items)) (number + 1) (pos (length prefix)) (texts (drop (i + 1) pages))) (sym appended)
+      ∙ sym (append_assoc prefix (page_bytes number back p.items) (pages_text (length prefix + length (page_bytes number back p.items)) (number + 1) (pos (length prefix)) (texts (drop (i + 1) pages))))
+      ∙ ap (λ t. t ++ pages_text (length prefix + length (page_bytes number back p.items)) (number + 1) (pos (length prefix)) (texts (drop (i + 1) pages))) (sym appended)
       ∙ ap (λ n. now ++ pages_text n (number + 1) (pos (length prefix)) (texts (drop (i + 1) pages))) long
       ∙ ap (λ z. now ++ pages_text (length now) (number + 1) z (texts (drop (i + 1) pages))) (sym at)
 
@@ -45,8 +45,8 @@ abbrev noughts : List ℤ
 noughts = pos 0 ∷ pos 0 ∷ pos 0 ∷ pos 0 ∷ pos 0 ∷ pos 0 ∷ pos 0 ∷ pos 0 ∷ pos 0 ∷ []
 
 pub page_joined : (out a b body : List ℕ) (number : ℕ) (back x y : ℤ) → x ≡ pos number → y ≡ back → a ≡ out ++ shortest_spelling (Bop (x ∷ noughts) y) → b ≡ a ++ body
-    → b ++ shortest_spelling Eop ≡ out ++ page_text number back body
-unfolding page_text
+    → b ++ shortest_spelling Eop ≡ out ++ page_bytes number back body
+unfolding page_bytes
 page_joined out a b body number back x y ex ey ea eb =
     let bop : a ≡ out ++ shortest_spelling (beginning number back) = ea ∙ ap (λ z. out ++ shortest_spelling (Bop (z ∷ noughts) y)) ex ∙ ap (λ z. out ++ shortest_spelling (beginning number z)) ey in
     ap (λ t. t ++ shortest_spelling Eop) (eb ∙ ap (λ t. t ++ body) bop)

@@ -11,7 +11,7 @@ use Rattle.dvi_commands.specs.ShortestSpelling.{shortest_spelling}
 use Rattle.dvi_commands.specs.Reading.{Placed, placed, placed_from}
 use Rattle.page_index.specs.Document.{Reading, context_after, end_of, font_table, is_bop, is_eop, is_page_open, last_bop, pages_begun}
 use Rattle.page_index.specs.Pages.{is_page, page_commands}
-use Rattle.sample_maker.specs.DviFile.{IsFontSpelled, IsPageText, NeverDefines, are_apart, beginning, after, after_text, definition, key_given, with_fonts, with_page, with_pages}
+use Rattle.sample_maker.specs.DviFile.{IsFontSpelled, IsPageText, NeverDefines, are_apart, beginning, reading_after, after_text, definition, key_given, with_fonts, with_page, with_pages}
 use Rattle.sample_maker.proofs.PageTexts.{IsEven, Stands, end_off_page, nothing_defined, off_page, others_stay, own_added, text_stands}
 use Rattle.sample_maker.proofs.DviTexts.{page_even, pages_grow}
 
@@ -35,7 +35,7 @@ pub fonts_stand : (q : Preamble) (post : Bool) (n : ℕ) (back : ℤ) (fonts : L
 fonts_stand q post n back [] r all h = h
 fonts_stand q post n back (f ∷ fonts) r all h =
     let parts = first_font f fonts all in
-    fonts_stand q post n back fonts (after r (definition f)) parts.1 (record {
+    fonts_stand q post n back fonts (reading_after r (definition f)) parts.1 (record {
       spelled = (h.spelled, record { unfinished = h.going; place = refl; spelled = parts.0.spelled });
       going = refl;
       post_is = h.post_is;
@@ -47,7 +47,7 @@ fonts_stand q post n back (f ∷ fonts) r all h =
 
 pub fonts_off_page : (i : ℕ) (fonts : List (ℤ × FontKey)) (r : Reading) → is_page_open r ≡ false → page_commands i (with_fonts r fonts) ≡ page_commands i r
 fonts_off_page i [] r h = refl
-fonts_off_page i (f ∷ fonts) r h = fonts_off_page i fonts (after r (definition f)) h ∙ off_page i (placed (end_of r) (definition f) (shortest_spelling (definition f))) r h
+fonts_off_page i (f ∷ fonts) r h = fonts_off_page i fonts (reading_after r (definition f)) h ∙ off_page i (placed (end_of r) (definition f) (shortest_spelling (definition f))) r h
 
 -- a font of another number changes nothing
 pub not_redefined : (fonts : List (ℤ × FontKey)) (r : Reading) (k : ℤ) → key_given fonts k ≡ None → font_table (with_fonts r fonts) k ≡ font_table r k
@@ -56,7 +56,7 @@ not_redefined (f ∷ fonts) r k h = elim (cases_Bool (int_eq f.0 k)) [
   | inl same ↦ let some : Some f.1 ≡ None = sym (cond-true (int_eq f.0 k) (Some f.1) (key_given fonts k) same) ∙ h in cc
   | inr other ↦
       let rest : key_given fonts k ≡ None = sym (cond-false (int_eq f.0 k) (Some f.1) (key_given fonts k) other) ∙ h in
-      not_redefined fonts (after r (definition f)) k rest ∙ cond-false (int_eq f.0 k) (Some f.1) (font_table r k) other
+      not_redefined fonts (reading_after r (definition f)) k rest ∙ cond-false (int_eq f.0 k) (Some f.1) (font_table r k) other
 ]
 
 pub none_given : (fonts : List (ℤ × FontKey)) (k : ℤ) → list_any (λ (g : ℤ × FontKey). int_eq g.0 k) fonts ≡ false → key_given fonts k ≡ None
@@ -72,13 +72,13 @@ fonts_there (f ∷ fonts) r k key apart given = elim (cases_Bool (int_eq f.0 k))
       let number : f.0 ≡ k = int_eq_same f.0 k same in
       let alone : key_given fonts f.0 ≡ None = none_given fonts f.0 (not-true _ (and_parts _ _ apart).0) in
       let here : Some f.1 ≡ Some key = sym (cond-true (int_eq f.0 k) (Some f.1) (key_given fonts k) same) ∙ given in
-      not_redefined fonts (after r (definition f)) k (ap (key_given fonts) (sym number) ∙ alone) ∙ cond-true (int_eq f.0 k) (Some f.1) (font_table r k) same ∙ here
-  | inr other ↦ fonts_there fonts (after r (definition f)) k key (and_parts _ _ apart).1 (sym (cond-false (int_eq f.0 k) (Some f.1) (key_given fonts k) other) ∙ given)
+      not_redefined fonts (reading_after r (definition f)) k (ap (key_given fonts) (sym number) ∙ alone) ∙ cond-true (int_eq f.0 k) (Some f.1) (font_table r k) same ∙ here
+  | inr other ↦ fonts_there fonts (reading_after r (definition f)) k key (and_parts _ _ apart).1 (sym (cond-false (int_eq f.0 k) (Some f.1) (key_given fonts k) other) ∙ given)
 ]
 
 -- a font number that no font and no page has stays without a key
 none_on_page : (k : ℤ) (r : Reading) (number : ℕ) (body : List ℕ) → IsPageText body → NeverDefines k body → font_table r k ≡ None → font_table (with_page r number body) k ≡ None
-none_on_page k r number body is never none = nothing_defined k body (after r (beginning number (last_bop r))) is never none
+none_on_page k r number body is never none = nothing_defined k body (reading_after r (beginning number (last_bop r))) is never none
 
 pub none_on_pages : (k : ℤ) (pages : List (List ℕ)) (r : Reading) (number : ℕ) → AllByRecursion IsPageText pages → AllByRecursion (NeverDefines k) pages → font_table r k ≡ None → font_table (with_pages r number pages) k ≡ None
 none_on_pages k [] r number all never none = none
@@ -95,7 +95,7 @@ bop_spelled number back lt h =
 
 module _ (q : Preamble) (n : ℕ) (back : ℤ) (r : Reading) (h : Stands q false false n back r) (number : ℕ) (few : number < 2 ^ 31) (fits : IsSigned 4 back) (body : List ℕ) (is : IsPageText body) where
   abbrev pub opened : Reading
-  opened = after r (beginning number (last_bop r))
+  opened = reading_after r (beginning number (last_bop r))
 
   pub opened_stands : Stands q false true (suc n) (pos (end_of r)) opened
   opened_stands = record {

@@ -9,10 +9,10 @@ use Rattle.pixel_round.specs.declared.units.Units.{Units}
 use Rattle.dvi_commands.specs.Spelling.{DviCommand, Preamble, PostPost, Spells}
 use Rattle.dvi_commands.specs.ShortestSpelling.{shortest_spelling}
 use Rattle.dvi_commands.specs.Reading.{placed, placed_from}
-use Rattle.page_index.specs.Limits.{MOST_PAGES}
+use Rattle.page_index.specs.Limits.{MAX_PAGES}
 use Rattle.page_index.specs.Document.{IsDocument, Reading, end_of, font_table, is_ended, last_bop, text_of, units_of}
 use Rattle.page_index.specs.Pages.{page_commands}
-use Rattle.sample_maker.specs.DviFile.{GivesBack, IsFontSpelled, IsPageText, NeverDefines, are_apart, after, document_reading, document_text, filler_after, fonts_text, key_given, last_page, pages_reading, pages_text, postamble, preamble, with_fonts}
+use Rattle.sample_maker.specs.DviFile.{GivesBack, IsFontSpelled, IsPageText, NeverDefines, are_apart, reading_after, document_reading, document_text, filler_after, fonts_text, key_given, last_page, pages_reading, pages_text, postamble, preamble, with_fonts}
 use Rattle.sample_maker.proofs.Spelled.{AreSpelled, one_reading, sound_spelled}
 use Rattle.sample_maker.proofs.PageTexts.{IsEven, Stands, even_after, off_page}
 use Rattle.sample_maker.proofs.DviTexts.{fonts_even, last_of_pages, pages_even, text_of_fonts, text_of_pages}
@@ -23,17 +23,17 @@ told u = record { id = 2; num = pos u.num; den = pos u.den; mag = pos u.mag; tex
 
 -- the preamble and the fonts
 abbrev pub head : Units → List (ℤ × FontKey) → Reading
-head u fonts = with_fonts (after [] (preamble u)) fonts
+head u fonts = with_fonts (reading_after [] (preamble u)) fonts
 
 pub head_even : (u : Units) (fonts : List (ℤ × FontKey)) → IsEven (head u fonts)
-head_even u fonts = fonts_even fonts (after [] (preamble u)) (even_after [] (preamble u) refl)
+head_even u fonts = fonts_even fonts (reading_after [] (preamble u)) (even_after [] (preamble u) refl)
 
 head_last : (fonts : List (ℤ × FontKey)) (r : Reading) → last_bop (with_fonts r fonts) ≡ last_bop r
 head_last [] r = refl
 head_last (f ∷ fonts) r = head_last fonts _
 
 pub head_text : (u : Units) (fonts : List (ℤ × FontKey)) → text_of (head u fonts) ≡ shortest_spelling (preamble u) ++ fonts_text fonts
-head_text u fonts = text_of_fonts fonts (after [] (preamble u))
+head_text u fonts = text_of_fonts fonts (reading_after [] (preamble u))
 
 module _ (u : Units) (fonts : List (ℤ × FontKey)) (pages : List (List ℕ)) (all : AllByRecursion IsPageText pages) where
   pub prefix_even : IsEven (pages_reading u fonts pages)
@@ -46,14 +46,14 @@ module _ (u : Units) (fonts : List (ℤ × FontKey)) (pages : List (List ℕ)) (
   prefix_text =
       text_of_pages pages (head u fonts) 1 all (head_even u fonts)
       ∙ ap (λ n. text_of (head u fonts) ++ pages_text n 1 (last_bop (head u fonts)) pages) (sym (head_even u fonts))
-      ∙ ap (λ z. text_of (head u fonts) ++ pages_text (length (text_of (head u fonts))) 1 z pages) (head_last fonts (after [] (preamble u)))
+      ∙ ap (λ z. text_of (head u fonts) ++ pages_text (length (text_of (head u fonts))) 1 z pages) (head_last fonts (reading_after [] (preamble u)))
 
   pub prefix_last : last_bop (pages_reading u fonts pages) ≡ last_page (length (text_of (head u fonts))) 1 (negsuc 0) pages
   unfolding pages_reading
   prefix_last =
       last_of_pages pages (head u fonts) 1 all (head_even u fonts)
       ∙ ap (λ n. last_page n 1 (last_bop (head u fonts)) pages) (sym (head_even u fonts))
-      ∙ ap (λ z. last_page (length (text_of (head u fonts))) 1 z pages) (head_last fonts (after [] (preamble u)))
+      ∙ ap (λ z. last_page (length (text_of (head u fonts))) 1 z pages) (head_last fonts (reading_after [] (preamble u)))
 
   abbrev prefix : Reading
   prefix = pages_reading u fonts pages
@@ -65,8 +65,8 @@ module _ (u : Units) (fonts : List (ℤ × FontKey)) (pages : List (List ℕ)) (
   pub whole_text : text_of (document_reading u fonts pages) ≡ ((text_of prefix ++ shortest_spelling post) ++ fonts_text fonts) ++ shortest_spelling (PostPost (pos (length (text_of prefix))) 2)
   unfolding document_reading
   whole_text =
-      ap (λ n. text_of (with_fonts (after prefix post) fonts) ++ shortest_spelling (PostPost (pos n) 2)) (sym prefix_even)
-      ∙ ap (λ t. t ++ shortest_spelling (PostPost (pos (length (text_of prefix))) 2)) (text_of_fonts fonts (after prefix post))
+      ap (λ n. text_of (with_fonts (reading_after prefix post) fonts) ++ shortest_spelling (PostPost (pos n) 2)) (sym prefix_even)
+      ∙ ap (λ t. t ++ shortest_spelling (PostPost (pos (length (text_of prefix))) 2)) (text_of_fonts fonts (reading_after prefix post))
 
   pub prefix_short : length (text_of prefix) ≤ length (text_of (document_reading u fonts pages))
   prefix_short =
@@ -79,15 +79,15 @@ document_long u fonts pages = omega (arith, length-append (text_of (document_rea
 -- ---- the reading
 
 module _ (u : Units) (fonts : List (ℤ × FontKey)) (pages : List (List ℕ)) (num : u.num < 2 ^ 31) (den : u.den < 2 ^ 31) (mag : u.mag < 2 ^ 31) (spelled : All IsFontSpelled fonts) (apart : IsTrue (are_apart fonts))
-    (few : length pages ≤ MOST_PAGES) (all : AllByRecursion IsPageText pages) (fits : length (document_text u fonts pages) < 2 ^ 31) where
+    (few : length pages ≤ MAX_PAGES) (all : AllByRecursion IsPageText pages) (fits : length (document_text u fonts pages) < 2 ^ 31) where
   pre_spelled : Spells (preamble u) (shortest_spelling (preamble u))
   pre_spelled = (0, (refl, omega arith, omega (arith, num), omega (arith, den), omega (arith, mag), omega arith), refl)
 
-  pub pre_stands : Stands (told u) false false 0 (negsuc 0) (after [] (preamble u))
+  pub pre_stands : Stands (told u) false false 0 (negsuc 0) (reading_after [] (preamble u))
   pre_stands = record { spelled = (tt, record { unfinished = refl; place = refl; spelled = pre_spelled }); going = refl; post_is = refl; open_is = refl; begun = refl; last = refl; preamble = refl }
 
   pub head_stands : Stands (told u) false false 0 (negsuc 0) (head u fonts)
-  head_stands = fonts_stand (told u) false 0 (negsuc 0) fonts (after [] (preamble u)) spelled pre_stands
+  head_stands = fonts_stand (told u) false 0 (negsuc 0) fonts (reading_after [] (preamble u)) spelled pre_stands
 
   pub at : end_of (pages_reading u fonts pages) < 2 ^ 31
   at = omega (arith, prefix_even u fonts pages all, prefix_short u fonts pages all, document_long u fonts pages, fits)
@@ -103,7 +103,7 @@ module _ (u : Units) (fonts : List (ℤ × FontKey)) (pages : List (List ℕ)) (
   closing = postamble u (last_bop (pages_reading u fonts pages)) (length pages)
 
   abbrev pub done : Reading
-  done = after (pages_reading u fonts pages) closing
+  done = reading_after (pages_reading u fonts pages) closing
 
   post_spelled : Spells (postamble u (last_bop (pages_reading u fonts pages)) (length pages)) (shortest_spelling (postamble u (last_bop (pages_reading u fonts pages)) (length pages)))
   post_spelled = (0, (refl, (subst (IsSigned 4) (sym are.stands.last) are.fits, (omega (arith, num), (omega (arith, den), (omega (arith, mag), (omega arith, (omega arith, tt)))))), omega arith, omega arith), refl)
@@ -145,7 +145,7 @@ module _ (u : Units) (fonts : List (ℤ × FontKey)) (pages : List (List ℕ)) (
   unfolding document_reading pages_reading
   others k none never =
       not_redefined fonts done k none
-      ∙ none_on_pages k pages (head u fonts) 1 all never (not_redefined fonts (after [] (preamble u)) k none)
+      ∙ none_on_pages k pages (head u fonts) 1 all never (not_redefined fonts (reading_after [] (preamble u)) k none)
 
   made : (res : ℕ) → GivesBack u fonts pages res (document_reading u fonts pages)
   unfolding document_reading

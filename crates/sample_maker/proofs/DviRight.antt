@@ -13,14 +13,14 @@ use Rattle.dvi_commands.specs.Refusal.{may_stand}
 use Rattle.dvi_commands.specs.Reading.{AreCommands, Placed, commands_of, placed}
 use Rattle.dvi_commands.specs.declared.command.Context.{Context}
 use Rattle.dvi_commands.specs.declared.command.Context.TheVariants as context
-use Rattle.page_index.specs.Limits.{MOST_PAGES}
+use Rattle.page_index.specs.Limits.{MAX_PAGES}
 use Rattle.page_index.specs.Judged.{agrees_with, bop_fault, define_fault, is_same_font, is_size}
 use Rattle.page_index.specs.Document.{Reading, Sound, context_after, end_of, font_table, is_eop, key_of, key_or, last_bop, whole_fault}
 use Rattle.page_index.proofs.Keys.{key_is, sizes_agree}
 use Rattle.outside.specs.Limits.{SIZES}
-use Rattle.sample_maker.specs.DviFile.{DefineRightly, IsFontSpelled, IsPageText, IsRightDefinition, IsWritable, are_apart, beginning, after, after_text, definition, with_fonts, with_page, with_pages}
+use Rattle.sample_maker.specs.DviFile.{DefineRightly, IsFontSpelled, IsPageText, IsRightDefinition, IsWritable, are_apart, beginning, reading_after, after_text, definition, with_fonts, with_page, with_pages}
 use Rattle.sample_maker.proofs.Spelled.{AreSpelled}
-use Rattle.sample_maker.proofs.PageTexts.{IsEven, IsPlain, Stands, commands_are, plain, plain_more, text_more, text_none, with}
+use Rattle.sample_maker.proofs.PageTexts.{IsEven, IsOfPage, Stands, commands_are, plain, plain_more, text_more, text_none, with}
 use Rattle.sample_maker.proofs.DviTexts.{page_even, pages_grow}
 use Rattle.sample_maker.proofs.DviPages.{filled_stands, first_font, fonts_stand, opened_stands, page_stands, position_fits}
 
@@ -113,11 +113,11 @@ int_apart a b h = elim (cases_Bool (int_eq a b)) [
 ]
 
 still_free : (f : ℤ × FontKey) (fonts : List (ℤ × FontKey)) (r : Reading) → list_any (λ (g : ℤ × FontKey). int_eq g.0 f.0) fonts ≡ false → AllByRecursion (IsFree (font_table r)) fonts
-    → AllByRecursion (IsFree (font_table (after r (definition f)))) fonts
+    → AllByRecursion (IsFree (font_table (reading_after r (definition f)))) fonts
 still_free f [] r apart h = tt
 still_free f (g ∷ fonts) r apart h =
     let parts = or_parts (int_eq g.0 f.0) (list_any (λ (x : ℤ × FontKey). int_eq x.0 f.0) fonts) apart in
-    let same : font_table (after r (definition f)) g.0 ≡ font_table r g.0 = cond-false (int_eq f.0 g.0) (Some f.1) (font_table r g.0) (int_apart f.0 g.0 parts.0) in
+    let same : font_table (reading_after r (definition f)) g.0 ≡ font_table r g.0 = cond-false (int_eq f.0 g.0) (Some f.1) (font_table r g.0) (int_apart f.0 g.0 parts.0) in
     (elim h.0 [ inl none ↦ inl (same ∙ none) | inr some ↦ inr (same ∙ some) ], still_free f fonts r parts.1 h.1)
 
 pub fonts_right : (res : ℕ) (q : Preamble) (post : Bool) (n : ℕ) (back : ℤ) (fonts : List (ℤ × FontKey)) (r : Reading) → All IsFontSpelled fonts → AllByRecursion IsWritable fonts → IsTrue (are_apart fonts)
@@ -129,7 +129,7 @@ fonts_right res q post n back (f ∷ fonts) r spelled writable apart h free righ
     let may : IsTrue (may_stand (context_after r) (242 + op.0)) = allowed_there (place_by post false) r (242 + op.0) (place_is q post false n back r h) (defines_may post op.0 op.1 op.2) in
     let allowed : IsTrue (may_stand (context_after r) (slice_index (shortest_spelling (definition f)) 0)) = subst (λ (k : ℕ). IsTrue (may_stand (context_after r) k)) (sym op.3) may in
     let apart_parts = and_parts (not (list_any (λ (g : ℤ × FontKey). int_eq g.0 f.0) fonts)) (are_apart fonts) apart in
-    fonts_right res q post n back fonts (after r (definition f)) parts.1 writable.1 apart_parts.1
+    fonts_right res q post n back fonts (reading_after r (definition f)) parts.1 writable.1 apart_parts.1
     (fonts_stand q post n back (f ∷ []) r (λ k g lt. one f parts.0 k g lt) h)
     (still_free f fonts r (not-true _ apart_parts.0) free.1)
     (right, record { allowed = allowed; right = definition_right f (end_of r) (font_table r) writable.0 free.0 })
@@ -141,7 +141,7 @@ fonts_right res q post n back (f ∷ fonts) r spelled writable apart h free righ
 -- ---- commands on a page
 
 -- nothing is wrong with a command that is part of no frame
-plain_right : (res : ℕ) (r : Reading) (at : ℕ) (bytes : List ℕ) (c : DviCommand) → IsPlain c → IsRightDefinition (font_table r) c → whole_fault res r at bytes c ≡ None
+plain_right : (res : ℕ) (r : Reading) (at : ℕ) (bytes : List ℕ) (c : DviCommand) → IsOfPage c → IsRightDefinition (font_table r) c → whole_fault res r at bytes c ≡ None
 plain_right res r at bytes (Bop counts back) is d = let no = is.bop in cc
 plain_right res r at bytes (Pre q) is d = let no : Some q ≡ None = is.pre None in cc
 plain_right res r at bytes (Post q) is d = let no = is.post in cc
@@ -184,13 +184,13 @@ text_right res n q back more (c ∷ commands) body r are ends h right define =
 
 -- ---- pages
 
-bop_right : (n at : ℕ) (back : ℤ) → n < MOST_PAGES → bop_fault n back at back ≡ None
-bop_right n at back few = rw (lt-leb MOST_PAGES n few, int_eq_refl back) refl
+bop_right : (n at : ℕ) (back : ℤ) → n < MAX_PAGES → bop_fault n back at back ≡ None
+bop_right n at back few = rw (lt-leb MAX_PAGES n few, int_eq_refl back) refl
 
-page_right : (res n : ℕ) (q : Preamble) (back : ℤ) (r : Reading) (number : ℕ) (body : List ℕ) (more : List DviCommand) → number < 2 ^ 31 → IsSigned 4 back → IsPageText body → n < MOST_PAGES
+page_right : (res n : ℕ) (q : Preamble) (back : ℤ) (r : Reading) (number : ℕ) (body : List ℕ) (more : List DviCommand) → number < 2 ^ 31 → IsSigned 4 back → IsPageText body → n < MAX_PAGES
     → Stands q false false n back r → AreRight res r → DefineRightly (font_table r) (commands_of body ++ more) → Rightly res r (with_page r number body) more
 page_right res n q back r number body more small fits is few h right define =
-    let opened = after r (beginning number (last_bop r)) in
+    let opened = reading_after r (beginning number (last_bop r)) in
     let bop : IsRight res r (placed (end_of r) (beginning number (last_bop r)) (shortest_spelling (beginning number (last_bop r)))) = record {
       allowed = allowed_there context.Between r 139 (place_is q false false n back r h) refl;
       right = ap (λ (k : ℕ). bop_fault k (last_bop r) (end_of r) (last_bop r)) h.begun ∙ bop_right n (end_of r) (last_bop r) few;
@@ -204,7 +204,7 @@ page_right res n q back r number body more small fits is few h right define =
     record { right = (filled.right, eop); keeps = filled.keeps; rest = filled.rest }
 
 pub pages_right : (res n : ℕ) (q : Preamble) (pages : List (List ℕ)) (back : ℤ) (r : Reading) (number : ℕ) → AllByRecursion IsPageText pages → Stands q false false n back r → IsEven r → IsSigned 4 back
-    → n + length pages ≤ MOST_PAGES → number + length pages < 2 ^ 31 → end_of (with_pages r number pages) < 2 ^ 31 → AreRight res r → DefineRightly (font_table r) (flat_map commands_of pages)
+    → n + length pages ≤ MAX_PAGES → number + length pages < 2 ^ 31 → end_of (with_pages r number pages) < 2 ^ 31 → AreRight res r → DefineRightly (font_table r) (flat_map commands_of pages)
     → Rightly res r (with_pages r number pages) []
 pages_right res n q [] back r number all h even fits few small short right define = record { right = right; keeps = λ k key e. e; rest = define }
 pages_right res n q (body ∷ pages) back r number all h even fits few small short right define =

@@ -7,7 +7,7 @@ use Rattle.pixel_round.specs.declared.units.Units.{Units}
 use Rattle.dvi_commands.specs.Spelling.{Eop, PostPost}
 use Rattle.dvi_commands.specs.ShortestSpelling.{shortest_spelling}
 use Rattle.page_index.specs.Document.{last_bop, text_of}
-use Rattle.sample_maker.specs.DviFile.{IsPageText, beginning, document_reading, document_text, filler_after, fonts_text, page_text, pages_reading, pages_text, postamble, preamble}
+use Rattle.sample_maker.specs.DviFile.{IsPageText, beginning, document_reading, document_text, filler_after, fonts_text, page_bytes, pages_reading, pages_text, postamble, preamble}
 use Rattle.sample_maker.proofs.DviRead.{prefix_text, head, head_text, whole_text}
 
 -- a page has 46 bytes around its own
@@ -15,14 +15,14 @@ abbrev pub pages_size : List (List ℕ) → ℕ
 pages_size [] = 0
 pages_size (body ∷ pages) = 46 + length body + pages_size pages
 
-page_size : (number : ℕ) (back : ℤ) (body : List ℕ) → length (page_text number back body) ≡ 46 + length body
-unfolding page_text
+page_size : (number : ℕ) (back : ℤ) (body : List ℕ) → length (page_bytes number back body) ≡ 46 + length body
+unfolding page_bytes
 page_size number back body = omega (arith, length-append (shortest_spelling (beginning number back) ++ body) (shortest_spelling Eop), length-append (shortest_spelling (beginning number back)) body)
 
 pages_long : (pages : List (List ℕ)) (at number : ℕ) (back : ℤ) → length (pages_text at number back pages) ≡ pages_size pages
 pages_long [] at number back = refl
 pages_long (body ∷ pages) at number back =
-    let this = page_text number back body in
+    let this = page_bytes number back body in
     omega (arith, length-append this (pages_text (at + length this) (number + 1) (pos at) pages), page_size number back body, pages_long pages (at + length this) (number + 1) (pos at))
 
 pub document_size : (u : Units) (fonts : List (ℤ × FontKey)) (pages : List (List ℕ)) → AllByRecursion IsPageText pages

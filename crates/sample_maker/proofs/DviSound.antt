@@ -13,12 +13,12 @@ use Rattle.dvi_commands.specs.Spelling.{DviCommand, Postamble, PostPost}
 use Rattle.dvi_commands.specs.ShortestSpelling.{shortest_spelling}
 use Rattle.dvi_commands.specs.Reading.{commands_of}
 use Rattle.dvi_commands.specs.declared.command.Context.TheVariants as context
-use Rattle.page_index.specs.Limits.{LONGEST, MOST_PAGES}
+use Rattle.page_index.specs.Limits.{MAX_DOCUMENT_LENGTH, MAX_PAGES}
 use Rattle.page_index.specs.Judged.{is_scale_right, post_fault, post_fault_against, postpost_fault, preamble_fault}
 use Rattle.page_index.specs.Document.{IsDocument, Reading, end_of, font_table, last_bop, pages_begun, post_at, preamble_of, text_of}
 use Rattle.page_index.specs.declared.faults.DocFault.{DocFault}
 use Rattle.page_index.specs.declared.faults.DocFault.TheVariants as fault
-use Rattle.sample_maker.specs.DviFile.{AreSigned, DefineRightly, IsFontSpelled, IsPageText, IsWritable, are_apart, after, definition, document_reading, document_text, filler_after, key_given, pages_reading, postamble, preamble, with_fonts}
+use Rattle.sample_maker.specs.DviFile.{AreSigned, DefineRightly, IsFontSpelled, IsPageText, IsWritable, are_apart, reading_after, definition, document_reading, document_text, filler_after, key_given, pages_reading, postamble, preamble, with_fonts}
 use Rattle.sample_maker.proofs.DviPages.{fonts_there, none_given, not_redefined}
 use Rattle.sample_maker.proofs.DviRead.{all_spelled, are, at, done_stands, end_stands, ended, head, head_even, head_stands, minus, pre_stands, told}
 use Rattle.sample_maker.proofs.DviRight.{AreRight, IsFree, Rightly, allowed_there, fonts_right, pages_right, place_is, sound_of}
@@ -64,7 +64,7 @@ post_right u n at r begun preamble =
 
 post_stays : (fonts : List (ℤ × FontKey)) (r : Reading) → post_at (with_fonts r fonts) ≡ post_at r
 post_stays [] r = refl
-post_stays (f ∷ fonts) r = post_stays fonts (after r (definition f))
+post_stays (f ∷ fonts) r = post_stays fonts (reading_after r (definition f))
 
 postpost_right : (post at : ℕ) → post < 2 ^ 31 → postpost_fault (Some post) at (shortest_spelling (PostPost (pos post) 2)) ≡ None
 postpost_right post at few =
@@ -109,13 +109,13 @@ given_there fonts r apart none k = by (key_given fonts k) refl
 -- ---- the document
 
 module _ (u : Units) (fonts : List (ℤ × FontKey)) (pages : List (List ℕ)) (s : AreSigned u) (writable : AllByRecursion IsWritable fonts) (spelled : All IsFontSpelled fonts) (apart : IsTrue (are_apart fonts))
-    (few : length pages ≤ MOST_PAGES) (all : AllByRecursion IsPageText pages) (fits : length (document_text u fonts pages) ≤ LONGEST)
+    (few : length pages ≤ MAX_PAGES) (all : AllByRecursion IsPageText pages) (fits : length (document_text u fonts pages) ≤ MAX_DOCUMENT_LENGTH)
     (res : ℕ) (scale : IsTrue (is_scale_right res (pos u.num) (pos u.den) (pos u.mag))) (define : DefineRightly (key_given fonts) (flat_map commands_of pages)) where
   short : length (document_text u fonts pages) < 2 ^ 31
   short = omega (arith, fits)
 
   abbrev first : Reading
-  first = after [] (preamble u)
+  first = reading_after [] (preamble u)
 
   abbrev prefix : Reading
   prefix = pages_reading u fonts pages
@@ -139,7 +139,7 @@ module _ (u : Units) (fonts : List (ℤ × FontKey)) (pages : List (List ℕ)) (
   closing = postamble u (last_bop prefix) (length pages)
 
   abbrev done : Reading
-  done = after prefix closing
+  done = reading_after prefix closing
 
   done_right : AreRight res done
   done_right =

@@ -12,7 +12,7 @@ use Rattle.dvi_commands.specs.declared.command.Context.TheVariants as context
 use Rattle.dvi_commands.proofs.Commands.{commands_first, commands_none, placed_first, placed_none}
 use Rattle.page_index.specs.Document.{Reading, context_after, end_of, font_table, key_or, is_bop, is_ended, is_eop, is_page_open, is_post, is_post_read, is_postpost, last_bop, pages_begun, preamble_of, preamble_or, text_of}
 use Rattle.page_index.specs.Pages.{is_page, page_commands}
-use Rattle.sample_maker.specs.DviFile.{IsPageText, NeverDefines, after, after_text}
+use Rattle.sample_maker.specs.DviFile.{IsPageText, NeverDefines, reading_after, after_text}
 use Rattle.sample_maker.proofs.Spelled.{AreSpelled, reversed_onto}
 
 -- ---- one command more
@@ -60,7 +60,7 @@ pub record Stands (q : Preamble) (post open_page : Bool) (n : ℕ) (back : ℤ) 
   pub last : last_bop r ≡ back
   pub preamble : preamble_of r ≡ Some q
 
-pub record IsPlain (c : DviCommand) : Type 0 where
+pub record IsOfPage (c : DviCommand) : Type 0 where
   pub bop : is_bop c ≡ false
   pub eop : is_eop c ≡ false
   pub post : is_post c ≡ false
@@ -70,7 +70,7 @@ pub record IsPlain (c : DviCommand) : Type 0 where
 op_of : (prefix text : List ℕ) → IsTrue (may_stand context.Page (slice_index prefix 0)) → prefix ≡ text → IsTrue (may_stand context.Page (slice_index text 0))
 op_of prefix text h e = subst (λ t. IsTrue (may_stand context.Page (slice_index t 0))) e h
 
-pub plain : (c : DviCommand) (prefix : List ℕ) → Spells c prefix → IsTrue (may_stand context.Page (slice_index prefix 0)) → is_eop c ≡ false → IsPlain c
+pub plain : (c : DviCommand) (prefix : List ℕ) → Spells c prefix → IsTrue (may_stand context.Page (slice_index prefix 0)) → is_eop c ≡ false → IsOfPage c
 plain (Bop counts back) prefix s h e = let no = op_of prefix _ h s.2 in cc
 plain Eop prefix s h e = cc
 plain (Pre q) prefix s h e = let no = op_of prefix _ h s.2 in cc
@@ -92,11 +92,11 @@ even_with before c prefix h = omega (arith, length-append (text_of before) prefi
 pub even_text : (body : List ℕ) (before : Reading) → IsPageText body → IsEven before → IsEven (after_text before body)
 even_text body before is h = walk IsEven (λ r c prefix p s a e. even_with r c prefix p) is.commands body before is.are is.no_end h
 
-pub even_after : (before : Reading) (c : DviCommand) → IsEven before → IsEven (after before c)
+pub even_after : (before : Reading) (c : DviCommand) → IsEven before → IsEven (reading_after before c)
 even_after before c h = even_with before c (shortest_spelling c) h
 
 module _ (q : Preamble) (post open_page : Bool) (n : ℕ) (back : ℤ) where
-  pub plain_more : (before : Reading) (c : DviCommand) (prefix : List ℕ) → IsPlain c → Stands q post open_page n back before → Spells c prefix → Stands q post open_page n back (with before c prefix)
+  pub plain_more : (before : Reading) (c : DviCommand) (prefix : List ℕ) → IsOfPage c → Stands q post open_page n back before → Spells c prefix → Stands q post open_page n back (with before c prefix)
   plain_more before c prefix is h s = record {
     spelled = (h.spelled, record { unfinished = h.going; place = refl; spelled = s });
     going = is.postpost;

@@ -9,7 +9,7 @@ use Rattle.big_endian.proofs.Bytes.{length-number_bytes}
 use Rattle.packed_rows.specs.Bitmap.{IsShaped}
 use Rattle.pk_runs.specs.Raster.{IsRaster}
 use Rattle.pk_runs.specs.declared.glyph.Glyph.{Glyph}
-use Rattle.pk_packets.specs.Items.{IsItem, head_size, is_packet, opcode, told_size}
+use Rattle.pk_packets.specs.Items.{IsItem, head_size, is_packet, opcode, given_size}
 use Rattle.pk_packets.specs.Packets.{code_of, dyn_f_of, fixed_size, raster_height, is_first_black, raster_width}
 use Rattle.pk_packets.specs.Fonts.{HasRaster, IsGlyphOf}
 use Rattle.pk_packets.specs.Written.{Fields, Fit, IsReadAs, extended_packet, flag_with, long_packet, packet_bytes, short_packet}
@@ -60,7 +60,7 @@ extended_head : (flag : ℕ) → flag < 240 → 4 ≤ flag % 8 → flag % 8 ≤ 
 extended_head flag packet above low = let apart : 3 < flag % 8 = omega arith in rw (lt-ltb flag 240 packet, lt-leb (flag % 8) 3 apart, le-leb (flag % 8) 6 low) refl
 
 -- a packet with the bytes of its fields has a length that counts them
-long_enough : (bytes : List ℕ) (n : ℕ) → IsItem bytes → head_size (opcode bytes) + fixed_size (opcode bytes) ≡ n → n ≤ length bytes → fixed_size (opcode bytes) ≤ told_size bytes
+long_enough : (bytes : List ℕ) (n : ℕ) → IsItem bytes → head_size (opcode bytes) + fixed_size (opcode bytes) ≡ n → n ≤ length bytes → fixed_size (opcode bytes) ≤ given_size bytes
 long_enough bytes n item size enough = omega (arith, item.whole)
 
 length_of_packet : (f : Fields) (flag : ℕ) (count code : List ℕ) (n : ℕ) → 1 ≤ n → n ≤ 4
@@ -91,13 +91,13 @@ pub record IsPacketFor (p : ℕ × Glyph) (bytes : List ℕ) : Type 0 where
   pub item : IsItem bytes
   pub kind : is_packet bytes ≡ true
   pub code : code_of bytes ≡ p.0
-  pub long : fixed_size (opcode bytes) ≤ told_size bytes
+  pub long : fixed_size (opcode bytes) ≤ given_size bytes
   pub width : raster_width bytes ≡ p.1.raster.width
   pub height : raster_height bytes ≡ p.1.raster.height
   pub raster : HasRaster bytes p.1.raster
   pub glyph : IsGlyphOf bytes p.1
 
-says : (p : ℕ × Glyph) (e : ℕ) (bytes : List ℕ) → IsShaped p.1.raster → IsReadAs bytes (fields e p) → fixed_size (opcode bytes) ≤ told_size bytes → IsPacketFor p bytes
+says : (p : ℕ × Glyph) (e : ℕ) (bytes : List ℕ) → IsShaped p.1.raster → IsReadAs bytes (fields e p) → fixed_size (opcode bytes) ≤ given_size bytes → IsPacketFor p bytes
 says p e bytes shaped is long =
     let r = p.1.raster in
     let whole : HasRaster bytes r =

@@ -5,7 +5,7 @@ use Rattle.std.specs.Int.{div_ceil}
 use Rattle.std.specs.List.{AllByRecursion, flat_map, list_any}
 use Rattle.std.proofs.lemmas.Bool.{and_parts, cases_Bool, cond-true, cond-false, eqb-true, le-ltb, not-true, or_parts}
 use Rattle.std.proofs.lemmas.List.{length-append}
-use Rattle.pk_runs.specs.Limits.{LONGEST_SIDE, MAX_RASTER_BYTES}
+use Rattle.pk_runs.specs.Limits.{MAX_GLYPH_SIDE, MAX_RASTER_BYTES}
 use Rattle.pk_runs.specs.declared.glyph.Glyph.{Glyph}
 use Rattle.pk_packets.specs.Preamble.{preamble_fault}
 use Rattle.pk_packets.specs.Items.{text_of}
@@ -50,8 +50,8 @@ sound_after (p ∷ glyphs) before m are sound few =
     let item = packet_item p in
     let is = are.0 in
     let here : IsMeasured p = m 0 p (omega arith) in
-    let narrow : raster_width item ≤ LONGEST_SIDE = omega (arith, is.width, here.glyph.width) in
-    let low : raster_height item ≤ LONGEST_SIDE = omega (arith, is.height, here.glyph.height) in
+    let narrow : raster_width item ≤ MAX_GLYPH_SIDE = omega (arith, is.width, here.glyph.width) in
+    let low : raster_height item ≤ MAX_GLYPH_SIDE = omega (arith, is.height, here.glyph.height) in
     let size = size_of p item is in
     let within = within_limits item before is.long narrow low (omega (arith, few, size)) in
     sound_after glyphs (item ∷ before) (λ k q lt. m (suc k) q (omega (arith, lt))) are.1

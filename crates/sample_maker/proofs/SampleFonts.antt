@@ -7,7 +7,7 @@ use Rattle.std.proofs.lemmas.Int.{ints}
 use Rattle.std.specs.Cmp.Lexicographic.{nat_list_cmp_total}
 use Rattle.dvi_commands.specs.Spelling.{Font, Set}
 use Rattle.pk_runs.specs.Numbers.{Item, Repeat, Run, SpellsItem, SpellsItems}
-use Rattle.pk_runs.specs.Raster.{Fits}
+use Rattle.pk_runs.specs.Raster.{ItemsFit}
 use Rattle.pk_packets.specs.Fonts.{HasRaster}
 use Rattle.fix_word.specs.FixWords.{IsFixWord}
 use Rattle.tfm_reader.specs.Right.{IsTfm}
@@ -163,7 +163,7 @@ bar_spelled = (
   run_spelled 4 (omega arith) (omega arith),
 )
 
-bar_fits : Fits 3 4 bar_runs
+bar_fits : ItemsFit 3 4 bar_runs
 bar_fits = ((((tt, omega arith, (refl, omega arith)), omega arith, omega arith), omega arith, omega arith), omega arith, omega arith)
 
 bar_raster : HasRaster bar_packet bar_glyph.raster

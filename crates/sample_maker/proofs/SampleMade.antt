@@ -4,12 +4,12 @@ use Rattle.std.specs.Prelude.{All, IsTrue, slice_index}
 use Rattle.std.specs.List.{AllByRecursion, flat_map, range_with_len, repeat}
 use Rattle.std.proofs.lemmas.Bool.{le-leb}
 use Rattle.outside.specs.declared.keys.FontKey.{FontKey}
-use Rattle.pixel_round.specs.Limits.{HIGHEST_RESOLUTION}
+use Rattle.pixel_round.specs.Limits.{MAX_RESOLUTION}
 use Rattle.dvi_commands.specs.Spelling.{DviCommand, Down, FieldsFit, Font, Pop, Push, Set, Spells}
 use Rattle.dvi_commands.specs.Refusal.{may_stand}
 use Rattle.dvi_commands.specs.Reading.{AreCommands, commands_of}
 use Rattle.dvi_commands.specs.declared.command.Context.TheVariants as context
-use Rattle.page_index.specs.Limits.{LONGEST}
+use Rattle.page_index.specs.Limits.{MAX_DOCUMENT_LENGTH}
 use Rattle.page_index.specs.Document.{IsDocument, Reading, is_eop}
 use Rattle.sample_maker.specs.DviFile.{AreSigned, DefineRightly, GivesBack, IsFontSpelled, IsPageText, IsRightDefinition, IsWritable, document_reading, document_text, fonts_text, key_given}
 use Rattle.sample_maker.specs.Sample.{line, sample_document, sample_fonts, sample_page, sample_pages, sample_units}
@@ -160,7 +160,7 @@ spelled (suc (suc (suc n))) f lt = absurd (omega (arith, lt))
 
 -- ---- the laws
 
-pub is_sample : (n res : ℕ) → 1 ≤ n → n ≤ 1000 → 1 ≤ res → res ≤ HIGHEST_RESOLUTION → (reading : Reading) × IsDocument res (sample_document n) reading
+pub is_sample : (n res : ℕ) → 1 ≤ n → n ≤ 1000 → 1 ≤ res → res ≤ MAX_RESOLUTION → (reading : Reading) × IsDocument res (sample_document n) reading
 unfolding sample_document
 is_sample n res some few fine coarse = (
   document_reading sample_units sample_fonts (sample_pages n),
@@ -173,6 +173,6 @@ unfolding sample_document
 sample_gives n res reading some few is =
     gives_back sample_units sample_fonts (sample_pages n) signed.num.1 signed.den.1 signed.mag.1 spelled refl (omega (arith, pages_count n, few)) (pages_are n) (omega (arith, document_short n, few)) res reading is
 
-pub sample_fits : (n : ℕ) → n ≤ 1000 → length (sample_document n) ≤ LONGEST
+pub sample_fits : (n : ℕ) → n ≤ 1000 → length (sample_document n) ≤ MAX_DOCUMENT_LENGTH
 unfolding sample_document
 sample_fits n few = omega (arith, document_short n, few)

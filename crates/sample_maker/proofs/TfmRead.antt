@@ -13,7 +13,7 @@ use Rattle.fix_word.specs.FixWords.{IsFixWord}
 use Rattle.tfm_reader.specs.Tfm.{bc, indexed_width, tfm_width, width_at, width_index, width_word}
 use Rattle.tfm_reader.specs.Tfm as tfm
 use Rattle.tfm_reader.specs.Right.{IsTfm}
-use Rattle.sample_maker.specs.TfmFile.{are_rising, code_at, codes_of, counts_of, first_code, header, index_word, last_code, place_from, tfm_file, two, width_given, width_in, word}
+use Rattle.sample_maker.specs.TfmFile.{are_rising, code_at, codes_of, tfm_counts, first_code, header, index_word, last_code, place_from, tfm_file, two, width_given, width_in, word}
 use Rattle.sample_maker.proofs.Blocks.{block_at, first_of_block, length_of_blocks}
 use Rattle.sample_maker.proofs.Counts.{AreRead, counts_read, head}
 use Rattle.sample_maker.proofs.Pairs.{first_least, last_greatest, place_fits, place_or_none}
@@ -198,9 +198,9 @@ module _ (pairs : List (ℕ × ℤ)) (some : 1 ≤ length pairs) (few : length p
 
 -- ---- the bytes as they are appended
 
-pub appended : (pairs : List (ℕ × ℤ)) (counts start a b c d e f : List ℕ) → counts ≡ counts_of pairs → start ≡ [] → a ≡ start ++ flat_map two counts → b ≡ a ++ header → c ≡ b ++ indices pairs
+pub appended : (pairs : List (ℕ × ℤ)) (counts start a b c d e f : List ℕ) → counts ≡ tfm_counts pairs → start ≡ [] → a ≡ start ++ flat_map two counts → b ≡ a ++ header → c ≡ b ++ indices pairs
     → d ≡ c ++ word (pos 0) → e ≡ d ++ flat_map pair_word pairs → f ≡ e ++ zeros → f ≡ tfm_file pairs
 unfolding tfm_file
 appended pairs counts start a b c d e f counted empty ea eb ec ed ee ef =
-    let prefix : b ≡ flat_map two (counts_of pairs) ++ header = eb ∙ ap (λ t. t ++ header) (ea ∙ ap (λ t. t ++ flat_map two counts) empty ∙ ap (flat_map two) counted) in
+    let prefix : b ≡ flat_map two (tfm_counts pairs) ++ header = eb ∙ ap (λ t. t ++ header) (ea ∙ ap (λ t. t ++ flat_map two counts) empty ∙ ap (flat_map two) counted) in
     ef ∙ ap (λ t. t ++ zeros) (ee ∙ ap (λ t. t ++ flat_map pair_word pairs) (ed ∙ ap (λ t. t ++ word (pos 0)) (ec ∙ ap (λ t. t ++ indices pairs) prefix)))

@@ -6,14 +6,14 @@ use Rattle.big_endian.specs.Numbers.{number_bytes}
 use Rattle.big_endian.proofs.Bytes.{unsigned_is_read_again}
 use Rattle.dvi_commands.specs.Spelling.{Define, Definition, Spells, spelling}
 use Rattle.dvi_commands.specs.ShortestSpelling.{number_width}
-use Rattle.dvi_commands.proofs.Told.{told_by_bytes}
+use Rattle.dvi_commands.proofs.Determined.{determined_by_bytes}
 use Rattle.vf_reader.specs.Items.{IsItem, code_of, definition_of, is_packet, program_of}
 use Rattle.vf_reader.specs.declared.locals.LocalDef.{LocalDef}
-use Rattle.sample_maker.specs.VfFile.{IsLocalSpelled, IsLocalWritable, IsPacketWritable, Packet, local_definition, local_item, long_packet, packet_item, short_packet}
+use Rattle.sample_maker.specs.VfFile.{IsLocalSpelled, IsLocalWritable, IsPacketWritable, VfPacket, local_definition, local_item, long_packet, packet_item, short_packet}
 
 -- ---- packets
 
-pub record IsPacketOf (p : Packet) (bytes : List ℕ) : Type 0 where
+pub record IsPacketOf (p : VfPacket) (bytes : List ℕ) : Type 0 where
   pub item : IsItem bytes
   pub kind : is_packet bytes ≡ true
   pub code : code_of bytes ≡ p.0
@@ -37,7 +37,7 @@ long_is code width body small fits = record {
   program = refl;
 }
 
-pub packet_is : (p : Packet) → IsPacketWritable p → IsPacketOf p (packet_item p)
+pub packet_is : (p : VfPacket) → IsPacketWritable p → IsPacketOf p (packet_item p)
 unfolding packet_item
 packet_is p h = elim (cases_Bool (nat_le (length p.2) 241)) [
   | inl short ↦ rw short (short_is p.0 p.1 p.2 short)
@@ -56,10 +56,10 @@ defined d e same = cc
 
 by_number : (n : ℕ) (d : Definition) → 1 ≤ n → n ≤ 4 → d.area ≤ length d.name → Spells (Define d) (spelling (Define d) n) → IsDefinitionOf d (spelling (Define d) n)
 by_number zero d some few area h = absurd (omega arith)
-by_number (suc zero) d some few area h = record { item = record { known = omega arith; whole = omega arith }; kind = refl; definition = defined d _ (told_by_bytes (Define d) _ h) }
-by_number (suc (suc zero)) d some few area h = record { item = record { known = omega arith; whole = omega arith }; kind = refl; definition = defined d _ (told_by_bytes (Define d) _ h) }
-by_number (suc (suc (suc zero))) d some few area h = record { item = record { known = omega arith; whole = omega arith }; kind = refl; definition = defined d _ (told_by_bytes (Define d) _ h) }
-by_number (suc (suc (suc (suc zero)))) d some few area h = record { item = record { known = omega arith; whole = omega arith }; kind = refl; definition = defined d _ (told_by_bytes (Define d) _ h) }
+by_number (suc zero) d some few area h = record { item = record { known = omega arith; whole = omega arith }; kind = refl; definition = defined d _ (determined_by_bytes (Define d) _ h) }
+by_number (suc (suc zero)) d some few area h = record { item = record { known = omega arith; whole = omega arith }; kind = refl; definition = defined d _ (determined_by_bytes (Define d) _ h) }
+by_number (suc (suc (suc zero))) d some few area h = record { item = record { known = omega arith; whole = omega arith }; kind = refl; definition = defined d _ (determined_by_bytes (Define d) _ h) }
+by_number (suc (suc (suc (suc zero)))) d some few area h = record { item = record { known = omega arith; whole = omega arith }; kind = refl; definition = defined d _ (determined_by_bytes (Define d) _ h) }
 by_number (suc (suc (suc (suc (suc n))))) d some few area h = absurd (omega arith)
 
 some_width : (a b c : Bool) → (1 ≤ (if a then 1 else if b then 2 else if c then 3 else 4)) × ((if a then 1 else if b then 2 else if c then 3 else 4) ≤ 4)
@@ -77,11 +77,11 @@ local_is d w s = by_number (number_width d.number) (local_definition d) (width_r
 
 -- ---- packets as they are appended
 
-pub short_form : (p : Packet) → length p.2 ≤ 241 → short_packet p ≡ packet_item p
+pub short_form : (p : VfPacket) → length p.2 ≤ 241 → short_packet p ≡ packet_item p
 unfolding packet_item
 short_form p few = rw (le-leb (length p.2) 241 few) refl
 
-pub long_form : (p : Packet) → 241 < length p.2 → long_packet p ≡ packet_item p
+pub long_form : (p : VfPacket) → 241 < length p.2 → long_packet p ≡ packet_item p
 unfolding packet_item
 long_form p many = rw (lt-leb (length p.2) 241 many) refl
 

@@ -9,7 +9,7 @@ use Rattle.vf_reader.specs.Locals.{local_of, local_with, locals_of, with_local}
 use Rattle.vf_reader.specs.Fonts.{AreSound, IsVfFile, program_with}
 use Rattle.vf_reader.specs.declared.locals.LocalDef.{LocalDef}
 use Rattle.vf_reader.proofs.OneItem.{no_item_begins_another, not_closing}
-use Rattle.sample_maker.specs.VfFile.{GivesFont, IsLocalSpelled, IsLocalWritable, IsPacketWritable, Packet, closing_after, have_own_codes, have_own_numbers, local_definition, local_item, packet_item, program_given, vf_file, vf_items, vf_preamble}
+use Rattle.sample_maker.specs.VfFile.{GivesFont, IsLocalSpelled, IsLocalWritable, IsPacketWritable, VfPacket, closing_after, have_own_codes, have_own_numbers, local_definition, local_item, packet_item, program_given, vf_file, vf_items, vf_preamble}
 use Rattle.sample_maker.proofs.VfItems.{IsDefinitionOf, IsPacketOf, local_is, packet_is}
 
 -- ---- items from the first to the last
@@ -107,20 +107,20 @@ no_program (d ∷ locals) before c are =
 
 -- ---- packets
 
-ArePackets : List Packet → Type 0
+ArePackets : List VfPacket → Type 0
 ArePackets packets = AllByRecursion (λ p. IsPacketOf p (packet_item p)) packets
 
-no_local : (packets : List Packet) (before : List (List ℕ)) → AllByRecursion (λ p. IsPacketOf p (packet_item p)) packets → locals_of (after before (map packet_item packets)) ≡ locals_of before
+no_local : (packets : List VfPacket) (before : List (List ℕ)) → AllByRecursion (λ p. IsPacketOf p (packet_item p)) packets → locals_of (after before (map packet_item packets)) ≡ locals_of before
 no_local [] before are = refl
 no_local (p ∷ packets) before are = no_local packets (packet_item p ∷ before) are.1 ∙ cond-true (is_packet (packet_item p)) (locals_of before) _ are.0.kind
 
-packet_with : (p : Packet) (before : List (List ℕ)) (c : ℕ) → IsPacketOf p (packet_item p) → program_with (packet_item p ∷ before) c ≡ (if p.0 == c then Some p.2 else program_with before c)
+packet_with : (p : VfPacket) (before : List (List ℕ)) (c : ℕ) → IsPacketOf p (packet_item p) → program_with (packet_item p ∷ before) c ≡ (if p.0 == c then Some p.2 else program_with before c)
 packet_with p before c is =
     ap (λ b. if b && code_of (packet_item p) == c then Some (program_of (packet_item p)) else program_with before c) is.kind
     ∙ ap (λ n. if n == c then Some (program_of (packet_item p)) else program_with before c) is.code
     ∙ ap (λ t. if p.0 == c then Some t else program_with before c) is.program
 
-not_replaced : (packets : List Packet) (before : List (List ℕ)) (c : ℕ) → AllByRecursion (λ p. IsPacketOf p (packet_item p)) packets → program_given packets c ≡ None
+not_replaced : (packets : List VfPacket) (before : List (List ℕ)) (c : ℕ) → AllByRecursion (λ p. IsPacketOf p (packet_item p)) packets → program_given packets c ≡ None
     → program_with (after before (map packet_item packets)) c ≡ program_with before c
 not_replaced [] before c are none = refl
 not_replaced (p ∷ packets) before c are none = elim (cases_Bool (p.0 == c)) [
@@ -130,13 +130,13 @@ not_replaced (p ∷ packets) before c are none = elim (cases_Bool (p.0 == c)) [
       not_replaced packets (packet_item p ∷ before) c are.1 rest ∙ packet_with p before c are.0 ∙ cond-false (p.0 == c) (Some p.2) (program_with before c) other
 ]
 
-none_given : (packets : List Packet) (c : ℕ) → list_any (λ (q : Packet). q.0 == c) packets ≡ false → program_given packets c ≡ None
+none_given : (packets : List VfPacket) (c : ℕ) → list_any (λ (q : VfPacket). q.0 == c) packets ≡ false → program_given packets c ≡ None
 none_given [] c h = refl
 none_given (q ∷ packets) c h =
-    let parts = or_parts (q.0 == c) (list_any (λ (x : Packet). x.0 == c) packets) h in
+    let parts = or_parts (q.0 == c) (list_any (λ (x : VfPacket). x.0 == c) packets) h in
     cond-false (q.0 == c) (Some q.2) (program_given packets c) parts.0 ∙ none_given packets c parts.1
 
-programs_there : (packets : List Packet) (before : List (List ℕ)) (c : ℕ) → AllByRecursion (λ p. IsPacketOf p (packet_item p)) packets → IsTrue (have_own_codes packets) → program_with before c ≡ None
+programs_there : (packets : List VfPacket) (before : List (List ℕ)) (c : ℕ) → AllByRecursion (λ p. IsPacketOf p (packet_item p)) packets → IsTrue (have_own_codes packets) → program_with before c ≡ None
     → program_with (after before (map packet_item packets)) c ≡ program_given packets c
 programs_there [] before c are own none = none
 programs_there (p ∷ packets) before c are own none = elim (cases_Bool (p.0 == c)) [
@@ -169,7 +169,7 @@ are_definitions : (locals : List LocalDef) → AllByRecursion IsLocalWritable lo
 are_definitions [] w s = tt
 are_definitions (d ∷ locals) w s = (local_is d w.0 (s 0 d (omega arith)), are_definitions locals w.1 (λ k e lt. s (suc k) e (omega (arith, lt))))
 
-are_packets : (packets : List Packet) → AllByRecursion IsPacketWritable packets → AllByRecursion (λ p. IsPacketOf p (packet_item p)) packets
+are_packets : (packets : List VfPacket) → AllByRecursion IsPacketWritable packets → AllByRecursion (λ p. IsPacketOf p (packet_item p)) packets
 are_packets [] w = tt
 are_packets (p ∷ packets) w = (packet_is p w.0, are_packets packets w.1)
 
@@ -177,11 +177,11 @@ definition_items : (locals : List LocalDef) (items : List (List ℕ)) → AllByR
 definition_items [] items are all = all
 definition_items (d ∷ locals) items are all = (are.0.item, definition_items locals items are.1 all)
 
-packet_items : (packets : List Packet) → AllByRecursion (λ p. IsPacketOf p (packet_item p)) packets → AllByRecursion IsItem (map packet_item packets ++ [])
+packet_items : (packets : List VfPacket) → AllByRecursion (λ p. IsPacketOf p (packet_item p)) packets → AllByRecursion IsItem (map packet_item packets ++ [])
 packet_items [] are = tt
 packet_items (p ∷ packets) are = (are.0.item, packet_items packets are.1)
 
-module _ (locals : List LocalDef) (packets : List Packet) (wl : AllByRecursion IsLocalWritable locals) (sl : All IsLocalSpelled locals) (own : IsTrue (have_own_numbers locals))
+module _ (locals : List LocalDef) (packets : List VfPacket) (wl : AllByRecursion IsLocalWritable locals) (sl : All IsLocalSpelled locals) (own : IsTrue (have_own_numbers locals))
     (wp : AllByRecursion IsPacketWritable packets) (codes : IsTrue (have_own_codes packets)) where
   abbrev made : List (List ℕ)
   made = map local_item locals ++ (map packet_item packets ++ [])
@@ -227,7 +227,7 @@ module _ (locals : List LocalDef) (packets : List Packet) (wl : AllByRecursion I
 
 -- ---- the bytes as they are appended
 
-pub file_made : (locals : List LocalDef) (packets : List Packet) (v a b c d : List ℕ) → v ≡ [] → a ≡ v ++ vf_preamble → b ≡ a ++ flat_map local_item locals → c ≡ b ++ flat_map packet_item packets
+pub file_made : (locals : List LocalDef) (packets : List VfPacket) (v a b c d : List ℕ) → v ≡ [] → a ≡ v ++ vf_preamble → b ≡ a ++ flat_map local_item locals → c ≡ b ++ flat_map packet_item packets
     → d ≡ c ++ replicate (closing_after (length c)) 248 → d ≡ vf_file locals packets
 unfolding vf_file vf_items
 file_made locals packets v a b c d ev ea eb ec ed =

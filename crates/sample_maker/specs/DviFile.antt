@@ -79,8 +79,8 @@ postamble u back count = Post (record {
 -- ---- one after another
 
 -- a command in its shortest spelling
-abbrev pub after : Reading → DviCommand → Reading
-after before c = placed (end_of before) c (shortest_spelling c) ∷ before
+abbrev pub reading_after : Reading → DviCommand → Reading
+reading_after before c = placed (end_of before) c (shortest_spelling c) ∷ before
 
 -- the commands of bytes
 abbrev pub after_text : Reading → List ℕ → Reading
@@ -88,12 +88,12 @@ after_text before body = reverse (placed_from (end_of before) body) ++ before
 
 abbrev pub with_fonts : Reading → List (ℤ × FontKey) → Reading
 with_fonts before [] = before
-with_fonts before (f ∷ fonts) = with_fonts (after before (definition f)) fonts
+with_fonts before (f ∷ fonts) = with_fonts (reading_after before (definition f)) fonts
 
 -- a page, with its number in the first of the ten counts and the pointer to the page before it
 abbrev pub with_page : Reading → ℕ → List ℕ → Reading
 with_page before number body =
-    after (after_text (after before (beginning number (last_bop before))) body) Eop
+    reading_after (after_text (reading_after before (beginning number (last_bop before))) body) Eop
 
 abbrev pub with_pages : Reading → ℕ → List (List ℕ) → Reading
 with_pages before number [] = before
@@ -104,14 +104,14 @@ with_pages before number (body ∷ pages) =
 
 -- up to the last page, which are numbered from 1
 unfoldable pub pages_reading : Units → List (ℤ × FontKey) → List (List ℕ) → Reading
-pages_reading u fonts pages = with_pages (with_fonts (after [] (preamble u)) fonts) 1 pages
+pages_reading u fonts pages = with_pages (with_fonts (reading_after [] (preamble u)) fonts) 1 pages
 
 -- and up to PostPost: the postamble defines the fonts again
 unfoldable pub document_reading : Units → List (ℤ × FontKey) → List (List ℕ) → Reading
 document_reading u fonts pages =
     let before = pages_reading u fonts pages in
-    after (with_fonts (after before (postamble u (last_bop before) (length pages))) fonts)
-    (PostPost (pos (end_of before)) 2)
+    reading_after (with_fonts (reading_after before (postamble u (last_bop before) (length pages)))
+    fonts) (PostPost (pos (end_of before)) 2)
 
 -- n bytes after these make a multiple of four, and are at least four
 abbrev pub filler_after : ℕ → ℕ
@@ -132,21 +132,21 @@ fonts_text fonts = flat_map (λ font. shortest_spelling (definition font)) fonts
 
 -- ---- what is appended for pages that begin at a position, with the pointer of the first
 
-unfoldable pub page_text : ℕ → ℤ → List ℕ → List ℕ
-page_text number back body =
+unfoldable pub page_bytes : ℕ → ℤ → List ℕ → List ℕ
+page_bytes number back body =
     shortest_spelling (beginning number back) ++ body ++ shortest_spelling Eop
 
 abbrev pub pages_text : ℕ → ℕ → ℤ → List (List ℕ) → List ℕ
 pages_text at number back [] = []
 pages_text at number back (body ∷ pages) =
-    page_text number back body
-    ++ pages_text (at + length (page_text number back body)) (number + 1) (pos at) pages
+    page_bytes number back body
+    ++ pages_text (at + length (page_bytes number back body)) (number + 1) (pos at) pages
 
 -- the pointer to the last of them
 abbrev pub last_page : ℕ → ℕ → ℤ → List (List ℕ) → ℤ
 last_page at number back [] = back
 last_page at number back (body ∷ pages) =
-    last_page (at + length (page_text number back body)) (number + 1) (pos at) pages
+    last_page (at + length (page_bytes number back body)) (number + 1) (pos at) pages
 
 -- ---- read again
 

@@ -7,7 +7,7 @@ use Rattle.packed_rows.specs.Bitmap.{IsShaped}
 use Rattle.pk_runs.specs.declared.glyph.Glyph.{Glyph}
 use Rattle.pk_packer.specs.Choice.{plain_bytes}
 use Rattle.pk_packets.specs.Written.{Fields, Fit, extended_packet, long_packet, short_packet}
-use Rattle.pk_runs.specs.Limits.{LONGEST_SIDE}
+use Rattle.pk_runs.specs.Limits.{MAX_GLYPH_SIDE}
 
 -- ---- what is given: glyphs, each with its code
 
@@ -28,8 +28,8 @@ glyph_given (p ∷ glyphs) c = if p.0 == c then Some p.1 else glyph_given glyphs
 
 -- what the types of a glyph and of a code hold
 pub record IsBounded (g : Glyph) : Type 0 where
-  pub width : g.raster.width ≤ LONGEST_SIDE
-  pub height : g.raster.height ≤ LONGEST_SIDE
+  pub width : g.raster.width ≤ MAX_GLYPH_SIDE
+  pub height : g.raster.height ≤ MAX_GLYPH_SIDE
   pub shaped : IsShaped g.raster
   pub hoff : IsSigned 4 g.hoff
   pub voff : IsSigned 4 g.voff

@@ -7,10 +7,10 @@ use Rattle.std.specs.Cmp.Lexicographic.{slice_cmp}
 use Rattle.std.specs.Ordering.{nat_cmp}
 use Rattle.outside.specs.Library.{FileTable}
 use Rattle.outside.specs.declared.keys.FontKey.{FontKey}
-use Rattle.pixel_round.specs.Limits.{HIGHEST_RESOLUTION}
+use Rattle.pixel_round.specs.Limits.{MAX_RESOLUTION}
 use Rattle.pixel_round.specs.declared.units.Units.{Units}
 use Rattle.page_index.specs.Document.{IsDocument, Reading}
-use Rattle.page_index.specs.Limits.{LONGEST}
+use Rattle.page_index.specs.Limits.{MAX_DOCUMENT_LENGTH}
 use Rattle.tfm_reader.specs.Right.{IsTfm}
 use Rattle.tfm_reader.specs.Tfm.{tfm_width}
 use Rattle.pk_runs.specs.declared.glyph.Glyph.{Glyph}
@@ -116,7 +116,7 @@ sample_files = from_entries named_files
 -- each sample is a document, at any resolution
 abbrev pub SamplesAreDocuments : Type 0
 SamplesAreDocuments = (n res : ℕ) → 1 ≤ n → n ≤ 1000 → 1 ≤ res
-    → res ≤ HIGHEST_RESOLUTION
+    → res ≤ MAX_RESOLUTION
     → (reading : Reading) × IsDocument res (sample_document n) reading
 
 -- whose reading gives its units, pages and fonts
@@ -126,7 +126,7 @@ SamplesGiveBack = (n res : ℕ) (reading : Reading) → 1 ≤ n → n ≤ 1000
     → GivesBack sample_units sample_fonts (sample_pages n) res reading
 
 abbrev pub SamplesFit : Type 0
-SamplesFit = (n : ℕ) → n ≤ 1000 → length (sample_document n) ≤ LONGEST
+SamplesFit = (n : ℕ) → n ≤ 1000 → length (sample_document n) ≤ MAX_DOCUMENT_LENGTH
 
 -- the files of the library by their names, and no other
 abbrev pub FilesAreTheSix : Type 0

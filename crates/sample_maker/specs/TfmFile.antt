@@ -50,8 +50,8 @@ width_given pairs (negsuc c) = None
 
 -- lf, lh, bc, ec, nw, nh, nd, ni, nl, nk, ne, np: two words of header, a width more than pairs, one
 -- height, depth and italic correction
-abbrev pub counts_of : List (ℕ × ℤ) → List ℕ
-counts_of pairs =
+abbrev pub tfm_counts : List (ℕ × ℤ) → List ℕ
+tfm_counts pairs =
     (6 + 2 + codes_of pairs + (length pairs + 1) + 3) ∷ 2 ∷ first_code pairs ∷ last_code pairs
     ∷ (length pairs + 1) ∷ 1 ∷ 1 ∷ 1 ∷ 0 ∷ 0 ∷ 0 ∷ 0 ∷ []
 
@@ -67,7 +67,7 @@ index_word pairs c = place_from 1 pairs c ∷ 0 ∷ 0 ∷ 0 ∷ []
 -- and the italic correction 0
 unfoldable pub tfm_file : List (ℕ × ℤ) → List ℕ
 tfm_file pairs =
-    flat_map two (counts_of pairs)
+    flat_map two (tfm_counts pairs)
     ++ header
     ++ flat_map (index_word pairs) (range_with_len (first_code pairs) (codes_of pairs))
     ++ word (pos 0)

@@ -11,8 +11,8 @@ use Rattle.vf_reader.specs.declared.locals.LocalDef.{LocalDef}
 -- ---- what is given
 
 -- a code, a width and commands
-abbrev pub Packet : Type 0
-Packet = ℕ × ℤ × List ℕ
+abbrev pub VfPacket : Type 0
+VfPacket = ℕ × ℤ × List ℕ
 
 pub record IsLocalWritable (d : LocalDef) : Type 0 where
   pub factor : d.factor < 2 ^ 31
@@ -20,7 +20,7 @@ pub record IsLocalWritable (d : LocalDef) : Type 0 where
   pub area : d.area ≤ length d.name
   pub rest : length d.name - d.area ≤ 255
 
-pub record IsPacketWritable (p : Packet) : Type 0 where
+pub record IsPacketWritable (p : VfPacket) : Type 0 where
   pub code : p.0 < 256
   pub width : IsUnsigned 3 p.1
   pub commands : length p.2 < 2 ^ 32
@@ -31,12 +31,12 @@ have_own_numbers [] = true
 have_own_numbers (d ∷ locals) =
     not (list_any (λ e. int_eq d.number e.number) locals) && have_own_numbers locals
 
-abbrev pub have_own_codes : List Packet → Bool
+abbrev pub have_own_codes : List VfPacket → Bool
 have_own_codes [] = true
 have_own_codes (p ∷ packets) = not (list_any (λ q. q.0 == p.0) packets) && have_own_codes packets
 
 -- the commands of a code, where a packet has it
-abbrev pub program_given : List Packet → ℕ → Option (List ℕ)
+abbrev pub program_given : List VfPacket → ℕ → Option (List ℕ)
 program_given [] c = None
 program_given (p ∷ packets) c = if p.0 == c then Some p.2 else program_given packets c
 
@@ -60,15 +60,15 @@ local_item d = shortest_spelling (Define (local_definition d))
 pub record IsLocalSpelled (d : LocalDef) : Type 0 where
   pub spelled : Spells (Define (local_definition d)) (local_item d)
 
-abbrev pub short_packet : Packet → List ℕ
+abbrev pub short_packet : VfPacket → List ℕ
 short_packet p = length p.2 ∷ p.0 ∷ number_bytes 3 p.1 ++ p.2
 
-abbrev pub long_packet : Packet → List ℕ
+abbrev pub long_packet : VfPacket → List ℕ
 long_packet p =
     242 ∷ number_bytes 4 (pos (length p.2)) ++ number_bytes 4 (pos p.0) ++ number_bytes 4 p.1 ++ p.2
 
 -- the short form up to 241 bytes of commands
-unfoldable pub packet_item : Packet → List ℕ
+unfoldable pub packet_item : VfPacket → List ℕ
 packet_item p = if nat_le (length p.2) 241 then short_packet p else long_packet p
 
 -- ---- the file
@@ -81,17 +81,17 @@ vf_preamble = 0xf7 ∷ 0xca ∷ 0 ∷ 0 ∷ 0 ∷ 0 ∷ 0 ∷ 0 ∷ 0xa0 ∷ 0 �
 abbrev pub closing_after : ℕ → ℕ
 closing_after n = 1 + (4 - (n + 1) % 4) % 4
 
-unfoldable pub vf_items : List LocalDef → List Packet → List ℕ
+unfoldable pub vf_items : List LocalDef → List VfPacket → List ℕ
 vf_items locals packets = vf_preamble ++ flat_map local_item locals ++ flat_map packet_item packets
 
-unfoldable pub vf_file : List LocalDef → List Packet → List ℕ
+unfoldable pub vf_file : List LocalDef → List VfPacket → List ℕ
 vf_file locals packets =
     vf_items locals packets ++ replicate (closing_after (length (vf_items locals packets))) 248
 
 -- ---- read again
 
 -- the items of a VF file give the local fonts, in their order, and the commands of each packet
-pub record GivesFont (locals : List LocalDef) (packets : List Packet)
+pub record GivesFont (locals : List LocalDef) (packets : List VfPacket)
     (items : List (List ℕ)) : Type 0 where
   pub local : locals_of items ≡ locals
   pub program : (c : ℕ) → program_with items c ≡ program_given packets c

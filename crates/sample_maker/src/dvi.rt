@@ -7,8 +7,8 @@ ghost use Rattle.dvi_commands.specs.ShortestSpelling.{shortest_spelling};
 ghost use Rattle.dvi_commands.specs.Spelling.{PostPost};
 ghost use Rattle.page_index.specs.Document.{IsDocument, Reading, end_of, last_bop, text_of};
 ghost use Rattle.page_index.specs.Judged.{is_scale_right};
-ghost use Rattle.page_index.specs.Limits.{LONGEST, MOST_PAGES};
-ghost use Rattle.sample_maker.specs.DviFile.{AreSigned, DefineRightly, GivesBack, IsFontSpelled, IsPageText, IsWritable, are_apart, beginning, definition, document_reading, document_text, filler_after, fonts_text, key_given, last_page, page_text, pages_reading, pages_text, postamble, preamble, with_fonts, with_pages};
+ghost use Rattle.page_index.specs.Limits.{MAX_DOCUMENT_LENGTH, MAX_PAGES};
+ghost use Rattle.sample_maker.specs.DviFile.{AreSigned, DefineRightly, GivesBack, IsFontSpelled, IsPageText, IsWritable, are_apart, beginning, definition, document_reading, document_text, filler_after, fonts_text, key_given, last_page, page_bytes, pages_reading, pages_text, postamble, preamble, with_fonts, with_pages};
 
 use dvi_commands::{Command, FontDef, write_command};
 use outside::FontKey;
@@ -58,7 +58,7 @@ fn append_page(
     out: &mut Vec<u8>,
 ) -> Result<(), NoMemory>
     requires { number < 2 ^ 31 }
-    ensures { OnOk result (out.new.items ≡ out.old.items ++ page_text number back body.now) }
+    ensures { OnOk result (out.new.items ≡ out.old.items ++ page_bytes number back body.now) }
 {
     let counts = [number as i32, 0, 0, 0, 0, 0, 0, 0, 0, 0];
     write_command(alloc, &Command::Bop { counts, back }, out)?;
@@ -68,7 +68,7 @@ fn append_page(
 
 // Appends the pages, and gives the position of the last one, or -1.
 fn append_pages(alloc: Global, pages: &[Vec<u8>], out: &mut Vec<u8>) -> Result<i32, NoMemory>
-    requires few { length pages.now ≤ MOST_PAGES }
+    requires few { length pages.now ≤ MAX_PAGES }
     requires fits { length out.old.items
         + length (pages_text (length out.old.items) 1 (negsuc 0)
         (map (λ page. page.items) pages.now)) < 2 ^ 31 }
@@ -158,8 +158,8 @@ fn append_post_post(alloc: Global, post: usize, out: &mut Vec<u8>) -> Result<(),
 /// A DVI file of these fonts and pages: a preamble with an empty text, the definitions of the
 /// fonts, the pages, numbered from 1 in the first of their ten counts, the postamble, the
 /// definitions again, and bytes 223 up to a multiple of four. All commands but those of the pages
-/// have their shortest spelling; checksums and the greatest sizes are 0. The resolution does not
-/// stand in it.
+/// have their shortest spelling; checksums and the greatest sizes are 0. The resolution is not in
+/// it.
 ///
 /// A page's bytes are whole commands that may stand on it, without its beginning and its end. The
 /// file has at most 2^31 - 1 bytes, and 1,000,000 pages.
@@ -178,7 +178,7 @@ pub fn document(
     requires units { AreSigned units.now }
     requires fonts { AllByRecursion IsWritable fonts.now }
     requires apart { IsTrue (are_apart fonts.now) }
-    requires few { length pages.now ≤ MOST_PAGES }
+    requires few { length pages.now ≤ MAX_PAGES }
     requires pages { AllByRecursion IsPageText (map (λ page. page.items) pages.now) }
     requires fits { length
         (document_text units.now fonts.now (map (λ page. page.items) pages.now)) < 2 ^ 31 }
@@ -191,7 +191,7 @@ pub fn document(
         → IsTrue (is_scale_right res (pos units.now.num) (pos units.now.den) (pos units.now.mag))
         → DefineRightly (key_given fonts.now)
         (flat_map commands_of (map (λ page. page.items) pages.now))
-        → length bytes.items ≤ LONGEST
+        → length bytes.items ≤ MAX_DOCUMENT_LENGTH
         → IsDocument res bytes.items
         (document_reading units.now fonts.now (map (λ page. page.items) pages.now))) }
 {

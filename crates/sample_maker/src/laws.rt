@@ -1,5 +1,4 @@
-//! What is true of the sample and of made PK files, each law the contract of a function without a
-//! body.
+//! Laws of the sample and of made PK files, each the contract of a function without a body.
 ghost use Rattle.sample_maker.specs.PkFile.{FilesAreMultiplesOfFour, PacketsHaveTheFirstForm};
 ghost use Rattle.sample_maker.specs.Sample.{FilesAreTheSix, GlyphsAreRead, MetricsAreRead, SamplesAreDocuments, SamplesFit, SamplesGiveBack, VirtualFontIsRead};
 

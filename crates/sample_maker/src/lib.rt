@@ -1,5 +1,5 @@
-//! Font files and documents made from what they are to say, byte for byte: the writers beside the
-//! readers of this workspace. What is written is read again.
+//! Font files and documents, made byte for byte from what they are to hold: the writers that belong
+//! to the readers of this workspace, which read again what is written.
 #![tactic(auto)]
 
 mod dvi;

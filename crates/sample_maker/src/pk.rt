@@ -6,7 +6,7 @@ ghost use Rattle.packed_rows.specs.Bitmap.{IsShaped};
 ghost use Rattle.pk_packer.specs.Choice.{plain_bytes};
 ghost use Rattle.pk_packets.specs.Fonts.{IsAnswer, IsPkFile};
 ghost use Rattle.pk_packets.specs.Written.{extended_packet, long_packet, short_packet};
-ghost use Rattle.pk_runs.specs.Limits.{LONGEST_SIDE, MAX_RASTER_BYTES};
+ghost use Rattle.pk_runs.specs.Limits.{MAX_GLYPH_SIDE, MAX_RASTER_BYTES};
 ghost use Rattle.sample_maker.specs.PkFile.{IsBounded, IsMeasured, fields, glyph_given, has_form, have_own_codes, is_signed, no_ops_after, packet_item, pk_file, sides, size_sum};
 
 use pk_packer::{append_plain, plain_size};
@@ -22,8 +22,8 @@ const PLAIN: u8 = 14 << 4;
 fn byte_count(raster: &Raster) -> usize
     ensures count { result ≡ length (plain_bytes raster.now) }
     ensures few { result ≤ 2 ^ 25 }
-    ensures narrow { raster.now.width ≤ LONGEST_SIDE }
-    ensures low { raster.now.height ≤ LONGEST_SIDE }
+    ensures narrow { raster.now.width ≤ MAX_GLYPH_SIDE }
+    ensures low { raster.now.height ≤ MAX_GLYPH_SIDE }
     ensures shaped { IsShaped raster.now }
 {
     plain_size(raster.bits())

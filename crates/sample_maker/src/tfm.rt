@@ -4,7 +4,7 @@ ghost use Rattle.std.specs.List.{AllByRecursion, flat_map, range_with_len};
 ghost use Rattle.fix_word.specs.FixWords.{IsFixWord};
 ghost use Rattle.tfm_reader.specs.Right.{IsTfm};
 ghost use Rattle.tfm_reader.specs.Tfm.{tfm_width};
-ghost use Rattle.sample_maker.specs.TfmFile.{are_rising, code_at as code_of, codes_of, counts_of, first_code, index_word, last_code, place_from, tfm_file, two, width_given, word};
+ghost use Rattle.sample_maker.specs.TfmFile.{are_rising, code_at as code_of, codes_of, tfm_counts, first_code, index_word, last_code, place_from, tfm_file, two, width_given, word};
 
 use std::alloc::{AllocError as NoMemory, Global};
 
@@ -35,7 +35,7 @@ fn counts(widths: &[(u8, i32)]) -> [u16; 12]
     requires some { 1 ≤ length widths.now }
     requires few { length widths.now ≤ 255 }
     requires rising { IsTrue (are_rising widths.now) }
-    ensures counts { result ≡ counts_of widths.now }
+    ensures counts { result ≡ tfm_counts widths.now }
     ensures top { last_code widths.now < 256 }
 {
     let first = u16::from(code_at(widths, 0));
@@ -98,8 +98,8 @@ fn append_widths(out: &mut Vec<u8>, widths: &[(u8, i32)]) -> Result<(), NoMemory
 }
 
 /// A TFM file in which each of these codes has its width, a fix_word in units of 2^-20 of the size,
-/// and no other code has one. The codes rise, and there are 1 to 255. Its height, depth and italic
-/// correction are 0, and its design size is 10 points.
+/// and no other code has one. The codes are in rising order, 1 to 255 of them. Its height, depth
+/// and italic correction are 0, and its design size is 10 points.
 ///
 /// `NoMemory` when out of memory.
 pub fn tfm_bytes(alloc: Global, widths: &[(u8, i32)]) -> Result<Vec<u8>, NoMemory>

@@ -1,4 +1,4 @@
--- The places of a TFM file, as its counts tell them.
+-- The places of a TFM file, as its counts give them.
 use Rattle.std.specs.Prelude.{◌≡◌, ℕ, ◌+◌, ◌*◌, ◌≤◌, ◌<◌, List, length}
 use Rattle.tfm_reader.specs.Tfm.{bc, codes_of, ec, lf, lh, nw, others}
 use Rattle.tfm_reader.specs.declared.layout.Counts.{Counts}

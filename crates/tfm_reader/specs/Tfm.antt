@@ -84,7 +84,7 @@ first_some [] = None
 first_some (None ∷ rows) = first_some rows
 first_some (Some f ∷ rows) = Some f
 
--- what the counts tell
+-- what the counts give
 abbrev pub counts_fault : List ℕ → Option TfmFault
 counts_fault bytes = first_some (
     fault_if (nat_lt (length bytes) 24) Short
@@ -100,7 +100,7 @@ index_fault bytes =
 abbrev pub byte_fault : List ℕ → Option TfmFault
 byte_fault bytes = option_map WidthByte (least_from (is_width_byte_wrong bytes) 1 (nw bytes - 1))
 
--- what the tables tell, where the counts are right
+-- what the tables give, where the counts are right
 abbrev pub tables_fault : List ℕ → Option TfmFault
 tables_fault bytes = first_some (
     index_fault bytes
@@ -133,7 +133,7 @@ width_of widths (pos c) = unwrap_or (slice_get widths c) None
 
 -- ---- laws
 
--- a file that is read is too short at each cut before the words that its counts tell
+-- a file that is read is too short at each cut before the words that its counts give
 abbrev pub CutFilesAreShort : Type 0
 CutFilesAreShort =
     (bytes : List ℕ) (n : ℕ) → tfm_fault bytes ≡ None → n < 4 * lf bytes

@@ -1,14 +1,14 @@
 //! What can be wrong with a TFM file.
 use std::alloc::AllocError;
 
-/// What is wrong with a TFM file, in the order in which it is looked for. `Short` stands first, and
+/// What is wrong with a TFM file, in the order in which it is looked for. `Short` comes first, and
 /// again after `Counts`; the first width is looked at before the others.
 #[derive(Clone, Copy, Debug, PartialEq, Eq, thiserror::Error)]
 pub enum TfmFault {
-    /// The counts, or the words that they tell, aren't all there.
+    /// The counts, or the words that they announce, aren't all there.
     #[error("the file is too short")]
     Short,
-    /// The counts don't go together.
+    /// The counts don't agree with one another.
     #[error("the counts are wrong")]
     Counts,
     /// This code has a width index for which there is no width.

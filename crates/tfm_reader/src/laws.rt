@@ -1,4 +1,4 @@
-//! What is true of TFM files.
+//! Laws of TFM files.
 ghost use Rattle.tfm_reader.specs.Right.{FilesAreRightOrHaveAFault, FilesHaveNoFault};
 ghost use Rattle.tfm_reader.specs.Tfm.{CutFilesAreShort};
 
@@ -8,7 +8,8 @@ pub fn right_files()
     ensures either { FilesAreRightOrHaveAFault }
 {}
 
-/// A file that is read is too short where it is cut before the words that its counts tell.
+/// A file that is read is too short where it is cut before the end of the words that its counts
+/// announce.
 #[tactic(auto, using(crate::proofs::Cuts::cut_files_are_short))]
 pub fn cut_files()
     ensures { CutFilesAreShort }

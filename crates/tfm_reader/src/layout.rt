@@ -1,4 +1,4 @@
-//! The counts at the beginning of a TFM file, and the places that they tell.
+//! The counts at the beginning of a TFM file, and the places that follow from them.
 ghost use Rattle.std.specs.Prelude.{◌<◌, ◌*◌};
 
 mod reads;

@@ -1,6 +1,6 @@
 //! The widths of a TFM file (Knuth, TFtoPL, "Font metric data"). All counts, indices and widths are
-//! judged at reading; the first fault of the file is answered. A width is found by the code's place
-//! in a table.
+//! judged when the file is read; the first fault of the file is answered. A width is found by the
+//! code's place in a table.
 #![tactic(auto)]
 
 mod faults;

@@ -46,8 +46,8 @@ fn table(alloc: Global, bytes: &[u8], layout: &Layout) -> Result<Vec<Option<i32>
 }
 
 impl Tfm {
-    /// Reads the widths of a file, or tells the first thing that is wrong with it. What stands
-    /// after the words that the counts tell is passed over.
+    /// Reads the widths of a file, or answers the first thing that is wrong with it. What follows
+    /// the words that the counts announce is ignored.
     pub fn read(alloc: Global, bytes: &[u8]) -> Result<Tfm, TfmStop>
         ensures right { OnOk result (tfm_fault bytes.now ≡ None) }
         ensures widths { IfOk result (λ tfm. (c : ℤ) → width_of tfm c ≡ tfm_width bytes.now c) }

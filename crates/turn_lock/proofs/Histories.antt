@@ -6,7 +6,7 @@ use native.Mathlib.Decide.{ℕ_discrete}
 use Rattle.cache_core.specs.declared.calls.Call.{Call}
 use Rattle.cache_core.specs.Histories.{own}
 use Rattle.turn_lock.specs.Histories.{AllMade}
-use Rattle.turn_lock.specs.Laws.{CallsAreOwn, OwnsTellAll, AloneIsHistory, OwnsAreWhole}
+use Rattle.turn_lock.specs.Laws.{CallsAreOwn, OwnCallsDetermineAll, AloneIsHistory, OwnsAreWhole}
 use Rattle.turn_lock.proofs.OwnCalls.{prefix_all}
 
 -- a call of one seat stands among the own calls of that seat
@@ -32,8 +32,8 @@ calls_are_own made history all c there =
       subst (λ (x : Call). (j : ℕ) × (j < length (own x.seat history)) × (slice_index_or (own x.seat history) j x ≡ x)) there.2 (r.0, r.1, r.2 (slice_index_or history there.0 c)),
     )
 
-pub owns_tell_all : OwnsTellAll
-owns_tell_all made passes history all told k d inside =
+pub own_calls_determine_all : OwnCallsDetermineAll
+own_calls_determine_all made passes history all told k d inside =
     let r = at_own history k d inside in
     let c : Call = slice_index_or history k d in
     ap passes (sym (r.2 d)) ∙ told c.seat (made_at made history k d all inside) r.0 d r.1

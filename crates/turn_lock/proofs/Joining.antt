@@ -18,7 +18,7 @@ use Rattle.turn_lock.specs.declared.view.Stage.{Stage}
 use Rattle.turn_lock.specs.declared.view.Stage.TheVariants.{Idle, Holding, Comparing, Spent}
 use Rattle.turn_lock.specs.Views.{IsLive, HasTicket, idle_view, split_view, new_view, comparing_view, spent_view}
 use Rattle.turn_lock.specs.TurnRule.{LiveFits, CompareFits, HasSamePart, KeepsDraws, FirstFits, SeatsFit}
-use Rattle.turn_lock.specs.Steps.{CompareTells}
+use Rattle.turn_lock.specs.Steps.{CompareGives}
 use Rattle.turn_lock.proofs.Longer.{longer_begins, first_begins, second_begins, first_owns, second_owns}
 use Rattle.turn_lock.proofs.OneView.{each_set, not_spent, apart, moved}
 use Rattle.turn_lock.proofs.Lines.{at_end, at_inside}
@@ -182,7 +182,7 @@ module _ (part : Common) (words : List ℕ) (views : List View) (log : List Call
 
   -- seat 0 has compared what it took in
   pub settles_from : (q : SeatsFit part words views log out serving) (v : View) (n : ℕ) (was theirs : List Call) (p : Common) → get_elem? views 0 ≡ some v → v.stage ≡ Comparing n was theirs p
-      → SeatsFit part words (set views 0 (idle_view v v.seen)) log out serving × CompareTells v v.stage
+      → SeatsFit part words (set views 0 (idle_view v v.seen)) log out serving × CompareGives v v.stage
   settles_from q v n was theirs p at is_comparing =
       let f = q.first v at in
       let live = f.live in
@@ -198,7 +198,7 @@ module _ (part : Common) (words : List ℕ) (views : List View) (log : List Call
             record { number_is = g.number_is; part_is = g.part_is; begins = g.begins; after = g.after; drew = g.drew; stage = tt }
             (λ j _. refl) (λ j u _ _ known. known)
             (λ _. (refl, refl, refl, (λ i m at_i _. f.after i m at_i), tt, tt)),
-        subst (CompareTells v) (sym is_comparing) record {
+        subst (CompareGives v) (sym is_comparing) record {
           was_begins = subst (IsPrefix was) (sym c.seen_is) (first_begins was theirs log c.was_begins c.theirs_begins);
           theirs_begins = subst (IsPrefix theirs) (sym c.seen_is) (second_begins was theirs log c.was_begins c.theirs_begins);
           mine = g.after ∙ sym c.first_after;

@@ -20,7 +20,7 @@ use Rattle.turn_lock.specs.declared.view.View.{View}
 use Rattle.turn_lock.specs.declared.view.Stage.TheVariants.{Idle, Waiting, Holding, Comparing, Spent}
 use Rattle.turn_lock.specs.Views.{IsLive, ticket_of, opening_view, spent_view, waiting_view, holding_view, idle_view, split_view, new_view, comparing_view}
 use Rattle.turn_lock.specs.TurnRule.{StageFits, LiveFits, KeepsDraws, FirstFits, SeatsFit, IsHome, SlotFits, TurnRule}
-use Rattle.turn_lock.specs.Steps.{Drew, Asked, ComparedAll, Looked, carried_history, HandedOn}
+use Rattle.turn_lock.specs.Steps.{DrawStep, AskStep, CompareStep, LookStep, carried_history, HandOnStep}
 use Rattle.turn_lock.specs.Seats.{AllJoined}
 use Rattle.turn_lock.proofs.Lines.{at_inside, ticket_is, serving_is, ticket_most, draws_from, is_home, looks_from, holds_all, hands_from}
 use Rattle.turn_lock.proofs.Joining.{asks_from, splits_from, joins_from, settles_from}
@@ -100,7 +100,7 @@ module _ {T : Type 0} (history : T → List Call) (turns : T → ℕ) (stands : 
       alone zero v at live = subst (LiveFits part 0 [] (0 ∷ []) [] false 0) (some-injective (opening_view part) v at) record { number_is = refl; part_is = refl; begins = prefix_self []; after = refl; drew = refl; stage = tt }
       alone (suc j) v at live = absurd (some-ne-none v (sym at))
 
-  pub draws : (slots id : ℕ) (me : M) → me.0.stage ≡ Idle → me.0.drawn < 2 ^ 48 → Allows Rule slots id me 0 (λ n. (n + 1) % 2 ^ 64) (Drew (step slots 0 1 0 none) me)
+  pub draws : (slots id : ℕ) (me : M) → me.0.stage ≡ Idle → me.0.drawn < 2 ^ 48 → Allows Rule slots id me 0 (λ n. (n + 1) % 2 ^ 64) (DrawStep (step slots 0 1 0 none) me)
   draws slots id me idle room s r _ at _ = let ticket : ℕ = get_or s.words 0 0 in (
     waiting_view me.0 ticket,
     keeps,
@@ -109,7 +109,7 @@ module _ {T : Type 0} (history : T → List Call) (turns : T → ℕ) (stands : 
     refl,
   )
 
-  pub looks : (slots id : ℕ) (me : M) (t : ℕ) → me.0.stage ≡ Waiting t → me.1 ≡ [] → Allows Rule slots id me 1 (λ n. n) (Looked history turns stands (step slots 1 0 0 none) me)
+  pub looks : (slots id : ℕ) (me : M) (t : ℕ) → me.0.stage ≡ Waiting t → me.1 ≡ [] → Allows Rule slots id me 1 (λ n. n) (LookStep history turns stands (step slots 1 0 0 none) me)
   looks slots id me t is_waiting empty s r _ at _ = dite (ℕ_discrete (get_or s.words 1 0) t)
       (λ hit.
       let q = r.seats in
@@ -157,7 +157,7 @@ module _ {T : Type 0} (history : T → List Call) (turns : T → ℕ) (stands : 
       (λ miss. (me.0, keeps, tt, same_views s 1 id me.1 me.0 at r, ((λ e. absurd (miss (e ∙ ap ticket_of is_waiting))), λ _. refl)))
 
   pub hands : (slots id : ℕ) (me : M) (t new : ℕ) (x : T) → me.0.stage ≡ Holding t → me.1 ≡ (0, Some x) ∷ [] → new ≡ t + 1 → turns x ≡ t + 1 → stands x me.0.part → Grows me.0.number me.0.seen (history x)
-      → Allows Rule slots id me 1 (λ _. new) (λ _. HandedOn history (step slots 1 new 0 none) me new)
+      → Allows Rule slots id me 1 (λ _. new) (λ _. HandOnStep history (step slots 1 new 0 none) me new)
   hands slots id me t new x is_holding full next turned stood grows s r _ at _ =
       let q = r.seats in
       let v = me.0 in
@@ -191,13 +191,13 @@ module _ {T : Type 0} (history : T → List Call) (turns : T → ℕ) (stands : 
         ),
       )
 
-  pub asks : (slots id : ℕ) (me : M) → me.0.number ≡ 0 → IsLive me.0.stage → Allows Rule slots id me 0 (λ n. n) (Asked (step slots 0 0 0 none) me)
+  pub asks : (slots id : ℕ) (me : M) → me.0.number ≡ 0 → IsLive me.0.stage → Allows Rule slots id me 0 (λ n. n) (AskStep (step slots 0 0 0 none) me)
   asks slots id me is_first live s r _ at _ =
       let q = r.seats in
       let zeroth : id ≡ 0 = sym (q.each id me.0 at live).number_is ∙ is_first in
       (me.0, keeps, tt, same_views s 0 id me.1 me.0 at r, (refl, asks_from part s.words s.views r.log r.out r.serving q me.0 (ap (get_elem? s.views) (sym zeroth) ∙ at)))
 
-  pub settles : (slots id : ℕ) (me : M) (n : ℕ) (was theirs : List Call) (p : Common) → me.0.number ≡ 0 → me.0.stage ≡ Comparing n was theirs p → Allows Rule slots id me 0 (λ m. m) (ComparedAll (step slots 0 0 0 none) me)
+  pub settles : (slots id : ℕ) (me : M) (n : ℕ) (was theirs : List Call) (p : Common) → me.0.number ≡ 0 → me.0.stage ≡ Comparing n was theirs p → Allows Rule slots id me 0 (λ m. m) (CompareStep (step slots 0 0 0 none) me)
   settles slots id me n was theirs p is_first is_comparing s r _ at _ =
       let q = r.seats in
       let zeroth : id ≡ 0 = sym (q.each id me.0 at (subst IsLive (sym is_comparing) tt)).number_is ∙ is_first in

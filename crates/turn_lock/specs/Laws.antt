@@ -13,7 +13,7 @@ use Rattle.cache_core.specs.Histories.{own}
 use Rattle.turn_lock.specs.Histories.{AllMade, Grows}
 use Rattle.turn_lock.specs.Views.{IsLive, opening_view, spent_view, split_view, new_view, comparing_view}
 use Rattle.turn_lock.specs.TurnRule.{TurnRule}
-use Rattle.turn_lock.specs.Steps.{Drew, Looked, HandedOn, Asked, ComparedAll}
+use Rattle.turn_lock.specs.Steps.{DrawStep, LookStep, HandOnStep, AskStep, CompareStep}
 
 module _ {T : Type 0} (history : T → List Call) (turns : T → ℕ) (stands : T → Common → Type 0) where
   abbrev pub MakeKeeps : Type 0
@@ -26,14 +26,14 @@ module _ {T : Type 0} (history : T → List Call) (turns : T → ℕ) (stands : 
   DrawKeeps = (part : Common) (slots id : ℕ) (me : Me (Option T) View) → me.0.stage ≡ Idle
       → me.0.drawn < 2 ^ 48
       → Allows (TurnRule history turns stands part) slots id me 0 (λ n. (n + 1) % 2 ^ 64)
-      (Drew (step slots 0 1 0 none) me)
+      (DrawStep (step slots 0 1 0 none) me)
 
   -- a look reads word 1
   abbrev pub LookKeeps : Type 0
   LookKeeps = (part : Common) (slots id : ℕ) (me : Me (Option T) View) (ticket : ℕ)
       → me.0.stage ≡ Waiting ticket → me.1 ≡ []
       → Allows (TurnRule history turns stands part) slots id me 1 (λ n. n)
-      (Looked history turns stands (step slots 1 0 0 none) me)
+      (LookStep history turns stands (step slots 1 0 0 none) me)
 
   -- handing on writes the next ticket into word 1, and the slot goes home with a value that had its
   -- turn
@@ -44,14 +44,14 @@ module _ {T : Type 0} (history : T → List Call) (turns : T → ℕ) (stands : 
       → next ≡ ticket + 1 → turns value ≡ ticket + 1 → stands value me.0.part
       → Grows me.0.number me.0.seen (history value)
       → Allows (TurnRule history turns stands part) slots id me 1 (λ _. next)
-      (λ _. HandedOn history (step slots 1 next 0 none) me next)
+      (λ _. HandOnStep history (step slots 1 next 0 none) me next)
 
   -- before a split seat 0 reads word 0
   abbrev pub AskKeeps : Type 0
   AskKeeps = (part : Common) (slots id : ℕ) (me : Me (Option T) View) → me.0.number ≡ 0
       → IsLive me.0.stage
       → Allows (TurnRule history turns stands part) slots id me 0 (λ n. n)
-      (Asked (step slots 0 0 0 none) me)
+      (AskStep (step slots 0 0 0 none) me)
 
   abbrev pub SplitKeeps : Type 0
   SplitKeeps = (part : Common) (id : ℕ) (v : View) → v.number ≡ 0 → IsLive v.stage → v.made < 1024
@@ -68,7 +68,7 @@ module _ {T : Type 0} (history : T → List Call) (turns : T → ℕ) (stands : 
       (part : Common) (slots id : ℕ) (me : Me (Option T) View) (n : ℕ) (was theirs : List Call)
       (p : Common) → me.0.number ≡ 0 → me.0.stage ≡ Comparing n was theirs p
       → Allows (TurnRule history turns stands part) slots id me 0 (λ m. m)
-      (ComparedAll (step slots 0 0 0 none) me)
+      (CompareStep (step slots 0 0 0 none) me)
 
 -- ---- own calls
 
@@ -79,8 +79,8 @@ CallsAreOwn =
     → (c.seat < made) × Contains (own c.seat history) c
 
 -- a test that each made seat's own calls pass is passed by all calls of the history
-abbrev pub OwnsTellAll : Type 0
-OwnsTellAll =
+abbrev pub OwnCallsDetermineAll : Type 0
+OwnCallsDetermineAll =
     (made : ℕ) (passes : Call → Bool) (history : List Call) → AllMade made history
     → ((seat : ℕ) → seat < made → AllPass passes (own seat history)) → AllPass passes history
 

@@ -1,4 +1,4 @@
--- What each step tells the seat that makes it.
+-- What each step gives the seat that makes it.
 use Rattle.std.specs.Prelude.{◌≡◌, ◌≢◌, ℕ, ◌+◌, ◌^◌, ◌<◌, List, [], ◌∷◌, length, Option, Some}
 use mathlib.Core.Option.{some}
 use mathlib.Core.List.{IsPrefix}
@@ -26,22 +26,22 @@ pub record IsCompared (seen : List Call) (joined : List ℕ) (part : Common) (n 
       → own m seen ≡ own m was
   pub same_part : their_part ≡ part
 
-abbrev pub CompareTells : View → Stage → Type 0
-CompareTells v (Comparing n was theirs p) = IsCompared v.seen v.joined v.part n was theirs p
-CompareTells v _ = Unit {0}
+abbrev pub CompareGives : View → Stage → Type 0
+CompareGives v (Comparing n was theirs p) = IsCompared v.seen v.joined v.part n was theirs p
+CompareGives v _ = Unit {0}
 
 module _ {T : Type 0} where
   -- the ticket that was drawn is the word that was found
-  abbrev pub Drew : Step (Option T) → Me (Option T) View → ℕ → Me (Option T) View → Type 0
-  Drew step before found after = after ≡ (waiting_view before.0 found, before.1)
+  abbrev pub DrawStep : Step (Option T) → Me (Option T) View → ℕ → Me (Option T) View → Type 0
+  DrawStep step before found after = after ≡ (waiting_view before.0 found, before.1)
 
   -- the number that seat 0 makes next has no calls
-  abbrev pub Asked : Step (Option T) → Me (Option T) View → ℕ → Me (Option T) View → Type 0
-  Asked step before found after = (after ≡ before) × (own before.0.made before.0.seen ≡ [])
+  abbrev pub AskStep : Step (Option T) → Me (Option T) View → ℕ → Me (Option T) View → Type 0
+  AskStep step before found after = (after ≡ before) × (own before.0.made before.0.seen ≡ [])
 
-  abbrev pub ComparedAll : Step (Option T) → Me (Option T) View → ℕ → Me (Option T) View → Type 0
-  ComparedAll step before found after =
-      (after ≡ (idle_view before.0 before.0.seen, before.1)) × CompareTells before.0 before.0.stage
+  abbrev pub CompareStep : Step (Option T) → Me (Option T) View → ℕ → Me (Option T) View → Type 0
+  CompareStep step before found after =
+      (after ≡ (idle_view before.0 before.0.seen, before.1)) × CompareGives before.0 before.0.stage
 
 module _ {T : Type 0} (history : T → List Call) (turns : T → ℕ) (stands : T → Common → Type 0) where
   -- the value has as many turns as the ticket, begins with what was seen, has no more calls of the
@@ -56,8 +56,8 @@ module _ {T : Type 0} (history : T → List Call) (turns : T → ℕ) (stands : 
     pub joined_same : before.number ≡ 0 → OwnsSame before.joined (history value) before.seen
 
   -- where its own ticket is served the seat takes the value, and else nothing changes
-  abbrev pub Looked : Step (Option T) → Me (Option T) View → ℕ → Me (Option T) View → Type 0
-  Looked step before found after =
+  abbrev pub LookStep : Step (Option T) → Me (Option T) View → ℕ → Me (Option T) View → Type 0
+  LookStep step before found after =
       (found ≡ ticket_of before.0.stage → (value : T) × (after.1 ≡ (0, Some value) ∷ [])
       × TakesValue before.0 value after.0)
       × (found ≢ ticket_of before.0.stage → after ≡ before)
@@ -69,7 +69,7 @@ module _ {T : Type 0} (history : T → List Call) where
   carried_history _ = []
 
   -- seat 0 has then seen no more calls of the numbers joined
-  abbrev pub HandedOn : Step (Option T) → Me (Option T) View → ℕ → Me (Option T) View → Type 0
-  HandedOn step before found after =
+  abbrev pub HandOnStep : Step (Option T) → Me (Option T) View → ℕ → Me (Option T) View → Type 0
+  HandOnStep step before found after =
       (after ≡ (idle_view before.0 (carried_history before.1), []))
       × (before.0.number ≡ 0 → OwnsSame before.0.joined (carried_history before.1) before.0.seen)

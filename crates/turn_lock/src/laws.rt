@@ -1,5 +1,5 @@
 //! Laws of the rule of the lock and of own calls, each a clause of a function without a body.
-ghost use Rattle.turn_lock.specs.Laws.{MakeKeeps, DrawKeeps, LookKeeps, HandOnKeeps, AskKeeps, SplitKeeps, JoinKeeps, CompareKeeps, CallsAreOwn, OwnsTellAll, AloneIsHistory, OwnsAreWhole};
+ghost use Rattle.turn_lock.specs.Laws.{MakeKeeps, DrawKeeps, LookKeeps, HandOnKeeps, AskKeeps, SplitKeeps, JoinKeeps, CompareKeeps, CallsAreOwn, OwnCallsDetermineAll, AloneIsHistory, OwnsAreWhole};
 ghost use Rattle.turn_lock.specs.RuleParts.{NumbersAlways, TicketsAlways, DrawsAlways, SlotAlways, PartAlways, HistoryAlways};
 
 use cache_core::Told;
@@ -28,12 +28,12 @@ pub fn rule_says<T: Told>()
     ensures history { HistoryAlways T.history T.turns T.stands }
 {}
 
-/// What the own calls of the seats that were made tell of the history: each of its calls is one of
+/// What the own calls of the seats that were made say of the history: each of its calls is one of
 /// them, a test that they pass is passed by all, a seat that called alone has all calls, and a
 /// prefix with all their calls is the whole.
 pub fn own_calls()
     ensures own { CallsAreOwn }
-    ensures all { OwnsTellAll }
+    ensures all { OwnCallsDetermineAll }
     ensures alone { AloneIsHistory }
     ensures whole { OwnsAreWhole }
 {}

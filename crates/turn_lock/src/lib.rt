@@ -1,6 +1,6 @@
 //! A lock whose value goes from seat to seat in the order in which turns were drawn: a ticket lock.
-//! Its value keeps a history, and each seat knows a beginning of that history that it has seen. The
-//! rule that holds between any two steps of all seats stands in `specs/TurnRule.antt`.
+//! Its value keeps a history, and each seat knows the beginning of that history that it has seen.
+//! The rule that holds between any two steps of all seats is in `specs/TurnRule.antt`.
 #![tactic(auto)]
 
 pub mod example;

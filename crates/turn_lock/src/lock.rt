@@ -9,7 +9,7 @@ ghost use Rattle.turn_lock.specs.Views.{opening_view, idle_view, split_view, new
 ghost use Rattle.turn_lock.specs.Seats.{IsHolding, AllJoined};
 ghost use Rattle.turn_lock.specs.Steps.{TakesValue};
 
-use crate::seat::{Place, Seat};
+use crate::seat::{Seat, TableSeat};
 use crate::sleepers::Sleepers;
 use crate::steps::{AskNext, Compare, Draw, HandOn, Peek, SplitOff, TakeIn, Turns};
 use crate::view::View;
@@ -93,7 +93,7 @@ impl<T: Told> TurnLock<T> {
     }
 
     /// Makes one more seat. It has the next number, has seen what seat 0 has, has no calls of its
-    /// own, drew nothing and doesn't have the turn. Seat 0 counts it, and is else as it was.
+    /// own, drew nothing and doesn't have the turn. Seat 0 counts it, and is otherwise as it was.
     pub fn split(&self, first: &mut Seat<T>) -> Seat<T>
         requires lock { first.old.lock ≡ self.now }
         requires first { first.old.view.number ≡ 0 }
@@ -118,9 +118,10 @@ impl<T: Told> TurnLock<T> {
         }
     }
 
-    /// Takes another seat in. Seat 0 has then seen the longer of both histories, which goes on from
-    /// both. It has the calls of the other's number that the other had, and of its own number and
-    /// of each number joined before those that it had itself. Both seats have one common part.
+    /// Joins another seat to seat 0. Seat 0 has then seen the longer of both histories, of which
+    /// each of the two is a beginning. Of the other's number it has the calls that the other had,
+    /// and of its own number, and of each number joined before, those that it had itself. Both
+    /// seats have one common part.
     pub fn join(&self, first: &mut Seat<T>, other: Seat<T>)
         requires lock { first.old.lock ≡ self.now }
         requires other_lock { other.lock ≡ self.now }
@@ -150,7 +151,7 @@ impl<T: Told> TurnLock<T> {
     }
 
     // Waits until the ticket is served, and takes the value out of the slot.
-    fn wait<R: Wait>(&self, rt: &R, place: &mut Place<T>, ticket: u64) -> T
+    fn wait<R: Wait>(&self, rt: &R, place: &mut TableSeat<T>, ticket: u64) -> T
         requires lock { place.old.table_id ≡ self.now }
         requires waits { place.old.me.0.stage ≡ Waiting ticket }
         requires empty { place.old.me.1 ≡ [] }

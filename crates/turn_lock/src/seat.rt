@@ -5,7 +5,7 @@ use crate::view::View;
 use std::marker::Model;
 
 // What the table knows of it. It has no bytes.
-pub(crate) type Place<T> = atomic_table::Seat<Option<T>, View>;
+pub(crate) type TableSeat<T> = atomic_table::Seat<Option<T>, View>;
 
 /// A seat at a turn lock. Contracts see its lock and its view: its number, whether it has the turn,
 /// how many turns it drew, the history that it has seen, and the common part; of seat 0 also how
@@ -13,7 +13,7 @@ pub(crate) type Place<T> = atomic_table::Seat<Option<T>, View>;
 /// can close the lock.
 #[derive(Drop)]
 pub struct Seat<T> {
-    pub(crate) place: Place<T>,
+    pub(crate) place: TableSeat<T>,
     pub(crate) number: u32,
     pub(crate) drawn: u64,
     // At seat 0, how many seats were made.

@@ -1,4 +1,4 @@
-//! Where seats sleep that wait. No contract rests on it: whoever wakes, for whatever reason, looks
+//! Where waiting seats sleep. No contract rests on it: whoever wakes, for whatever reason, looks
 //! again.
 use std::array;
 use std::sync::Wait;
@@ -9,7 +9,7 @@ use std::time::Duration;
 const PLACES: usize = 16;
 
 // A wake that was lost would cost n milliseconds, and no more.
-const LONGEST_SLEEP: u64 = 50;
+const MAX_SLEEP: u64 = 50;
 
 /// The seats of one lock that sleep.
 #[derive(Drop)]
@@ -61,7 +61,7 @@ impl Sleepers {
     /// Sleeps without a ticket until it is called, unless somebody was called who has not come yet.
     pub(crate) fn sleep_until_called<R: Wait>(&self, rt: &R) {
         self.called
-            .park_timeout(rt, 0, Duration::from_millis(LONGEST_SLEEP));
+            .park_timeout(rt, 0, Duration::from_millis(MAX_SLEEP));
     }
 
     /// The seat is awake and has no ticket: it comes, called or not.
@@ -87,7 +87,7 @@ impl Sleepers {
     pub(crate) fn sleep_at<R: Wait>(&self, rt: &R, ticket: u64) {
         let mark = (mark_of(ticket) % (1 << 32)) as u32;
         self.place(ticket)
-            .park_timeout(rt, mark, Duration::from_millis(LONGEST_SLEEP));
+            .park_timeout(rt, mark, Duration::from_millis(MAX_SLEEP));
     }
 
     /// Wakes those that sleep at the ticket's place.

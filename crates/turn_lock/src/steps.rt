@@ -1,4 +1,4 @@
-//! The rule of the lock, and what each step tells. These types are for the proofs alone.
+//! The rule of the lock, and what is known after each step. These types are for the proofs alone.
 use crate::view::View;
 use atomic_table::{Join, Play, Split, TableRule};
 use cache_core::{GhostCommon, Told};
@@ -18,45 +18,45 @@ impl<T: Told> TableRule<Option<T>, View, GhostCommon> for Turns {
 pub struct Draw;
 
 impl<T> Play<Option<T>, View> for Draw {
-    ghost use Rattle.turn_lock.specs.Steps.{Drew};
+    ghost use Rattle.turn_lock.specs.Steps.{DrawStep};
 
-    ghost then = { Drew };
+    ghost then = { DrawStep };
 }
 
 // Reads which ticket is served.
 pub struct Peek;
 
 impl<T: Told> Play<Option<T>, View> for Peek {
-    ghost use Rattle.turn_lock.specs.Steps.{Looked};
+    ghost use Rattle.turn_lock.specs.Steps.{LookStep};
 
-    ghost then = { Looked T.history T.turns T.stands };
+    ghost then = { LookStep T.history T.turns T.stands };
 }
 
 // Serves the next ticket.
 pub struct HandOn;
 
 impl<T: Told> Play<Option<T>, View> for HandOn {
-    ghost use Rattle.turn_lock.specs.Steps.{HandedOn};
+    ghost use Rattle.turn_lock.specs.Steps.{HandOnStep};
 
-    ghost then = { HandedOn T.history };
+    ghost then = { HandOnStep T.history };
 }
 
-// Seat 0 is told of the number that it makes next.
+// Seat 0 knows the number that it makes next.
 pub struct AskNext;
 
 impl<T> Play<Option<T>, View> for AskNext {
-    ghost use Rattle.turn_lock.specs.Steps.{Asked};
+    ghost use Rattle.turn_lock.specs.Steps.{AskStep};
 
-    ghost then = { Asked };
+    ghost then = { AskStep };
 }
 
 // Seat 0 compares what it had seen with what the seat had that it took in.
 pub struct Compare;
 
 impl<T> Play<Option<T>, View> for Compare {
-    ghost use Rattle.turn_lock.specs.Steps.{ComparedAll};
+    ghost use Rattle.turn_lock.specs.Steps.{CompareStep};
 
-    ghost then = { ComparedAll };
+    ghost then = { CompareStep };
 }
 
 pub struct SplitOff;

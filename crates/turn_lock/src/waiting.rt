@@ -15,11 +15,11 @@ const SLEEPS: u32 = 3;
 pub(crate) const LOOKS_IN_LINE: u32 = 12;
 
 // The longest time between two looks has 2 to this power of the processor's pauses.
-const LONGEST_PAUSE: u32 = 6;
+const MAX_PAUSE: u32 = 6;
 
 /// Lets some time pass after n looks: each time twice as much, up to a limit.
 pub(crate) fn pause(looks: u32) {
-    for _ in 0..1u32 << looks.min(LONGEST_PAUSE) {
+    for _ in 0..1u32 << looks.min(MAX_PAUSE) {
         hint::spin_loop();
     }
 }

@@ -9,27 +9,29 @@ use Rattle.dvi_commands.proofs.Commands.{placed_on, placed_none, placed_first, c
 use Rattle.page_index.specs.Document.{Reading}
 use Rattle.page_index.specs.Pages.{eop_at, page_commands}
 use Rattle.vf_expand.specs.Faults.{TooLong}
-use Rattle.vf_expand.specs.Course.{Course, Gives, Asks, Ends, Stops, Current, NoFont, MOST_FLAT, MOST_DEEP, Place, OnPage, course_of, cut, deeper, expand_one, expand_list, leave, page_from}
+use Rattle.vf_expand.specs.Course.{Course, Gives, Asks, Ends, Stops, Current, NoFont, Place, OnPage, course_of, cut, deeper, expand_one, expand_list, leave, page_from}
+use Rattle.vf_expand.specs.Limits.{MAX_FLAT_COMMANDS}
+use Rattle.vf_expand.specs.Limits.{MAX_DEPTH}
 use Rattle.vf_expand.specs.Expansion.{Page, IsEnded, course_left, depth, place_in, place_of, stack_left}
-use Rattle.vf_expand.specs.Effects.{seen_current}
-use Rattle.vf_expand.specs.Levels.{AreLevels, place_at, position, stack_of, text_in, text_of}
-use Rattle.vf_expand.specs.declared.frames.Frame.{Frame}
+use Rattle.vf_expand.specs.Effects.{value_of_current}
+use Rattle.vf_expand.specs.Levels.{AreLevels, place_at, position, stack_of, text_in, level_text}
+use Rattle.vf_expand.specs.declared.outer_levels.Level.{Level}
 use Rattle.vf_expand.specs.declared.current.Current as code
 use Rattle.vf_expand.proofs.Late.{late_list, late_one}
 
 -- ---- levels
 
-pub depth_is : (bytes : List ℕ) (start : ℕ) (level : Frame) (outer : List Frame) → depth (stack_of bytes start level outer) ≡ length outer
+pub depth_is : (bytes : List ℕ) (start : ℕ) (level : Level) (outer : List Level) → depth (stack_of bytes start level outer) ≡ length outer
 depth_is bytes start level [] = refl
 depth_is bytes start level (o ∷ outer) = ap suc (depth_is bytes start o outer)
 
 -- the current font of the level that is read is no part of what is left of it
-pub stack_same : (bytes : List ℕ) (start : ℕ) (level : Frame) (now : code.Current) (outer : List Frame) → stack_of bytes start (record level { current = now }) outer ≡ stack_of bytes start level outer
+pub stack_same : (bytes : List ℕ) (start : ℕ) (level : Level) (now : code.Current) (outer : List Level) → stack_of bytes start (record level { current = now }) outer ≡ stack_of bytes start level outer
 stack_same bytes start level now [] = refl
 stack_same bytes start level now (o ∷ outer) = refl
 
 -- the place of the last step is no part of what is left of the page
-pub still : (reading : Reading) (eop at start : ℕ) (bytes : List ℕ) (level : Frame) (outer : List Frame) (current : Current)
+pub still : (reading : Reading) (eop at start : ℕ) (bytes : List ℕ) (level : Level) (outer : List Level) (current : Current)
     → stack_left reading eop (position start at level outer) current (stack_of bytes start level outer) ≡ stack_left reading eop at current (stack_of bytes start level outer)
 still reading eop at start bytes level [] current = refl
 still reading eop at start bytes level (o ∷ outer) current = refl
@@ -43,38 +45,38 @@ read_on bytes start at end c h inside spelled =
     let sum : start + at + (end - at) ≡ start + end = omega arith in
     placed_on bytes at end (start + at) c h inside spelled ∙ ap (λ (n : ℕ). placed (start + at) c (slice_range bytes at end) ∷ placed_from n (drop end bytes)) sum
 
-module _ (reading : Reading) (eop start at : ℕ) (bytes : List ℕ) (level : Frame) (end : ℕ) (c : DviCommand) where
-  pub head : (outer : List Frame) → level.pos < end → end ≤ length (text_of bytes level outer) → Spells c (slice_range (text_of bytes level outer) level.pos end) → (current : Current)
+module _ (reading : Reading) (eop start at : ℕ) (bytes : List ℕ) (level : Level) (end : ℕ) (c : DviCommand) where
+  pub head : (outer : List Level) → level.pos < end → end ≤ length (level_text bytes level outer) → Spells c (slice_range (level_text bytes level outer) level.pos end) → (current : Current)
       → stack_left reading eop at current (stack_of bytes start level outer)
-      ≡ expand_one (deeper (MOST_DEEP - length outer) (position start at level outer)) (place_at reading outer) (position start at level outer) current c
+      ≡ expand_one (deeper (MAX_DEPTH - length outer) (position start at level outer)) (place_at reading outer) (position start at level outer) current c
       (λ next. stack_left reading eop (position start at level outer) next (stack_of bytes start (record level { pos = end }) outer))
   head [] h inside spelled current = ap (page_from reading eop current) (read_on bytes start level.pos end c h inside spelled)
   head (o ∷ outer) h inside spelled current =
-      let outside = seen_current o.current in
+      let outside = value_of_current o.current in
       let text = text_in outside level.code in
-      let after = leave level.gap at (stack_left reading eop at outside (stack_of bytes start o outer)) in
-      ap (λ (commands : List DviCommand). expand_list (expand_one (deeper (MOST_DEEP - suc (depth (stack_of bytes start o outer))) at) (place_in reading outside) at) current commands after)
+      let after = leave level.advance at (stack_left reading eop at outside (stack_of bytes start o outer)) in
+      ap (λ (commands : List DviCommand). expand_list (expand_one (deeper (MAX_DEPTH - suc (depth (stack_of bytes start o outer))) at) (place_in reading outside) at) current commands after)
       (commands_on text level.pos end c h spelled)
-      ∙ ap (λ (n : ℕ). expand_one (deeper (MOST_DEEP - suc n) at) (place_in reading outside) at current c
+      ∙ ap (λ (n : ℕ). expand_one (deeper (MAX_DEPTH - suc n) at) (place_in reading outside) at current c
       (λ next. stack_left reading eop at next (stack_of bytes start (record level { pos = end }) (o ∷ outer)))) (depth_is bytes start o outer)
 
 -- the same, by what the code has of them
-module _ (reading : Reading) (eop start at : ℕ) (bytes : List ℕ) (level : Frame) (outer : List Frame) where
+module _ (reading : Reading) (eop start at : ℕ) (bytes : List ℕ) (level : Level) (outer : List Level) where
   pub still_at : (here : ℕ) → here ≡ position start at level outer → (current : Current)
       → stack_left reading eop here current (stack_of bytes start level outer) ≡ stack_left reading eop at current (stack_of bytes start level outer)
   still_at here e current =
       ap (λ (n : ℕ). stack_left reading eop n current (stack_of bytes start level outer)) e ∙ still reading eop at start bytes level outer current
 
-  pub head_at : (end : ℕ) (c : DviCommand) (text : List ℕ) (place : Place) (here room : ℕ) → text ≡ text_of bytes level outer → place ≡ place_at reading outer
-      → here ≡ position start at level outer → room ≡ MOST_DEEP - length outer → level.pos < end → end ≤ length text → Spells c (slice_range text level.pos end) → (current : Current)
+  pub head_at : (end : ℕ) (c : DviCommand) (text : List ℕ) (place : Place) (here room : ℕ) → text ≡ level_text bytes level outer → place ≡ place_at reading outer
+      → here ≡ position start at level outer → room ≡ MAX_DEPTH - length outer → level.pos < end → end ≤ length text → Spells c (slice_range text level.pos end) → (current : Current)
       → stack_left reading eop at current (stack_of bytes start level outer)
       ≡ expand_one (deeper room here) place here current c (λ next. stack_left reading eop here next (stack_of bytes start (record level { pos = end }) outer))
   head_at end c text place here room same_text same_place same_here same_room h inside spelled current =
       let rest = stack_of bytes start (record level { pos = end }) outer in
       head reading eop start at bytes level end c outer h (subst (λ (t : List ℕ). end ≤ length t) same_text inside)
       (subst (λ (t : List ℕ). Spells c (slice_range t level.pos end)) same_text spelled) current
-      ∙ ap (λ (n : ℕ). expand_one (deeper (MOST_DEEP - length outer) n) (place_at reading outer) n current c (λ next. stack_left reading eop n next rest)) (sym same_here)
-      ∙ ap (λ (p : Place). expand_one (deeper (MOST_DEEP - length outer) here) p here current c (λ next. stack_left reading eop here next rest)) (sym same_place)
+      ∙ ap (λ (n : ℕ). expand_one (deeper (MAX_DEPTH - length outer) n) (place_at reading outer) n current c (λ next. stack_left reading eop n next rest)) (sym same_here)
+      ∙ ap (λ (p : Place). expand_one (deeper (MAX_DEPTH - length outer) here) p here current c (λ next. stack_left reading eop here next rest)) (sym same_place)
       ∙ ap (λ (n : ℕ). expand_one (deeper n here) place here current c (λ next. stack_left reading eop here next rest)) (sym same_room)
 
 -- ---- the end
@@ -87,9 +89,9 @@ none_after : (bytes : List ℕ) (at : ℕ) → at ≡ length bytes → drop at b
 none_after bytes at e = ap (λ (k : ℕ). drop k bytes) e ∙ drop_end bytes
 
 -- at the end of its bytes nothing is left
-pub ended : (bytes : List ℕ) (start : ℕ) (level : Frame) (outer : List Frame) → level.pos ≡ length (text_of bytes level outer) → IsEnded (stack_of bytes start level outer)
+pub ended : (bytes : List ℕ) (start : ℕ) (level : Level) (outer : List Level) → level.pos ≡ length (level_text bytes level outer) → IsEnded (stack_of bytes start level outer)
 ended bytes start level [] e = ap (placed_from (start + level.pos)) (none_after bytes level.pos e) ∙ placed_none (start + level.pos)
-ended bytes start level (o ∷ outer) e = ap commands_of (none_after (text_in (seen_current o.current) level.code) level.pos e) ∙ commands_none
+ended bytes start level (o ∷ outer) e = ap commands_of (none_after (text_in (value_of_current o.current) level.code) level.pos e) ∙ commands_none
 
 -- ---- no room
 
@@ -99,16 +101,16 @@ some_placed place [] bytes start some are = absurd (omega (arith, ap length are)
 some_placed place (c ∷ commands) bytes start some are =
     (placed start c are.0, placed_from (start + length are.0) are.1, refl, ap (placed_from start) are.2.whole ∙ placed_first start c are.0 are.1 are.2.spelled)
 
-pub late_stack : (reading : Reading) (eop start at : ℕ) (bytes : List ℕ) (level : Frame) (outer : List Frame) (current : Current) → level.pos < length (text_of bytes level outer) → AreLevels bytes level outer
+pub late_stack : (reading : Reading) (eop start at : ℕ) (bytes : List ℕ) (level : Level) (outer : List Level) (current : Current) → level.pos < length (level_text bytes level outer) → AreLevels bytes level outer
     → cut 0 (stack_left reading eop at current (stack_of bytes start level outer)) ≡ Stops TooLong (position start at level outer)
 late_stack reading eop start at bytes level [] current inside fine =
     let there = some_placed context.Page fine.readable.commands (drop level.pos bytes) (start + level.pos) (omega (arith, length-drop level.pos bytes)) fine.readable.are in
     ap (λ (commands : List Placed). cut 0 (page_from reading eop current commands)) there.3
-    ∙ late_one (deeper MOST_DEEP there.0.at) (OnPage reading) there.0.at current there.0.command (λ next. page_from reading eop next there.1)
+    ∙ late_one (deeper MAX_DEPTH there.0.at) (OnPage reading) there.0.at current there.0.command (λ next. page_from reading eop next there.1)
     ∙ ap (Stops TooLong) there.2
 late_stack reading eop start at bytes level (o ∷ outer) current inside fine =
-    let outside = seen_current o.current in
-    late_list (deeper (MOST_DEEP - suc (depth (stack_of bytes start o outer))) at) (place_in reading outside) at current (commands_of (drop level.pos (text_in outside level.code))) level.gap
+    let outside = value_of_current o.current in
+    late_list (deeper (MAX_DEPTH - suc (depth (stack_of bytes start o outer))) at) (place_in reading outside) at current (commands_of (drop level.pos (text_in outside level.code))) level.advance
     (stack_left reading eop at outside (stack_of bytes start o outer))
 
 -- ---- as a page begins
@@ -118,9 +120,9 @@ pub new_left : (reading : Reading) (i start : ℕ) (bytes : List ℕ) → placed
 unfolding course_left
 new_left reading i start bytes commands ends =
     let sum : start + 0 ≡ start = omega arith in
-    ap (λ (n : ℕ). cut MOST_FLAT (page_from reading (start + length bytes) NoFont (placed_from n bytes))) sum
-    ∙ ap (λ (placed : List Placed). cut MOST_FLAT (page_from reading (start + length bytes) NoFont placed)) commands
-    ∙ sym (ap (λ (o : Option ℕ). cut MOST_FLAT (page_from reading (unwrap_or o 0) NoFont (page_commands i reading))) ends)
+    ap (λ (n : ℕ). cut MAX_FLAT_COMMANDS (page_from reading (start + length bytes) NoFont (placed_from n bytes))) sum
+    ∙ ap (λ (placed : List Placed). cut MAX_FLAT_COMMANDS (page_from reading (start + length bytes) NoFont placed)) commands
+    ∙ sym (ap (λ (o : Option ℕ). cut MAX_FLAT_COMMANDS (page_from reading (unwrap_or o 0) NoFont (page_commands i reading))) ends)
 
 -- the place of what stands next
 place_cut : (n : ℕ) (x : Course) → place_of (cut n x) ≡ place_of x
@@ -137,7 +139,7 @@ place_left : (reading : Reading) (eop at b : ℕ) (current : Current) (p : Place
 unfolding course_left
 place_left reading eop at b current p commands =
     let x = page_from reading eop current (p ∷ commands) in
-    place_cut b x ∙ sym (place_cut 0 x) ∙ ap place_of (late_one (deeper MOST_DEEP p.at) (OnPage reading) p.at current p.command (λ next. page_from reading eop next commands))
+    place_cut b x ∙ sym (place_cut 0 x) ∙ ap place_of (late_one (deeper MAX_DEPTH p.at) (OnPage reading) p.at current p.command (λ next. page_from reading eop next commands))
 
 end_place : (reading : Reading) (eop at b : ℕ) (current : Current) → place_of (course_left reading eop at b None current (Page [])) ≡ eop
 unfolding course_left

@@ -5,12 +5,12 @@ use Rattle.outside.specs.declared.keys.FontKey.{FontKey}
 use Rattle.drift_rules.specs.Position.{FlatCommand}
 use Rattle.page_index.specs.Document.{font_table}
 use Rattle.pk_runs.specs.declared.glyph.Glyph.{Glyph}
-use Rattle.font_decode.specs.Fonts.{FontSeen, scaled_width_of, glyph_at, is_virtual_of, packet_of, local_of, first_local_of}
-use Rattle.font_decode.specs.declared.decoded.Decoded.{Decoded}
-use Rattle.font_decode.specs.declared.decoded.Decoded.TheVariants as decoded
-use Rattle.vf_expand.specs.Faults.{PageFaultSeen, TooLong}
+use Rattle.font_decode.specs.Fonts.{FontValue, scaled_width_of, glyph_at, is_virtual_of, packet_of, local_of, first_local_of}
+use Rattle.font_decode.specs.declared.font_or_fault.Decoded.{Decoded}
+use Rattle.font_decode.specs.declared.font_or_fault.Decoded.TheVariants as decoded
+use Rattle.vf_expand.specs.Faults.{PageFaultValue, TooLong}
 use Rattle.vf_expand.specs.Faults as fault
-use Rattle.vf_expand.specs.Course.{Course, Gives, Asks, Ends, Stops, Place, OnPage, InPacket, Current, NoFont, Chosen, Known, Deeper, expand_one, expand_list, cut, character, found, with_width, by_kind, with_glyph, virtual, packet, leave, gap_of, changed_to, font_change, no_local, number_of}
+use Rattle.vf_expand.specs.Course.{Course, Gives, Asks, Ends, Stops, Place, OnPage, InPacket, Current, NoFont, Chosen, Known, Deeper, expand_one, expand_list, cut, character, char_of_decoded, with_width, by_kind, with_glyph, virtual, packet, leave, advance_of, changed_to, font_change, no_local, number_of}
 
 -- ---- what is left, by what stands next
 
@@ -25,7 +25,7 @@ pub ask_cut : (b : ℕ) (x : Course) (k : FontKey) (at : ℕ) (rest : Decoded �
 ask_cut zero x k at rest h e = absurd (omega arith)
 ask_cut (suc b) x k at rest h e = ap (cut (suc b)) e
 
-pub stop_cut : (b : ℕ) (x : Course) (f : PageFaultSeen) (at : ℕ) → 0 < b → x ≡ Stops f at → cut b x ≡ Stops f at
+pub stop_cut : (b : ℕ) (x : Course) (f : PageFaultValue) (at : ℕ) → 0 < b → x ≡ Stops f at → cut b x ≡ Stops f at
 stop_cut zero x f at h e = absurd (omega arith)
 stop_cut (suc b) x f at h e = ap (cut (suc b)) e
 
@@ -39,26 +39,26 @@ late_glyph : (at : ℕ) (k : FontKey) (c width : ℤ) (put : Bool) (glyph : Opti
 late_glyph at k c width put None after = refl
 late_glyph at k c width put (Some g) after = refl
 
-late_packet : (inner : FontKey → FontSeen → List DviCommand → Course → Course) (at : ℕ) (k : FontKey) (f : FontSeen) (c : ℤ) (gap : Option ℤ) (text : Option (List ℕ)) (after : Course)
-    → cut 0 (packet inner at k f c gap text after) ≡ Stops TooLong at
-late_packet inner at k f c gap None after = refl
-late_packet inner at k f c gap (Some text) after = refl
+late_packet : (inner : FontKey → FontValue → List DviCommand → Course → Course) (at : ℕ) (k : FontKey) (f : FontValue) (c : ℤ) (advance : Option ℤ) (text : Option (List ℕ)) (after : Course)
+    → cut 0 (packet inner at k f c advance text after) ≡ Stops TooLong at
+late_packet inner at k f c advance None after = refl
+late_packet inner at k f c advance (Some text) after = refl
 
-late_virtual : (deep : Deeper) (at : ℕ) (k : FontKey) (f : FontSeen) (c : ℤ) (gap : Option ℤ) (after : Course) → cut 0 (virtual deep at k f c gap after) ≡ Stops TooLong at
-late_virtual None at k f c gap after = refl
-late_virtual (Some inner) at k f c gap after = late_packet inner at k f c gap (packet_of f (number_of c)) after
+late_virtual : (deep : Deeper) (at : ℕ) (k : FontKey) (f : FontValue) (c : ℤ) (advance : Option ℤ) (after : Course) → cut 0 (virtual deep at k f c advance after) ≡ Stops TooLong at
+late_virtual None at k f c advance after = refl
+late_virtual (Some inner) at k f c advance after = late_packet inner at k f c advance (packet_of f (number_of c)) after
 
-late_kind : (deep : Deeper) (at : ℕ) (k : FontKey) (f : FontSeen) (c width : ℤ) (put is_virtual : Bool) (after : Course)
+late_kind : (deep : Deeper) (at : ℕ) (k : FontKey) (f : FontValue) (c width : ℤ) (put is_virtual : Bool) (after : Course)
     → cut 0 (by_kind deep at k f c width put is_virtual after) ≡ Stops TooLong at
 late_kind deep at k f c width put false after = late_glyph at k c width put (glyph_at f (number_of c)) after
-late_kind deep at k f c width put true after = late_virtual deep at k f c (gap_of width put) after
+late_kind deep at k f c width put true after = late_virtual deep at k f c (advance_of width put) after
 
-late_width : (deep : Deeper) (at : ℕ) (k : FontKey) (f : FontSeen) (c : ℤ) (put : Bool) (width : Option ℤ) (after : Course)
+late_width : (deep : Deeper) (at : ℕ) (k : FontKey) (f : FontValue) (c : ℤ) (put : Bool) (width : Option ℤ) (after : Course)
     → cut 0 (with_width deep at k f c put width after) ≡ Stops TooLong at
 late_width deep at k f c put None after = refl
 late_width deep at k f c put (Some width) after = late_kind deep at k f c width put (is_virtual_of f) after
 
-late_found : (deep : Deeper) (at : ℕ) (k : FontKey) (d : Decoded) (c : ℤ) (put : Bool) (after : Course) → cut 0 (found deep at k d c put after) ≡ Stops TooLong at
+late_found : (deep : Deeper) (at : ℕ) (k : FontKey) (d : Decoded) (c : ℤ) (put : Bool) (after : Course) → cut 0 (char_of_decoded deep at k d c put after) ≡ Stops TooLong at
 late_found deep at k (decoded.Fault fault) c put after = refl
 late_found deep at k (decoded.Font f) c put after = late_width deep at k f c put (scaled_width_of f c) after
 
@@ -68,7 +68,7 @@ late_character deep place at NoFont c put others = refl
 late_character deep place at (Chosen k) c put others = refl
 late_character deep place at (Known k d) c put others = late_found deep at k d c put (others (Known k d))
 
-late_changed : (k : Option FontKey) (f : PageFaultSeen) (at : ℕ) (others : Current → Course) → cut 0 (changed_to k f at others) ≡ Stops TooLong at
+late_changed : (k : Option FontKey) (f : PageFaultValue) (at : ℕ) (others : Current → Course) → cut 0 (changed_to k f at others) ≡ Stops TooLong at
 late_changed None f at others = refl
 late_changed (Some k) f at others = refl
 
@@ -96,12 +96,12 @@ late_one deep place at current Push others = refl
 late_one deep place at current Pop others = refl
 late_one deep place at current _ others = refl
 
-late_leave : (gap : Option ℤ) (at : ℕ) (x : Course) → cut 0 (leave gap at x) ≡ Stops TooLong at
+late_leave : (advance : Option ℤ) (at : ℕ) (x : Course) → cut 0 (leave advance at x) ≡ Stops TooLong at
 late_leave None at x = refl
 late_leave (Some width) at x = refl
 
 -- in a packet
-pub late_list : (deep : Deeper) (place : Place) (at : ℕ) (current : Current) (commands : List DviCommand) (gap : Option ℤ) (after : Course)
-    → cut 0 (expand_list (expand_one deep place at) current commands (leave gap at after)) ≡ Stops TooLong at
-late_list deep place at current [] gap after = late_leave gap at after
-late_list deep place at current (c ∷ commands) gap after = late_one deep place at current c (λ next. expand_list (expand_one deep place at) next commands (leave gap at after))
+pub late_list : (deep : Deeper) (place : Place) (at : ℕ) (current : Current) (commands : List DviCommand) (advance : Option ℤ) (after : Course)
+    → cut 0 (expand_list (expand_one deep place at) current commands (leave advance at after)) ≡ Stops TooLong at
+late_list deep place at current [] advance after = late_leave advance at after
+late_list deep place at current (c ∷ commands) advance after = late_one deep place at current c (λ next. expand_list (expand_one deep place at) next commands (leave advance at after))

@@ -1,8 +1,8 @@
 -- A page's members over a library are its list.
 use Rattle.std.proofs.Common.{refl, sym, ap, subst, ◌∙◌}
 use Rattle.font_decode.specs.Decoding.{AreAlike, IsFontIn}
-use Rattle.font_decode.specs.declared.decoded.Decoded.{Decoded}
-use Rattle.font_decode.specs.declared.decoded.Decoded.TheVariants as decoded
+use Rattle.font_decode.specs.declared.font_or_fault.Decoded.{Decoded}
+use Rattle.font_decode.specs.declared.font_or_fault.Decoded.TheVariants as decoded
 use Rattle.font_decode.proofs.Alike.{one_in_a_library}
 use Rattle.font_decode.proofs.Total.{each_key_is_decoded}
 use Rattle.vf_expand.specs.Course.{course_of}

@@ -6,43 +6,44 @@ use Rattle.dvi_commands.specs.Reading.{Placed}
 use Rattle.outside.specs.declared.keys.FontKey.{FontKey}
 use Rattle.page_index.specs.Document.{Reading, font_table}
 use Rattle.pk_runs.specs.declared.glyph.Glyph.{Glyph}
-use Rattle.font_decode.specs.Fonts.{FontSeen, scaled_width_of, glyph_at, is_virtual_of, packet_of, local_of, first_local_of}
-use Rattle.font_decode.specs.declared.decoded.Decoded.{Decoded}
-use Rattle.font_decode.specs.declared.decoded.Decoded.TheVariants as decoded
-use Rattle.vf_expand.specs.Faults.{PageFaultSeen}
+use Rattle.font_decode.specs.Fonts.{FontValue, scaled_width_of, glyph_at, is_virtual_of, packet_of, local_of, first_local_of}
+use Rattle.font_decode.specs.declared.font_or_fault.Decoded.{Decoded}
+use Rattle.font_decode.specs.declared.font_or_fault.Decoded.TheVariants as decoded
+use Rattle.vf_expand.specs.Faults.{PageFaultValue}
 use Rattle.vf_expand.specs.Faults as fault
-use Rattle.vf_expand.specs.Course.{Course, Gives, Asks, Ends, Stops, Place, OnPage, InPacket, Current, NoFont, Chosen, Known, Deeper, MOST_DEEP, deeper, expand_one, expand_list, page_from, cut, character, found, with_width, by_kind, with_glyph, virtual, packet, leave, gap_of, changed_to, font_change, no_local, number_of}
-use Rattle.vf_expand.specs.Expansion.{Expansion, IsAtLook, Packet, Stack, answered, asks_from, asks_left, course_left, due_left, font_of, left, marked_font, packets_left, place_in, stack_left}
+use Rattle.vf_expand.specs.Course.{Course, Gives, Asks, Ends, Stops, Place, OnPage, InPacket, Current, NoFont, Chosen, Known, Deeper, deeper, expand_one, expand_list, page_from, cut, character, char_of_decoded, with_width, by_kind, with_glyph, virtual, packet, leave, advance_of, changed_to, font_change, no_local, number_of}
+use Rattle.vf_expand.specs.Limits.{MAX_DEPTH}
+use Rattle.vf_expand.specs.Expansion.{Expansion, IsAtLook, OpenPacket, Stack, after_answer, asks_from, asks_left, course_left, after_pending_advance, font_of, rest_of, marked_font, packets_left, place_in, stack_left}
 
 abbrev Waits : Current → (Current → Course) → Type 0
-Waits current part = (k : FontKey) × (current ≡ Chosen k) × ((d : Decoded) → part (Known k d) ≡ answered (part current) d)
+Waits current part = (k : FontKey) × (current ≡ Chosen k) × ((d : Decoded) → part (Known k d) ≡ after_answer (part current) d)
 
 no_look_in_glyph : (at : ℕ) (k : FontKey) (c width : ℤ) (put : Bool) (glyph : Option Glyph) (rest : Course) → IsAtLook (with_glyph at k c width put glyph rest) → ⊥
 no_look_in_glyph at k c width put None rest look = look
 no_look_in_glyph at k c width put (Some g) rest look = look
 
-no_look_in_packet : (inner : FontKey → FontSeen → List DviCommand → Course → Course) (at : ℕ) (k : FontKey) (f : FontSeen) (c : ℤ) (gap : Option ℤ) (text : Option (List ℕ)) (rest : Course)
-    → IsAtLook (packet inner at k f c gap text rest) → ⊥
-no_look_in_packet inner at k f c gap None rest look = look
-no_look_in_packet inner at k f c gap (Some text) rest look = look
+no_look_in_packet : (inner : FontKey → FontValue → List DviCommand → Course → Course) (at : ℕ) (k : FontKey) (f : FontValue) (c : ℤ) (advance : Option ℤ) (text : Option (List ℕ)) (rest : Course)
+    → IsAtLook (packet inner at k f c advance text rest) → ⊥
+no_look_in_packet inner at k f c advance None rest look = look
+no_look_in_packet inner at k f c advance (Some text) rest look = look
 
-no_look_in_virtual : (deep : Deeper) (at : ℕ) (k : FontKey) (f : FontSeen) (c : ℤ) (gap : Option ℤ) (rest : Course) → IsAtLook (virtual deep at k f c gap rest) → ⊥
-no_look_in_virtual None at k f c gap rest look = look
-no_look_in_virtual (Some inner) at k f c gap rest look = no_look_in_packet inner at k f c gap (packet_of f (number_of c)) rest look
+no_look_in_virtual : (deep : Deeper) (at : ℕ) (k : FontKey) (f : FontValue) (c : ℤ) (advance : Option ℤ) (rest : Course) → IsAtLook (virtual deep at k f c advance rest) → ⊥
+no_look_in_virtual None at k f c advance rest look = look
+no_look_in_virtual (Some inner) at k f c advance rest look = no_look_in_packet inner at k f c advance (packet_of f (number_of c)) rest look
 
-no_look_in_kind : (deep : Deeper) (at : ℕ) (k : FontKey) (f : FontSeen) (c width : ℤ) (put is_virtual : Bool) (rest : Course) → IsAtLook (by_kind deep at k f c width put is_virtual rest) → ⊥
+no_look_in_kind : (deep : Deeper) (at : ℕ) (k : FontKey) (f : FontValue) (c width : ℤ) (put is_virtual : Bool) (rest : Course) → IsAtLook (by_kind deep at k f c width put is_virtual rest) → ⊥
 no_look_in_kind deep at k f c width put false rest look = no_look_in_glyph at k c width put (glyph_at f (number_of c)) rest look
-no_look_in_kind deep at k f c width put true rest look = no_look_in_virtual deep at k f c (gap_of width put) rest look
+no_look_in_kind deep at k f c width put true rest look = no_look_in_virtual deep at k f c (advance_of width put) rest look
 
-no_look_in_width : (deep : Deeper) (at : ℕ) (k : FontKey) (f : FontSeen) (c : ℤ) (put : Bool) (width : Option ℤ) (rest : Course) → IsAtLook (with_width deep at k f c put width rest) → ⊥
+no_look_in_width : (deep : Deeper) (at : ℕ) (k : FontKey) (f : FontValue) (c : ℤ) (put : Bool) (width : Option ℤ) (rest : Course) → IsAtLook (with_width deep at k f c put width rest) → ⊥
 no_look_in_width deep at k f c put None rest look = look
 no_look_in_width deep at k f c put (Some width) rest look = no_look_in_kind deep at k f c width put (is_virtual_of f) rest look
 
-no_look_in_found : (deep : Deeper) (at : ℕ) (k : FontKey) (d : Decoded) (c : ℤ) (put : Bool) (rest : Course) → IsAtLook (found deep at k d c put rest) → ⊥
+no_look_in_found : (deep : Deeper) (at : ℕ) (k : FontKey) (d : Decoded) (c : ℤ) (put : Bool) (rest : Course) → IsAtLook (char_of_decoded deep at k d c put rest) → ⊥
 no_look_in_found deep at k (decoded.Fault fault) c put rest look = look
 no_look_in_found deep at k (decoded.Font f) c put rest look = no_look_in_width deep at k f c put (scaled_width_of f c) rest look
 
-no_look_in_changed : (k : Option FontKey) (f : PageFaultSeen) (at : ℕ) (others : Current → Course) → IsAtLook (changed_to k f at others) → ⊥
+no_look_in_changed : (k : Option FontKey) (f : PageFaultValue) (at : ℕ) (others : Current → Course) → IsAtLook (changed_to k f at others) → ⊥
 no_look_in_changed None f at others look = look
 no_look_in_changed (Some k) f at others look = look
 
@@ -50,7 +51,7 @@ no_look_in_font : (place : Place) (at : ℕ) (n : ℤ) (others : Current → Cou
 no_look_in_font (OnPage reading) at n others look = no_look_in_changed (font_table reading n) (fault.NoFont n) at others look
 no_look_in_font (InPacket k f) at n others look = no_look_in_changed (local_of f n) (no_local k (first_local_of f) n) at others look
 
-no_look_in_leave : (gap : Option ℤ) (at : ℕ) (rest : Course) → IsAtLook (leave gap at rest) → ⊥
+no_look_in_leave : (advance : Option ℤ) (at : ℕ) (rest : Course) → IsAtLook (leave advance at rest) → ⊥
 no_look_in_leave None at rest look = look
 no_look_in_leave (Some width) at rest look = look
 
@@ -82,25 +83,25 @@ module _ (deep : Deeper) (place : Place) (at : ℕ) where
   look_in_one current Pop others look = absurd look
   look_in_one current _ others look = absurd look
 
-  look_in_list : (current : Current) (commands : List DviCommand) (gap : Option ℤ) (after : Course) → IsAtLook (expand_list (expand_one deep place at) current commands (leave gap at after))
-      → Waits current (λ now. expand_list (expand_one deep place at) now commands (leave gap at after))
-  look_in_list current [] gap after look = absurd (no_look_in_leave gap at after look)
-  look_in_list current (c ∷ commands) gap after look = look_in_one current c (λ next. expand_list (expand_one deep place at) next commands (leave gap at after)) look
+  look_in_list : (current : Current) (commands : List DviCommand) (advance : Option ℤ) (after : Course) → IsAtLook (expand_list (expand_one deep place at) current commands (leave advance at after))
+      → Waits current (λ now. expand_list (expand_one deep place at) now commands (leave advance at after))
+  look_in_list current [] advance after look = absurd (no_look_in_leave advance at after look)
+  look_in_list current (c ∷ commands) advance after look = look_in_one current c (λ next. expand_list (expand_one deep place at) next commands (leave advance at after)) look
 
-look_in_packets : (reading : Reading) (eop at : ℕ) (current : Current) (page : List Placed) (packets : List Packet) → IsAtLook (packets_left reading eop at page current packets)
+look_in_packets : (reading : Reading) (eop at : ℕ) (current : Current) (page : List Placed) (packets : List OpenPacket) → IsAtLook (packets_left reading eop at page current packets)
     → Waits current (λ now. packets_left reading eop at page now packets)
 look_in_packets reading eop at current [] [] look = absurd look
 look_in_packets reading eop at current (p ∷ commands) [] look =
-    look_in_one (deeper MOST_DEEP p.at) (OnPage reading) p.at current p.command (λ next. page_from reading eop next commands) look
+    look_in_one (deeper MAX_DEPTH p.at) (OnPage reading) p.at current p.command (λ next. page_from reading eop next commands) look
 look_in_packets reading eop at current page (p ∷ outer) look =
-    look_in_list (deeper (MOST_DEEP - suc (length outer)) at) (place_in reading p.outside) at current p.commands p.gap (packets_left reading eop at page p.outside outer) look
+    look_in_list (deeper (MAX_DEPTH - suc (length outer)) at) (place_in reading p.outside) at current p.commands p.advance (packets_left reading eop at page p.outside outer) look
 
-look_in_due : (reading : Reading) (eop at : ℕ) (due : Option ℤ) (current : Current) (stack : Stack) → IsAtLook (due_left due at (stack_left reading eop at current stack))
-    → Waits current (λ now. due_left due at (stack_left reading eop at now stack))
-look_in_due reading eop at None current stack look = look_in_packets reading eop at current stack.page stack.packets look
-look_in_due reading eop at (Some width) current stack look = absurd look
+look_in_pending : (reading : Reading) (eop at : ℕ) (pending_advance : Option ℤ) (current : Current) (stack : Stack) → IsAtLook (after_pending_advance pending_advance at (stack_left reading eop at current stack))
+    → Waits current (λ now. after_pending_advance pending_advance at (stack_left reading eop at now stack))
+look_in_pending reading eop at None current stack look = look_in_packets reading eop at current stack.page stack.packets look
+look_in_pending reading eop at (Some width) current stack look = absurd look
 
-look_in_cut : (n : ℕ) (x : Course) → IsAtLook (cut n x) → IsAtLook x × (0 < n) × ((d : Decoded) → answered (cut n x) d ≡ cut n (answered x d))
+look_in_cut : (n : ℕ) (x : Course) → IsAtLook (cut n x) → IsAtLook x × (0 < n) × ((d : Decoded) → after_answer (cut n x) d ≡ cut n (after_answer x d))
 look_in_cut zero (Gives f g at rest) look = absurd look
 look_in_cut zero (Asks k at rest) look = absurd look
 look_in_cut zero (Ends at) look = absurd look
@@ -115,17 +116,17 @@ record Wanted (v : Expansion) : Type 0 where
   pub key : FontKey
   pub current_of : v.current ≡ Chosen key
   pub room : 0 < v.budget
-  pub rest : (d : Decoded) → left (record v { current = Known key d }) ≡ answered (left v) d
+  pub rest : (d : Decoded) → rest_of (record v { current = Known key d }) ≡ after_answer (rest_of v) d
 
-wanted : (v : Expansion) → IsAtLook (left v) → Wanted v
+wanted : (v : Expansion) → IsAtLook (rest_of v) → Wanted v
 unfolding course_left
 wanted v look =
-    let inside = look_in_cut v.budget (due_left v.due v.at (stack_left v.reading v.eop v.at v.current v.stack)) look in
-    let waits = look_in_due v.reading v.eop v.at v.due v.current v.stack inside.0 in
+    let inside = look_in_cut v.budget (after_pending_advance v.pending_advance v.at (stack_left v.reading v.eop v.at v.current v.stack)) look in
+    let waits = look_in_pending v.reading v.eop v.at v.pending_advance v.current v.stack inside.0 in
     record { key = waits.0; current_of = waits.1; room = inside.1; rest = λ d. ap (cut v.budget) (waits.2 d) ∙ sym (inside.2 d) }
 
 -- the key that a page waits for
-pub key_wanted : (v : Expansion) → IsAtLook (left v) → (k : FontKey) × (v.current ≡ Chosen k)
+pub key_wanted : (v : Expansion) → IsAtLook (rest_of v) → (k : FontKey) × (v.current ≡ Chosen k)
 key_wanted v look = let w = wanted v look in (w.key, w.current_of)
 
 -- a font that waits to be looked up is that of no character
@@ -133,13 +134,13 @@ not_marked : (marked : Bool) (current : Current) (k : FontKey) → current ≡ C
 not_marked true current k e h = let bad : IsSome (font_of (Chosen k)) = subst (λ (x : Current). IsSome (font_of x)) e (h refl) in absurd cc
 not_marked false current k e h = refl
 
-module _ (v : Expansion) (k : FontKey) (current_of : v.current ≡ Chosen k) (look : IsAtLook (left v)) where
-  pub answered_rest : (d : Decoded) → left (record v { current = Known k d }) ≡ answered (left v) d
+module _ (v : Expansion) (k : FontKey) (current_of : v.current ≡ Chosen k) (look : IsAtLook (rest_of v)) where
+  pub answered_rest : (d : Decoded) → rest_of (record v { current = Known k d }) ≡ after_answer (rest_of v) d
   answered_rest d =
       let w = wanted v look in
       let both : Chosen k ≡ Chosen w.key = sym current_of ∙ w.current_of in
       let same : k ≡ w.key = cc in
-      ap (λ (key : FontKey). left (record v { current = Known key d })) same ∙ w.rest d
+      ap (λ (key : FontKey). rest_of (record v { current = Known key d })) same ∙ w.rest d
 
   pub answered_asks : (v.budget - 1) + 1 ≡ asks_left v
   answered_asks =

@@ -9,65 +9,67 @@ use Rattle.page_index.specs.Document.{Reading, font_table}
 use Rattle.page_index.specs.Pages.{eop_at, page_commands}
 use Rattle.pk_runs.specs.declared.glyph.Glyph.{Glyph}
 use Rattle.font_decode.specs.Decoding.{AreAlike}
-use Rattle.font_decode.specs.Fonts.{FontSeen, scaled_width_of, glyph_at, is_virtual_of, packet_of, local_of, first_local_of}
-use Rattle.font_decode.specs.declared.decoded.Decoded.{Decoded}
-use Rattle.font_decode.specs.declared.decoded.Decoded.TheVariants as decoded
-use Rattle.vf_expand.specs.Faults.{PageFaultSeen}
+use Rattle.font_decode.specs.Fonts.{FontValue, scaled_width_of, glyph_at, is_virtual_of, packet_of, local_of, first_local_of}
+use Rattle.font_decode.specs.declared.font_or_fault.Decoded.{Decoded}
+use Rattle.font_decode.specs.declared.font_or_fault.Decoded.TheVariants as decoded
+use Rattle.vf_expand.specs.Faults.{PageFaultValue}
 use Rattle.vf_expand.specs.Faults as fault
-use Rattle.vf_expand.specs.Course.{Course, Gives, Asks, Ends, Stops, Place, OnPage, InPacket, Current, NoFont, Chosen, Known, Deeper, MOST_FLAT, MOST_DEEP, changed_to, no_local, font_change, first_font, gap_of, leave, packet, virtual, number_of, with_glyph, by_kind, with_width, found, character, expand_one, expand_list, deeper, page_from, cut, course_of}
+use Rattle.vf_expand.specs.Course.{Course, Gives, Asks, Ends, Stops, Place, OnPage, InPacket, Current, NoFont, Chosen, Known, Deeper, changed_to, no_local, font_change, first_font, advance_of, leave, packet, virtual, number_of, with_glyph, by_kind, with_width, char_of_decoded, character, expand_one, expand_list, deeper, page_from, cut, course_of}
+use Rattle.vf_expand.specs.Limits.{MAX_FLAT_COMMANDS}
+use Rattle.vf_expand.specs.Limits.{MAX_DEPTH}
 use Rattle.vf_expand.specs.Members.{Member, Flat, LookUp, Finding, Unfolds, looks_of}
-use Rattle.vf_expand.specs.PageLists.{Fonts, PageList, Outcome, Goes, Faults, before, no_more, joined, up_to_limit, full_list, list_from, list_of, after, go_on, of_list, Packets, leaving, in_frame, of_packet, of_virtual, of_glyph, of_kind, of_width, of_found, of_character, of_change, of_font, of_command, packets_in}
+use Rattle.vf_expand.specs.PageLists.{Fonts, PageList, Outcome, Goes, Faults, list_after, no_more, list_of_outcome, up_to_limit, full_list, list_from, list_of, outcome_after, go_on, of_list, Packets, leave_members, in_packet_level, of_packet, of_virtual, of_glyph, of_kind, of_width, of_decoded, of_character, of_change, of_font, of_command, packets_in}
 use Rattle.vf_expand.proofs.Similar.{Similar}
 
-joined_same : (at : ℕ) (o : Outcome) (f g : Current → PageList) → ((next : Current) → f next ≡ g next) → joined at o f ≡ joined at o g
-joined_same at (Goes members next) f g same = ap (before members) (same next)
+joined_same : (at : ℕ) (o : Outcome) (f g : Current → PageList) → ((next : Current) → f next ≡ g next) → list_of_outcome at o f ≡ list_of_outcome at o g
+joined_same at (Goes members next) f g same = ap (list_after members) (same next)
 joined_same at (Faults members fault) f g same = refl
 
-before_both : (first second : List Member) (list : PageList) → before (first ++ second) list ≡ before first (before second list)
+before_both : (first second : List Member) (list : PageList) → list_after (first ++ second) list ≡ list_after first (list_after second list)
 before_both first second list = ap (λ (members : List Member). record { members = members; ending = list.ending }) (append_assoc first second list.members)
 
-after_joined : (at : ℕ) (members : List Member) (o : Outcome) (rest : Current → PageList) → joined at (after members o) rest ≡ before members (joined at o rest)
+after_joined : (at : ℕ) (members : List Member) (o : Outcome) (rest : Current → PageList) → list_of_outcome at (outcome_after members o) rest ≡ list_after members (list_of_outcome at o rest)
 after_joined at first (Goes members next) rest = before_both first members (rest next)
 after_joined at first (Faults members fault) rest = refl
 
-followed_joined : (at : ℕ) (o : Outcome) (others : Current → Outcome) (rest : Current → PageList) → joined at (go_on o others) rest ≡ joined at o (λ next. joined at (others next) rest)
+followed_joined : (at : ℕ) (o : Outcome) (others : Current → Outcome) (rest : Current → PageList) → list_of_outcome at (go_on o others) rest ≡ list_of_outcome at o (λ next. list_of_outcome at (others next) rest)
 followed_joined at (Goes members next) others rest = after_joined at members (others next) rest
 followed_joined at (Faults members fault) others rest = refl
 
-framed_joined : (at : ℕ) (current : Current) (gap : Option ℤ) (o : Outcome) (rest : Current → PageList)
-    → joined at (in_frame at current gap o) rest ≡ before (Flat flat.Enter None at ∷ []) (joined at o (λ last. before (leaving gap at) (rest current)))
-framed_joined at current gap (Goes members last) rest = ap (before (Flat flat.Enter None at ∷ [])) (before_both members (leaving gap at) (rest current))
-framed_joined at current gap (Faults members fault) rest = refl
+framed_joined : (at : ℕ) (current : Current) (advance : Option ℤ) (o : Outcome) (rest : Current → PageList)
+    → list_of_outcome at (in_packet_level at current advance o) rest ≡ list_after (Flat flat.Enter None at ∷ []) (list_of_outcome at o (λ last. list_after (leave_members advance at) (rest current)))
+framed_joined at current advance (Goes members last) rest = ap (list_after (Flat flat.Enter None at ∷ [])) (before_both members (leave_members advance at) (rest current))
+framed_joined at current advance (Faults members fault) rest = refl
 
 module _ (fonts : Fonts) where
-  leave_list : (gap : Option ℤ) (at : ℕ) (later : Course) → list_from fonts (leave gap at later) ≡ before (leaving gap at) (list_from fonts later)
+  leave_list : (advance : Option ℤ) (at : ℕ) (later : Course) → list_from fonts (leave advance at later) ≡ list_after (leave_members advance at) (list_from fonts later)
   leave_list None at later = refl
   leave_list (Some width) at later = refl
 
   -- packets come to their lists
   abbrev ArePackets : ℕ → Deeper → Packets → Type 0
   ArePackets at None None = Unit {0}
-  ArePackets at (Some i) (Some p) = (k : FontKey) (f : FontSeen) (commands : List DviCommand) (later : Course)
-      → list_from fonts (i k f commands later) ≡ joined at (p k f commands) (λ last. list_from fonts later)
+  ArePackets at (Some i) (Some p) = (k : FontKey) (f : FontValue) (commands : List DviCommand) (later : Course)
+      → list_from fonts (i k f commands later) ≡ list_of_outcome at (p k f commands) (λ last. list_from fonts later)
   ArePackets at _ _ = ⊥
 
-  packet_joined : (at : ℕ) (i : FontKey → FontSeen → List DviCommand → Course → Course) (p : FontKey → FontSeen → List DviCommand → Outcome) → ArePackets at (Some i) (Some p)
-      → (others : Current → Course) (k : FontKey) (f : FontSeen) (c : ℤ) (gap : Option ℤ) (text : Option (List ℕ))
-      → list_from fonts (packet i at k f c gap text (others (Known k (decoded.Font f)))) ≡ joined at (of_packet p at k f c gap text) (λ next. list_from fonts (others next))
-  packet_joined at i p deep others k f c gap None = refl
-  packet_joined at i p deep others k f c gap (Some text) =
+  packet_joined : (at : ℕ) (i : FontKey → FontValue → List DviCommand → Course → Course) (p : FontKey → FontValue → List DviCommand → Outcome) → ArePackets at (Some i) (Some p)
+      → (others : Current → Course) (k : FontKey) (f : FontValue) (c : ℤ) (advance : Option ℤ) (text : Option (List ℕ))
+      → list_from fonts (packet i at k f c advance text (others (Known k (decoded.Font f)))) ≡ list_of_outcome at (of_packet p at k f c advance text) (λ next. list_from fonts (others next))
+  packet_joined at i p deep others k f c advance None = refl
+  packet_joined at i p deep others k f c advance (Some text) =
       let later = others (Known k (decoded.Font f)) in
       let inside = p k f (commands_of text) in
-      ap (before (Flat flat.Enter None at ∷ [])) (deep k f (commands_of text) (leave gap at later)
-      ∙ joined_same at inside (λ last. list_from fonts (leave gap at later)) (λ last. before (leaving gap at) (list_from fonts later)) (λ last. leave_list gap at later))
-      ∙ sym (framed_joined at (Known k (decoded.Font f)) gap inside (λ next. list_from fonts (others next)))
+      ap (list_after (Flat flat.Enter None at ∷ [])) (deep k f (commands_of text) (leave advance at later)
+      ∙ joined_same at inside (λ last. list_from fonts (leave advance at later)) (λ last. list_after (leave_members advance at) (list_from fonts later)) (λ last. leave_list advance at later))
+      ∙ sym (framed_joined at (Known k (decoded.Font f)) advance inside (λ next. list_from fonts (others next)))
 
-  virtual_joined : (at : ℕ) (d : Deeper) (p : Packets) → ArePackets at d p → (others : Current → Course) (k : FontKey) (f : FontSeen) (c : ℤ) (gap : Option ℤ)
-      → list_from fonts (virtual d at k f c gap (others (Known k (decoded.Font f)))) ≡ joined at (of_virtual p at k f c gap) (λ next. list_from fonts (others next))
-  virtual_joined at None None deep others k f c gap = refl
-  virtual_joined at None (Some p) deep others k f c gap = absurd deep
-  virtual_joined at (Some i) None deep others k f c gap = absurd deep
-  virtual_joined at (Some i) (Some p) deep others k f c gap = packet_joined at i p deep others k f c gap (packet_of f (number_of c))
+  virtual_joined : (at : ℕ) (d : Deeper) (p : Packets) → ArePackets at d p → (others : Current → Course) (k : FontKey) (f : FontValue) (c : ℤ) (advance : Option ℤ)
+      → list_from fonts (virtual d at k f c advance (others (Known k (decoded.Font f)))) ≡ list_of_outcome at (of_virtual p at k f c advance) (λ next. list_from fonts (others next))
+  virtual_joined at None None deep others k f c advance = refl
+  virtual_joined at None (Some p) deep others k f c advance = absurd deep
+  virtual_joined at (Some i) None deep others k f c advance = absurd deep
+  virtual_joined at (Some i) (Some p) deep others k f c advance = packet_joined at i p deep others k f c advance (packet_of f (number_of c))
 
   -- ---- one command
 
@@ -75,42 +77,42 @@ module _ (fonts : Fonts) where
     abbrev rest : Current → PageList
     rest next = list_from fonts (others next)
 
-    glyph_joined : (k : FontKey) (found : Decoded) (c width : ℤ) (put : Bool) (glyph : Option Glyph)
-        → list_from fonts (with_glyph at k c width put glyph (others (Known k found))) ≡ joined at (of_glyph at k found c width put glyph) rest
-    glyph_joined k found c width put None = refl
-    glyph_joined k found c width put (Some g) = refl
+    glyph_joined : (k : FontKey) (char_of_decoded : Decoded) (c width : ℤ) (put : Bool) (glyph : Option Glyph)
+        → list_from fonts (with_glyph at k c width put glyph (others (Known k char_of_decoded))) ≡ list_of_outcome at (of_glyph at k char_of_decoded c width put glyph) rest
+    glyph_joined k char_of_decoded c width put None = refl
+    glyph_joined k char_of_decoded c width put (Some g) = refl
 
-    kind_joined : (k : FontKey) (f : FontSeen) (c width : ℤ) (put is_virtual : Bool)
-        → list_from fonts (by_kind d at k f c width put is_virtual (others (Known k (decoded.Font f)))) ≡ joined at (of_kind p at k f c width put is_virtual) rest
+    kind_joined : (k : FontKey) (f : FontValue) (c width : ℤ) (put is_virtual : Bool)
+        → list_from fonts (by_kind d at k f c width put is_virtual (others (Known k (decoded.Font f)))) ≡ list_of_outcome at (of_kind p at k f c width put is_virtual) rest
     kind_joined k f c width put false = glyph_joined k (decoded.Font f) c width put (glyph_at f (number_of c))
-    kind_joined k f c width put true = virtual_joined at d p deep others k f c (gap_of width put)
+    kind_joined k f c width put true = virtual_joined at d p deep others k f c (advance_of width put)
 
-    width_joined : (k : FontKey) (f : FontSeen) (c : ℤ) (put : Bool) (width : Option ℤ)
-        → list_from fonts (with_width d at k f c put width (others (Known k (decoded.Font f)))) ≡ joined at (of_width p at k f c put width) rest
+    width_joined : (k : FontKey) (f : FontValue) (c : ℤ) (put : Bool) (width : Option ℤ)
+        → list_from fonts (with_width d at k f c put width (others (Known k (decoded.Font f)))) ≡ list_of_outcome at (of_width p at k f c put width) rest
     width_joined k f c put None = refl
     width_joined k f c put (Some width) = kind_joined k f c width put (is_virtual_of f)
 
-    found_joined : (k : FontKey) (it : Decoded) (c : ℤ) (put : Bool) → list_from fonts (found d at k it c put (others (Known k it))) ≡ joined at (of_found p at k it c put) rest
+    found_joined : (k : FontKey) (it : Decoded) (c : ℤ) (put : Bool) → list_from fonts (char_of_decoded d at k it c put (others (Known k it))) ≡ list_of_outcome at (of_decoded p at k it c put) rest
     found_joined k (decoded.Fault f) c put = refl
     found_joined k (decoded.Font f) c put = width_joined k f c put (scaled_width_of f c)
 
     character_joined : (place : Place) (current : Current) (c : ℤ) (put : Bool)
-        → list_from fonts (character d place at current c put others) ≡ joined at (of_character fonts p place at current c put) rest
+        → list_from fonts (character d place at current c put others) ≡ list_of_outcome at (of_character fonts p place at current c put) rest
     character_joined place NoFont c put = refl
     character_joined place (Chosen k) c put =
-        ap (before (LookUp k at ∷ [])) (found_joined k (fonts k) c put) ∙ sym (after_joined at (LookUp k at ∷ []) (of_found p at k (fonts k) c put) rest)
+        ap (list_after (LookUp k at ∷ [])) (found_joined k (fonts k) c put) ∙ sym (after_joined at (LookUp k at ∷ []) (of_decoded p at k (fonts k) c put) rest)
     character_joined place (Known k it) c put = found_joined k it c put
 
-    change_joined : (k : Option FontKey) (f : PageFaultSeen) → list_from fonts (changed_to k f at others) ≡ joined at (of_change at f k) rest
+    change_joined : (k : Option FontKey) (f : PageFaultValue) → list_from fonts (changed_to k f at others) ≡ list_of_outcome at (of_change at f k) rest
     change_joined None f = refl
     change_joined (Some k) f = refl
 
-    font_joined : (place : Place) (n : ℤ) → list_from fonts (font_change place at n others) ≡ joined at (of_font place at n) rest
+    font_joined : (place : Place) (n : ℤ) → list_from fonts (font_change place at n others) ≡ list_of_outcome at (of_font place at n) rest
     font_joined (OnPage reading) n = change_joined (font_table reading n) (fault.NoFont n)
     font_joined (InPacket k f) n = change_joined (local_of f n) (no_local k (first_local_of f) n)
 
     one_joined : (place : Place) (current : Current) (c : DviCommand)
-        → list_from fonts (expand_one d place at current c others) ≡ joined at (of_command fonts p place at current c) rest
+        → list_from fonts (expand_one d place at current c others) ≡ list_of_outcome at (of_command fonts p place at current c) rest
     one_joined place current (Set c) = character_joined place current c false
     one_joined place current (Put c) = character_joined place current c true
     one_joined place current (Font n) = font_joined place n
@@ -134,13 +136,13 @@ module _ (fonts : Fonts) where
 
   packets_joined : (at : ℕ) (d : Deeper) (p : Packets) (place : Place) → ArePackets at d p → (commands : List DviCommand) (current : Current) (later : Course)
       → list_from fonts (expand_list (expand_one d place at) current commands later)
-      ≡ joined at (of_list (of_command fonts p place at) current commands) (λ last. list_from fonts later)
+      ≡ list_of_outcome at (of_list (of_command fonts p place at) current commands) (λ last. list_from fonts later)
   packets_joined at d p place deep [] current later = refl
   packets_joined at d p place deep (c ∷ commands) current later =
       let one = of_command fonts p place at in
       let course = expand_list (expand_one d place at) in
       one_joined at d p deep (λ next. course next commands later) place current c
-      ∙ joined_same at (one current c) (λ next. list_from fonts (course next commands later)) (λ next. joined at (of_list one next commands) (λ last. list_from fonts later))
+      ∙ joined_same at (one current c) (λ next. list_from fonts (course next commands later)) (λ next. list_of_outcome at (of_list one next commands) (λ last. list_from fonts later))
       (λ next. packets_joined at d p place deep commands next later)
       ∙ sym (followed_joined at (one current c) (λ next. of_list one next commands) (λ last. list_from fonts later))
 
@@ -156,8 +158,8 @@ module _ (fonts : Fonts) where
       → list_from fonts (page_from reading eop current commands) ≡ full_list fonts reading eop current commands
   page_joined reading eop [] current = refl
   page_joined reading eop (p ∷ commands) current =
-      one_joined p.at (deeper MOST_DEEP p.at) (packets_in fonts MOST_DEEP p.at) (are_packets MOST_DEEP p.at) (λ next. page_from reading eop next commands) (OnPage reading) current p.command
-      ∙ joined_same p.at (of_command fonts (packets_in fonts MOST_DEEP p.at) (OnPage reading) p.at current p.command) (λ next. list_from fonts (page_from reading eop next commands))
+      one_joined p.at (deeper MAX_DEPTH p.at) (packets_in fonts MAX_DEPTH p.at) (are_packets MAX_DEPTH p.at) (λ next. page_from reading eop next commands) (OnPage reading) current p.command
+      ∙ joined_same p.at (of_command fonts (packets_in fonts MAX_DEPTH p.at) (OnPage reading) p.at current p.command) (λ next. list_from fonts (page_from reading eop next commands))
       (λ next. full_list fonts reading eop next commands) (page_joined reading eop commands)
 
   cut_limited : (n : ℕ) (x : Course) → list_from fonts (cut n x) ≡ up_to_limit n (list_from fonts x).members (list_from fonts x).ending
@@ -165,16 +167,16 @@ module _ (fonts : Fonts) where
   cut_limited zero (Asks k at rest) = refl
   cut_limited zero (Ends at) = refl
   cut_limited zero (Stops f at) = refl
-  cut_limited (suc n) (Gives f g at rest) = ap (before (Flat f g at ∷ [])) (cut_limited n rest)
-  cut_limited (suc n) (Asks k at rest) = ap (before (LookUp k at ∷ [])) (cut_limited (suc n) (rest (fonts k)))
+  cut_limited (suc n) (Gives f g at rest) = ap (list_after (Flat f g at ∷ [])) (cut_limited n rest)
+  cut_limited (suc n) (Asks k at rest) = ap (list_after (LookUp k at ∷ [])) (cut_limited (suc n) (rest (fonts k)))
   cut_limited (suc n) (Ends at) = refl
   cut_limited (suc n) (Stops f at) = refl
 
   pub course_is_list : (reading : Reading) (i : ℕ) → list_from fonts (course_of reading i) ≡ list_of fonts reading i
   course_is_list reading i =
       let eop = unwrap_or (eop_at i reading) 0 in
-      cut_limited MOST_FLAT (page_from reading eop NoFont (page_commands i reading))
-      ∙ ap (λ (full : PageList). up_to_limit MOST_FLAT full.members full.ending) (page_joined reading eop (page_commands i reading) NoFont)
+      cut_limited MAX_FLAT_COMMANDS (page_from reading eop NoFont (page_commands i reading))
+      ∙ ap (λ (full : PageList). up_to_limit MAX_FLAT_COMMANDS full.members full.ending) (page_joined reading eop (page_commands i reading) NoFont)
 
   -- ---- members
 
@@ -182,28 +184,28 @@ module _ (fonts : Fonts) where
   same_lists : (self : (d : Decoded) → AreAlike d d) (x y : Course) → Similar x y → list_from fonts x ≡ list_from fonts y
   same_lists self (Gives f g at x) (Gives f2 g2 at2 y) h =
       let rest = same_lists self x y h.3 in
-      ap (before (Flat f g at ∷ [])) rest ∙ ap (λ (m : Member). before (m ∷ []) (list_from fonts y))
+      ap (list_after (Flat f g at ∷ [])) rest ∙ ap (λ (m : Member). list_after (m ∷ []) (list_from fonts y))
       (ap (λ (c : flat.FlatCommand). Flat c g at) h.0 ∙ ap (λ (o : Option Glyph). Flat f2 o at) h.1 ∙ ap (Flat f2 g2) h.2)
   same_lists self (Asks k at x) (Asks k2 at2 y) h =
-      ap (before (LookUp k at ∷ [])) (same_lists self (x (fonts k)) (y (fonts k)) (h.2 (fonts k) (fonts k) (self (fonts k))))
-      ∙ ap (λ (l : FontKey). before (LookUp l at ∷ []) (list_from fonts (y (fonts l)))) h.0
-      ∙ ap (λ (n : ℕ). before (LookUp k2 n ∷ []) (list_from fonts (y (fonts k2)))) h.1
+      ap (list_after (LookUp k at ∷ [])) (same_lists self (x (fonts k)) (y (fonts k)) (h.2 (fonts k) (fonts k) (self (fonts k))))
+      ∙ ap (λ (l : FontKey). list_after (LookUp l at ∷ []) (list_from fonts (y (fonts l)))) h.0
+      ∙ ap (λ (n : ℕ). list_after (LookUp k2 n ∷ []) (list_from fonts (y (fonts k2)))) h.1
   same_lists self (Ends at) (Ends at2) h = ap (λ (n : ℕ). list_from fonts (Ends n)) h
-  same_lists self (Stops f at) (Stops f2 at2) h = ap (λ (c : PageFaultSeen). list_from fonts (Stops c at)) h.0 ∙ ap (λ (n : ℕ). list_from fonts (Stops f2 n)) h.1
+  same_lists self (Stops f at) (Stops f2 at2) h = ap (λ (c : PageFaultValue). list_from fonts (Stops c at)) h.0 ∙ ap (λ (n : ℕ). list_from fonts (Stops f2 n)) h.1
   same_lists self _ _ h = absurd h
 
   pub led : (self : (d : Decoded) → AreAlike d d) (Finds : Finding) → ((k : FontKey) (d : Decoded) → Finds k d → AreAlike d (fonts k)) → (from : Course) (members : List Member) (to : Course)
-      → Similar from from → Unfolds Finds from members to → list_from fonts from ≡ before members (list_from fonts to)
+      → Similar from from → Unfolds Finds from members to → list_from fonts from ≡ list_after members (list_from fonts to)
   led self Finds alike from [] to similar leads = ap (list_from fonts) leads
   led self Finds alike from (Flat f g at ∷ members) to similar leads =
       let own = subst (λ (x : Course). Similar x x) leads.1 similar in
-      ap (list_from fonts) leads.1 ∙ ap (before (Flat f g at ∷ [])) (led self Finds alike leads.0 members to own.3 leads.2)
+      ap (list_from fonts) leads.1 ∙ ap (list_after (Flat f g at ∷ [])) (led self Finds alike leads.0 members to own.3 leads.2)
   led self Finds alike from (LookUp k at ∷ members) to similar leads =
       let own = subst (λ (x : Course). Similar x x) leads.2 similar in
       let d = leads.1 in
       let same : list_from fonts (leads.0 (fonts k)) ≡ list_from fonts (leads.0 d) = sym (same_lists self (leads.0 d) (leads.0 (fonts k)) (own.2 d (fonts k) (alike k d leads.3))) in
       ap (list_from fonts) leads.2
-      ∙ ap (before (LookUp k at ∷ [])) (same ∙ led self Finds alike (leads.0 d) members to (own.2 d d (self d)) leads.4)
+      ∙ ap (list_after (LookUp k at ∷ [])) (same ∙ led self Finds alike (leads.0 d) members to (own.2 d d (self d)) leads.4)
 
   pub to_the_end : (Finds : Finding) → ((k : FontKey) → Finds k (fonts k)) → (from : Course)
       → (to : Course) × Unfolds Finds from (list_from fonts from).members to × (list_from fonts to ≡ no_more (list_from fonts from).ending)

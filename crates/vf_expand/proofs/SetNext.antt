@@ -5,7 +5,7 @@ use Rattle.std.proofs.lemmas.List.{get_or-drop}
 use Rattle.dvi_commands.specs.declared.command.Context.{Context}
 use Rattle.dvi_commands.specs.declared.command.Command.{Command}
 use Rattle.dvi_commands.specs.declared.command.Command.TheVariants as lent
-use Rattle.dvi_commands.specs.Spelling.{DviCommand, HasWidth, IsOperand, Nop, Put, Set, Spells, seen, spelling}
+use Rattle.dvi_commands.specs.Spelling.{DviCommand, HasWidth, IsOperand, Nop, Put, Set, Spells, value_of_command, spelling}
 use Rattle.dvi_commands.specs.Reading.{Begins, commands_of}
 use Rattle.dvi_commands.proofs.Commands.{commands_first, commands_on}
 use Rattle.dvi_commands.proofs.Refusals.{spelled_some}
@@ -71,7 +71,7 @@ module _ (context : Context) (text : List ℕ) (at : ℕ) where
 
 -- ---- a command of the code
 
-no_set : (c : Command) → ((code : ℤ) → c ≡ lent.Set code → ⊥) → (code : ℤ) → seen c ≡ Set code → ⊥
+no_set : (c : Command) → ((code : ℤ) → c ≡ lent.Set code → ⊥) → (code : ℤ) → value_of_command c ≡ Set code → ⊥
 no_set (lent.Set z) other code e = other z refl
 no_set (lent.Put z) other code e = absurd cc
 no_set (lent.SetRule a b) other code e = absurd cc
@@ -98,7 +98,7 @@ no_set (lent.Pre id num den mag text) other code e = absurd cc
 no_set (lent.Post back num den mag tallest widest deepest pages) other code e = absurd cc
 no_set (lent.PostPost q id) other code e = absurd cc
 
-no_put : (c : Command) → ((code : ℤ) → c ≡ lent.Put code → ⊥) → (code : ℤ) → seen c ≡ Put code → ⊥
+no_put : (c : Command) → ((code : ℤ) → c ≡ lent.Put code → ⊥) → (code : ℤ) → value_of_command c ≡ Put code → ⊥
 no_put (lent.Set z) other code e = absurd cc
 no_put (lent.Put z) other code e = other z refl
 no_put (lent.SetRule a b) other code e = absurd cc
@@ -125,6 +125,6 @@ no_put (lent.Pre id num den mag text) other code e = absurd cc
 no_put (lent.Post back num den mag tallest widest deepest pages) other code e = absurd cc
 no_put (lent.PostPost q id) other code e = absurd cc
 
-pub no_character : (c : Command) → ((code : ℤ) → c ≡ lent.Set code → ⊥) → ((code : ℤ) → c ≡ lent.Put code → ⊥) → (code : ℤ) (put : Bool) → seen c ≡ character_command code put → ⊥
+pub no_character : (c : Command) → ((code : ℤ) → c ≡ lent.Set code → ⊥) → ((code : ℤ) → c ≡ lent.Put code → ⊥) → (code : ℤ) (put : Bool) → value_of_command c ≡ character_command code put → ⊥
 no_character c set put code false e = no_set c set code e
 no_character c set put code true e = no_put c put code e

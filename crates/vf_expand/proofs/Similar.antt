@@ -10,13 +10,15 @@ use Rattle.drift_rules.specs.Position as flat
 use Rattle.page_index.specs.Document.{Reading, font_table}
 use Rattle.page_index.specs.Pages.{eop_at, page_commands}
 use Rattle.pk_runs.specs.declared.glyph.Glyph.{Glyph}
-use Rattle.font_decode.specs.Fonts.{FontSeen, scaled_width_of, glyph_at, is_virtual_of, packet_of, local_of, first_local_of}
+use Rattle.font_decode.specs.Fonts.{FontValue, scaled_width_of, glyph_at, is_virtual_of, packet_of, local_of, first_local_of}
 use Rattle.font_decode.specs.Decoding.{AreAlike, AreAlikeFonts}
-use Rattle.font_decode.specs.declared.decoded.Decoded.{Decoded}
-use Rattle.font_decode.specs.declared.decoded.Decoded.TheVariants as decoded
-use Rattle.vf_expand.specs.Faults.{PageFaultSeen}
+use Rattle.font_decode.specs.declared.font_or_fault.Decoded.{Decoded}
+use Rattle.font_decode.specs.declared.font_or_fault.Decoded.TheVariants as decoded
+use Rattle.vf_expand.specs.Faults.{PageFaultValue}
 use Rattle.vf_expand.specs.Faults as fault
-use Rattle.vf_expand.specs.Course.{Course, Gives, Asks, Ends, Stops, Place, Current, Deeper, dimension, space, changed_to, no_local, font_change, local_key, current_of, first_font, leave, packet, number_of, virtual, with_glyph, by_kind, with_width, found, no_font, character, expand_one, expand_list, deeper, MOST_DEEP, page_from, cut, MOST_FLAT, course_of, gap_of}
+use Rattle.vf_expand.specs.Course.{Course, Gives, Asks, Ends, Stops, Place, Current, Deeper, dimension, space, changed_to, no_local, font_change, local_key, current_of, first_font, leave, packet, number_of, virtual, with_glyph, by_kind, with_width, char_of_decoded, no_font, character, expand_one, expand_list, deeper, page_from, cut, course_of, advance_of}
+use Rattle.vf_expand.specs.Limits.{MAX_FLAT_COMMANDS}
+use Rattle.vf_expand.specs.Limits.{MAX_DEPTH}
 use Rattle.vf_expand.specs.Course as course
 
 -- two courses that come to the same, whichever of alike fonts are found
@@ -46,7 +48,7 @@ second (Known k d e h) = course.Known k e
 
 data Places : Type 0 where
   OnPage : Reading → Places
-  InPacket : FontKey → (f g : FontSeen) → AreAlikeFonts f g → Places
+  InPacket : FontKey → (f g : FontValue) → AreAlikeFonts f g → Places
 
 abbrev here : Places → Place
 here (OnPage reading) = course.OnPage reading
@@ -62,29 +64,29 @@ AreSimilar x y = (b : Both) → Similar (x (first b)) (y (second b))
 -- packets of alike fonts become the same, before what is the same
 abbrev AreDeeper : Deeper → Deeper → Type 0
 AreDeeper None None = Unit {0}
-AreDeeper (Some i) (Some j) = (k : FontKey) (f g : FontSeen) (commands : List DviCommand) (x y : Course) → AreAlikeFonts f g → Similar x y → Similar (i k f commands x) (j k g commands y)
+AreDeeper (Some i) (Some j) = (k : FontKey) (f g : FontValue) (commands : List DviCommand) (x y : Course) → AreAlikeFonts f g → Similar x y → Similar (i k f commands x) (j k g commands y)
 AreDeeper _ _ = ⊥
 
 -- ---- virtual characters
 
-similar_leave : (gap : Option ℤ) (at : ℕ) (x y : Course) → Similar x y → Similar (leave gap at x) (leave gap at y)
+similar_leave : (advance : Option ℤ) (at : ℕ) (x y : Course) → Similar x y → Similar (leave advance at x) (leave advance at y)
 similar_leave None at x y h = (refl, refl, refl, h)
 similar_leave (Some width) at x y h = (refl, refl, refl, (refl, refl, refl, h))
 
-module _ (at : ℕ) (k : FontKey) (f g : FontSeen) (alike : AreAlikeFonts f g) where
-  similar_packet : (i j : FontKey → FontSeen → List DviCommand → Course → Course) → AreDeeper (Some i) (Some j) → (c : ℤ) (gap : Option ℤ) (text : Option (List ℕ)) (x y : Course) → Similar x y
-      → Similar (packet i at k f c gap text x) (packet j at k g c gap text y)
-  similar_packet i j deep c gap None x y h = (refl, refl)
-  similar_packet i j deep c gap (Some text) x y h =
-      (refl, refl, refl, deep k f g (commands_of text) (leave gap at x) (leave gap at y) alike (similar_leave gap at x y h))
+module _ (at : ℕ) (k : FontKey) (f g : FontValue) (alike : AreAlikeFonts f g) where
+  similar_packet : (i j : FontKey → FontValue → List DviCommand → Course → Course) → AreDeeper (Some i) (Some j) → (c : ℤ) (advance : Option ℤ) (text : Option (List ℕ)) (x y : Course) → Similar x y
+      → Similar (packet i at k f c advance text x) (packet j at k g c advance text y)
+  similar_packet i j deep c advance None x y h = (refl, refl)
+  similar_packet i j deep c advance (Some text) x y h =
+      (refl, refl, refl, deep k f g (commands_of text) (leave advance at x) (leave advance at y) alike (similar_leave advance at x y h))
 
-  similar_virtual : (i j : Deeper) → AreDeeper i j → (c : ℤ) (gap : Option ℤ) (x y : Course) → Similar x y → Similar (virtual i at k f c gap x) (virtual j at k g c gap y)
-  similar_virtual None None deep c gap x y h = (refl, refl)
-  similar_virtual (Some i) (Some j) deep c gap x y h =
-      subst (λ (text : Option (List ℕ)). Similar (packet i at k f c gap (packet_of f (number_of c)) x) (packet j at k g c gap text y)) (alike.packets (number_of c))
-      (similar_packet i j deep c gap (packet_of f (number_of c)) x y h)
-  similar_virtual None (Some j) deep c gap x y h = absurd deep
-  similar_virtual (Some i) None deep c gap x y h = absurd deep
+  similar_virtual : (i j : Deeper) → AreDeeper i j → (c : ℤ) (advance : Option ℤ) (x y : Course) → Similar x y → Similar (virtual i at k f c advance x) (virtual j at k g c advance y)
+  similar_virtual None None deep c advance x y h = (refl, refl)
+  similar_virtual (Some i) (Some j) deep c advance x y h =
+      subst (λ (text : Option (List ℕ)). Similar (packet i at k f c advance (packet_of f (number_of c)) x) (packet j at k g c advance text y)) (alike.packets (number_of c))
+      (similar_packet i j deep c advance (packet_of f (number_of c)) x y h)
+  similar_virtual None (Some j) deep c advance x y h = absurd deep
+  similar_virtual (Some i) None deep c advance x y h = absurd deep
 
   -- ---- characters
 
@@ -97,7 +99,7 @@ module _ (at : ℕ) (k : FontKey) (f g : FontSeen) (alike : AreAlikeFonts f g) w
     similar_kind width false =
         subst (λ (glyph : Option Glyph). Similar (with_glyph at k c width put (glyph_at f (number_of c)) x) (with_glyph at k c width put glyph y)) (alike.glyphs (number_of c))
         (similar_glyph c width put (glyph_at f (number_of c)) x y h)
-    similar_kind width true = similar_virtual i j deep c (gap_of width put) x y h
+    similar_kind width true = similar_virtual i j deep c (advance_of width put) x y h
 
     similar_width : (width : Option ℤ) → Similar (with_width i at k f c put width x) (with_width j at k g c put width y)
     similar_width None = (refl, refl)
@@ -105,13 +107,13 @@ module _ (at : ℕ) (k : FontKey) (f g : FontSeen) (alike : AreAlikeFonts f g) w
         subst (λ (b : Bool). Similar (by_kind i at k f c width put (is_virtual_of f) x) (by_kind j at k g c width put b y)) alike.virtual
         (similar_kind width (is_virtual_of f))
 
-    similar_font : Similar (found i at k (decoded.Font f) c put x) (found j at k (decoded.Font g) c put y)
+    similar_font : Similar (char_of_decoded i at k (decoded.Font f) c put x) (char_of_decoded j at k (decoded.Font g) c put y)
     similar_font =
         subst (λ (width : Option ℤ). Similar (with_width i at k f c put (scaled_width_of f c) x) (with_width j at k g c put width y)) (alike.widths c)
         (similar_width (scaled_width_of f c))
 
 similar_found : (i j : Deeper) → AreDeeper i j → (at : ℕ) (k : FontKey) (d e : Decoded) → AreAlike d e → (c : ℤ) (put : Bool) (x y : Course) → Similar x y
-    → Similar (found i at k d c put x) (found j at k e c put y)
+    → Similar (char_of_decoded i at k d c put x) (char_of_decoded j at k e c put y)
 similar_found i j deep at k (decoded.Font f) (decoded.Font g) alike c put x y h = similar_font at k f g alike i j deep c put x y h
 similar_found i j deep at k (decoded.Font f) (decoded.Fault g) alike c put x y h = absurd alike
 similar_found i j deep at k (decoded.Fault f) (decoded.Font g) alike c put x y h = absurd alike
@@ -139,7 +141,7 @@ module _ (i j : Deeper) (deep : AreDeeper i j) (p : Places) (at : ℕ) (x y : Cu
       (refl, refl, λ d e alike. similar_found i j deep at k d e alike c put (x (course.Known k d)) (y (course.Known k e)) (next (Known k d e alike)))
   similar_character (Known k d e h) c put = similar_found i j deep at k d e h c put (x (course.Known k d)) (y (course.Known k e)) (next (Known k d e h))
 
-  similar_changed : (o : Option FontKey) (f : PageFaultSeen) → Similar (changed_to o f at x) (changed_to o f at y)
+  similar_changed : (o : Option FontKey) (f : PageFaultValue) → Similar (changed_to o f at x) (changed_to o f at y)
   similar_changed None f = (refl, refl)
   similar_changed (Some k) f = (refl, refl, refl, next (Chosen k))
 
@@ -197,7 +199,7 @@ module _ (i j : Deeper) (deep : AreDeeper i j) (p : Places) (at : ℕ) where
   similar_begun None commands x y h = similar_list commands x y h NoFont
   similar_begun (Some k) commands x y h = similar_list commands x y h (Chosen k)
 
-same_first : (f g : FontSeen) → AreAlikeFonts f g → local_key f (first_local_of f) ≡ local_key g (first_local_of g)
+same_first : (f g : FontValue) → AreAlikeFonts f g → local_key f (first_local_of f) ≡ local_key g (first_local_of g)
 same_first f g alike = same_key (first_local_of f) ∙ ap (local_key g) alike.first where
   same_key : (o : Option ℤ) → local_key f o ≡ local_key g o
   same_key None = refl
@@ -216,7 +218,7 @@ similar_deeper (suc n) at = λ k f g commands x y alike h.
 similar_page : (reading : Reading) (eop : ℕ) (commands : List Placed) (b : Both) → Similar (page_from reading eop (first b) commands) (page_from reading eop (second b) commands)
 similar_page reading eop [] b = refl
 similar_page reading eop (p ∷ commands) b =
-    similar_one (deeper MOST_DEEP p.at) (deeper MOST_DEEP p.at) (similar_deeper MOST_DEEP p.at) (OnPage reading) p.at
+    similar_one (deeper MAX_DEPTH p.at) (deeper MAX_DEPTH p.at) (similar_deeper MAX_DEPTH p.at) (OnPage reading) p.at
     (λ now. page_from reading eop now commands) (λ now. page_from reading eop now commands) (similar_page reading eop commands) b p.command
 
 similar_cut : (n : ℕ) (x y : Course) → Similar x y → Similar (cut n x) (cut n y)
@@ -232,4 +234,4 @@ similar_cut n _ _ h = absurd h
 pub course_similar : (reading : Reading) (i : ℕ) → Similar (course_of reading i) (course_of reading i)
 course_similar reading i =
     let page = page_from reading (unwrap_or (eop_at i reading) 0) course.NoFont (page_commands i reading) in
-    similar_cut MOST_FLAT page page (similar_page reading (unwrap_or (eop_at i reading) 0) (page_commands i reading) NoFont)
+    similar_cut MAX_FLAT_COMMANDS page page (similar_page reading (unwrap_or (eop_at i reading) 0) (page_commands i reading) NoFont)

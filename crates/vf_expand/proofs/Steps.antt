@@ -5,20 +5,21 @@ use Rattle.std.specs.Arc.{arc_value}
 use Rattle.dvi_commands.specs.Spelling.{DviCommand}
 use Rattle.dvi_commands.specs.Reading.{Placed, commands_of}
 use Rattle.outside.specs.declared.keys.FontKey.{FontKey}
-use Rattle.drift_rules.specs.Position.{FlatCommand, seen_flat}
+use Rattle.drift_rules.specs.Position.{FlatCommand, value_of_flat}
 use Rattle.drift_rules.specs.Position as flat
 use Rattle.drift_rules.specs.declared.flat.Flat.{Flat}
 use Rattle.pk_runs.specs.declared.glyph.Glyph.{Glyph}
-use Rattle.font_decode.specs.declared.decoded.Decoded.{Decoded}
-use Rattle.vf_expand.specs.Faults.{seen_fault, TooLong}
-use Rattle.vf_expand.specs.Course.{Course, Gives, Asks, Ends, Stops, plain, Place, InPacket, Current, NoFont, Chosen, Known, MOST_DEEP, character, deeper, expand_one, expand_list, first_font, leave, page_from, cut}
-use Rattle.vf_expand.specs.Effects.{HasEffect, IsEntry, IsMark, IsPlain, Meaning, seen_current}
-use Rattle.vf_expand.specs.Expansion.{Expansion, IsAtLook, Packet, Stack, Page, Within, answered, asks_from, course_left, depth, due_left, font_of, glyph_in, left, place_in, stack_left}
-use Rattle.vf_expand.specs.Levels.{seen_packet, text_in}
+use Rattle.font_decode.specs.declared.font_or_fault.Decoded.{Decoded}
+use Rattle.vf_expand.specs.Faults.{value_of_fault, TooLong}
+use Rattle.vf_expand.specs.Course.{Course, Gives, Asks, Ends, Stops, gives, Place, InPacket, Current, NoFont, Chosen, Known, character, deeper, expand_one, expand_list, first_font, leave, page_from, cut}
+use Rattle.vf_expand.specs.Limits.{MAX_DEPTH}
+use Rattle.vf_expand.specs.Effects.{HasEffect, IsEntry, IsCharEffect, IsNoCharacter, Meaning, value_of_current}
+use Rattle.vf_expand.specs.Expansion.{Expansion, IsAtLook, OpenPacket, Stack, Page, Within, after_answer, asks_from, course_left, depth, after_pending_advance, font_of, glyph_in, rest_of, place_in, stack_left}
+use Rattle.vf_expand.specs.Levels.{value_of_packet, text_in}
 use Rattle.vf_expand.specs.Steps.{AsksOne, GivesOne, HasItsGlyph, Stays}
 use Rattle.vf_expand.specs.Sets.{character_command}
 use Rattle.vf_expand.specs.declared.effect.Effect.TheVariants as effect
-use Rattle.vf_expand.specs.declared.frames.Frame.{Frame}
+use Rattle.vf_expand.specs.declared.outer_levels.Level.{Level}
 use Rattle.vf_expand.proofs.Late.{ask_cut, end_cut, give_cut, late_list, stop_cut}
 
 -- ---- how many steps may still come
@@ -39,11 +40,11 @@ falls b old new = omega (arith, most b new, least b old) where
 fewer : (b : ℕ) (old new : Current) → 0 < b → (b - 1) + asks_from (b - 1) new < b + asks_from b old
 fewer b old new h = omega (arith, falls b old new, h)
 
-asks_again : (x : Course) (k : FontKey) (at : ℕ) (rest : Decoded → Course) → x ≡ Asks k at rest → x ≡ Asks k at (answered x)
-asks_again x k at rest e = e ∙ ap (λ (y : Course). Asks k at (answered y)) (sym e)
+asks_again : (x : Course) (k : FontKey) (at : ℕ) (rest : Decoded → Course) → x ≡ Asks k at rest → x ≡ Asks k at (after_answer x)
+asks_again x k at rest e = e ∙ ap (λ (y : Course). Asks k at (after_answer y)) (sym e)
 
 -- a flat command that is no character comes with no font and no glyph
-without : (f : FlatCommand) → IsPlain f → HasItsGlyph None f None
+without : (f : FlatCommand) → IsNoCharacter f → HasItsGlyph None f None
 without (flat.Char k c width put) h = absurd (h k c width put refl)
 without _ h = (refl, refl)
 
@@ -51,7 +52,7 @@ glyph_of_flat : Option Decoded → FlatCommand → Option Glyph
 glyph_of_flat font (flat.Char k c width put) = glyph_in font c
 glyph_of_flat font _ = None
 
-module _ (meaning : Meaning) (current : Current) (f : FlatCommand) (mark : IsMark meaning current f) where
+module _ (meaning : Meaning) (current : Current) (f : FlatCommand) (mark : IsCharEffect meaning current f) where
   here_is : Some mark.glyph ≡ glyph_in (font_of current) mark.code
   here_is = sym (ap (λ (x : Current). glyph_in (font_of x) mark.code) mark.known ∙ mark.has)
 
@@ -65,14 +66,14 @@ module _ (meaning : Meaning) (current : Current) (f : FlatCommand) (mark : IsMar
       here_is ∙ ap (glyph_of_flat (font_of current)) (sym mark.char ∙ is) ∙ has
 
 -- a character that a command sets or puts
-pub mark_command : (place : Place) (n : ℕ) (current : Current) (f : FlatCommand) (code : ℤ) (put : Bool) → IsMark (λ now at others. character (deeper n at) place at now code put others) current f
-    → IsMark (λ now at others. expand_one (deeper n at) place at now (character_command code put) others) current f
+pub mark_command : (place : Place) (n : ℕ) (current : Current) (f : FlatCommand) (code : ℤ) (put : Bool) → IsCharEffect (λ now at others. character (deeper n at) place at now code put others) current f
+    → IsCharEffect (λ now at others. expand_one (deeper n at) place at now (character_command code put) others) current f
 mark_command place n current f code false h = h
 mark_command place n current f code true h = h
 
 -- ---- after a command of the page or of a packet
 
-module _ (v : Expansion) (undue : v.due ≡ None) (room : 0 < v.budget) (n at : ℕ) (place : Place) (c : DviCommand) (rest : Stack)
+module _ (v : Expansion) (nothing_pending : v.pending_advance ≡ None) (room : 0 < v.budget) (n at : ℕ) (place : Place) (c : DviCommand) (rest : Stack)
     (head : (current : Current) → stack_left v.reading v.eop v.at current v.stack
     ≡ expand_one (deeper n at) place at current c (λ next. stack_left v.reading v.eop at next rest))
     (same : stack_left v.reading v.eop at v.current v.stack ≡ stack_left v.reading v.eop v.at v.current v.stack) where
@@ -85,29 +86,29 @@ module _ (v : Expansion) (undue : v.due ≡ None) (room : 0 < v.budget) (n at : 
   abbrev stopped : Expansion
   stopped = record v { at = at; marked = false }
 
-  here : left v ≡ cut v.budget (expand_one (deeper n at) place at v.current c others)
+  here : rest_of v ≡ cut v.budget (expand_one (deeper n at) place at v.current c others)
   unfolding course_left
-  here = ap (λ (due : Option ℤ). cut v.budget (due_left due v.at (stack_left v.reading v.eop v.at v.current v.stack))) undue ∙ ap (cut v.budget) (head v.current)
+  here = ap (λ (pending_advance : Option ℤ). cut v.budget (after_pending_advance pending_advance v.at (stack_left v.reading v.eop v.at v.current v.stack))) nothing_pending ∙ ap (cut v.budget) (head v.current)
 
-  after : (current : Current) (stack : Stack) → cut (v.budget - 1) (stack_left v.reading v.eop at current stack) ≡ course_left v.reading v.eop at (v.budget - 1) v.due current stack
+  after : (current : Current) (stack : Stack) → cut (v.budget - 1) (stack_left v.reading v.eop at current stack) ≡ course_left v.reading v.eop at (v.budget - 1) v.pending_advance current stack
   unfolding course_left
-  after current stack = ap (λ (due : Option ℤ). cut (v.budget - 1) (due_left due at (stack_left v.reading v.eop at current stack))) (sym undue)
+  after current stack = ap (λ (pending_advance : Option ℤ). cut (v.budget - 1) (after_pending_advance pending_advance at (stack_left v.reading v.eop at current stack))) (sym nothing_pending)
 
-  stays : left stopped ≡ left v
+  stays : rest_of stopped ≡ rest_of v
   unfolding course_left
-  stays = ap (λ (due : Option ℤ). cut v.budget (due_left due at (stack_left v.reading v.eop at v.current v.stack))) undue
+  stays = ap (λ (pending_advance : Option ℤ). cut v.budget (after_pending_advance pending_advance at (stack_left v.reading v.eop at v.current v.stack))) nothing_pending
       ∙ ap (cut v.budget) same
-      ∙ ap (λ (due : Option ℤ). cut v.budget (due_left due v.at (stack_left v.reading v.eop v.at v.current v.stack))) (sym undue)
+      ∙ ap (λ (pending_advance : Option ℤ). cut v.budget (after_pending_advance pending_advance v.at (stack_left v.reading v.eop v.at v.current v.stack))) (sym nothing_pending)
 
-  pub flat_step : (f : Flat) → HasEffect place n v.current c (effect.Flat f) → IsPlain (seen_flat f) → GivesOne v (given false) (seen_flat f) None
+  pub flat_step : (f : Flat) → HasEffect place n v.current c (effect.Flat f) → IsNoCharacter (value_of_flat f) → GivesOne v (given false) (value_of_flat f) None
   flat_step f has_effect no_character = record {
-    given = here ∙ give_cut v.budget _ (others v.current) (seen_flat f) None at room (has_effect at others) ∙ ap (plain (seen_flat f) at) (after v.current rest);
-    has = without (seen_flat f) no_character;
+    given = here ∙ give_cut v.budget _ (others v.current) (value_of_flat f) None at room (has_effect at others) ∙ ap (gives (value_of_flat f) at) (after v.current rest);
+    has = without (value_of_flat f) no_character;
     asks = falls v.budget v.current v.current;
     fewer = fewer v.budget v.current v.current room;
   }
 
-  pub mark_step : (f : FlatCommand) (mark : IsMark (λ now at others. expand_one (deeper n at) place at now c others) v.current f) → GivesOne v (given true) f (Some mark.glyph)
+  pub mark_step : (f : FlatCommand) (mark : IsCharEffect (λ now at others. expand_one (deeper n at) place at now c others) v.current f) → GivesOne v (given true) f (Some mark.glyph)
   mark_step f mark = record {
     given = here ∙ give_cut v.budget _ (others v.current) f (Some mark.glyph) at room (mark.gives at others) ∙ ap (Gives f (Some mark.glyph) at) (after v.current rest);
     has = with_glyph _ v.current f mark;
@@ -119,7 +120,7 @@ module _ (v : Expansion) (undue : v.due ≡ None) (room : 0 < v.budget) (n at : 
   change_step key has_effect =
       let now = Chosen (arc_value key) in
       record {
-        given = here ∙ give_cut v.budget _ (others now) flat.Skip None at room (has_effect at others) ∙ ap (plain flat.Skip at) (after now rest);
+        given = here ∙ give_cut v.budget _ (others now) flat.Skip None at room (has_effect at others) ∙ ap (gives flat.Skip at) (after now rest);
         has = (refl, refl);
         asks = falls v.budget v.current now;
         fewer = fewer v.budget v.current now room;
@@ -129,7 +130,7 @@ module _ (v : Expansion) (undue : v.due ≡ None) (room : 0 < v.budget) (n at : 
   ask_step key has_effect =
       let asked = here ∙ ask_cut v.budget _ (arc_value key) at _ room (has_effect.1 at others) in
       record {
-        asked = asks_again (left v) (arc_value key) at _ asked;
+        asked = asks_again (rest_of v) (arc_value key) at _ asked;
         look = subst IsAtLook (sym (stays ∙ asked)) tt;
         left = stays;
         unmarked = refl;
@@ -138,14 +139,14 @@ module _ (v : Expansion) (undue : v.due ≡ None) (room : 0 < v.budget) (n at : 
         steps = refl;
       }
 
-  pub stop_step : (fault : _) → HasEffect place n v.current c (effect.Stop fault) → (left v ≡ Stops (seen_fault fault) at) × Stays v stopped
+  pub stop_step : (fault : _) → HasEffect place n v.current c (effect.Stop fault) → (rest_of v ≡ Stops (value_of_fault fault) at) × Stays v stopped
   stop_step fault has_effect =
-      (here ∙ stop_cut v.budget _ (seen_fault fault) at room (has_effect at others), record { left = stays; unmarked = refl; asks = refl })
+      (here ∙ stop_cut v.budget _ (value_of_fault fault) at room (has_effect at others), record { left = stays; unmarked = refl; asks = refl })
 
   -- a packet is entered
-  module _ (deep : n ≡ MOST_DEEP - depth rest) (level : Frame) (has_effect : IsEntry n (λ now at others. expand_one (deeper n at) place at now c others) v.current level) where
+  module _ (deep : n ≡ MAX_DEPTH - depth rest) (level : Level) (has_effect : IsEntry n (λ now at others. expand_one (deeper n at) place at now c others) v.current level) where
     abbrev entered : Stack
-    entered = Within (seen_packet v.current level) rest
+    entered = Within (value_of_packet v.current level) rest
 
     text_is : has_effect.text ≡ drop level.pos (text_in v.current level.code)
     text_is =
@@ -153,47 +154,47 @@ module _ (v : Expansion) (undue : v.due ≡ None) (room : 0 < v.budget) (n at : 
         prefix ∙ sym (ap (λ (o : Option (List ℕ)). drop level.pos (unwrap_or o [])) has_effect.packet)
         ∙ ap (λ (x : Current). drop level.pos (text_in x level.code)) (sym has_effect.known)
 
-    below : n - 1 ≡ MOST_DEEP - suc (depth rest)
+    below : n - 1 ≡ MAX_DEPTH - suc (depth rest)
     below = omega (arith, deep)
 
-    inside : expand_list (expand_one (deeper (n - 1) at) (InPacket has_effect.key has_effect.font) at) (first_font has_effect.font) (commands_of has_effect.text) (leave level.gap at (others v.current))
-        ≡ stack_left v.reading v.eop at (seen_current level.current) entered
+    inside : expand_list (expand_one (deeper (n - 1) at) (InPacket has_effect.key has_effect.font) at) (first_font has_effect.font) (commands_of has_effect.text) (leave level.advance at (others v.current))
+        ≡ stack_left v.reading v.eop at (value_of_current level.current) entered
     inside =
-        let later = leave level.gap at (others v.current) in
+        let later = leave level.advance at (others v.current) in
         ap (λ (m : ℕ). expand_list (expand_one (deeper m at) (InPacket has_effect.key has_effect.font) at) (first_font has_effect.font) (commands_of has_effect.text) later) below
-        ∙ ap (λ (x : Current). expand_list (expand_one (deeper (MOST_DEEP - suc (depth rest)) at) (place_in v.reading x) at) (first_font has_effect.font) (commands_of has_effect.text) later) (sym has_effect.known)
-        ∙ ap (λ (x : Current). expand_list (expand_one (deeper (MOST_DEEP - suc (depth rest)) at) (place_in v.reading v.current) at) x (commands_of has_effect.text) later) (sym has_effect.first)
-        ∙ ap (λ (text : List ℕ). expand_list (expand_one (deeper (MOST_DEEP - suc (depth rest)) at) (place_in v.reading v.current) at) (seen_current level.current) (commands_of text) later) text_is
+        ∙ ap (λ (x : Current). expand_list (expand_one (deeper (MAX_DEPTH - suc (depth rest)) at) (place_in v.reading x) at) (first_font has_effect.font) (commands_of has_effect.text) later) (sym has_effect.known)
+        ∙ ap (λ (x : Current). expand_list (expand_one (deeper (MAX_DEPTH - suc (depth rest)) at) (place_in v.reading v.current) at) x (commands_of has_effect.text) later) (sym has_effect.first)
+        ∙ ap (λ (text : List ℕ). expand_list (expand_one (deeper (MAX_DEPTH - suc (depth rest)) at) (place_in v.reading v.current) at) (value_of_current level.current) (commands_of text) later) text_is
 
-    pub enter_step : GivesOne v (record v { at = at; budget = v.budget - 1; marked = false; current = seen_current level.current; stack = entered }) flat.Enter None
+    pub enter_step : GivesOne v (record v { at = at; budget = v.budget - 1; marked = false; current = value_of_current level.current; stack = entered }) flat.Enter None
     enter_step = record {
-      given = here ∙ give_cut v.budget _ _ flat.Enter None at room (has_effect.gives at others ∙ ap (plain flat.Enter at) inside) ∙ ap (plain flat.Enter at) (after (seen_current level.current) entered);
+      given = here ∙ give_cut v.budget _ _ flat.Enter None at room (has_effect.gives at others ∙ ap (gives flat.Enter at) inside) ∙ ap (gives flat.Enter at) (after (value_of_current level.current) entered);
       has = (refl, refl);
-      asks = falls v.budget v.current (seen_current level.current);
-      fewer = fewer v.budget v.current (seen_current level.current) room;
+      asks = falls v.budget v.current (value_of_current level.current);
+      fewer = fewer v.budget v.current (value_of_current level.current) room;
     }
 
 -- ---- after a packet
 
-leave_is : (gap : Option ℤ) (at : ℕ) (x : Course) → leave gap at x ≡ plain flat.Leave at (due_left gap at x)
+leave_is : (advance : Option ℤ) (at : ℕ) (x : Course) → leave advance at x ≡ gives flat.Leave at (after_pending_advance advance at x)
 leave_is None at x = refl
 leave_is (Some width) at x = refl
 
-module _ (v : Expansion) (undue : v.due ≡ None) (p : Packet) (outer : Stack) (inside : v.stack ≡ Within p outer) where
-  packet_here : left v ≡ course_left v.reading v.eop v.at v.budget None v.current (Within p outer)
-  packet_here = ap (λ (due : Option ℤ). course_left v.reading v.eop v.at v.budget due v.current v.stack) undue
+module _ (v : Expansion) (nothing_pending : v.pending_advance ≡ None) (p : OpenPacket) (outer : Stack) (inside : v.stack ≡ Within p outer) where
+  packet_here : rest_of v ≡ course_left v.reading v.eop v.at v.budget None v.current (Within p outer)
+  packet_here = ap (λ (pending_advance : Option ℤ). course_left v.reading v.eop v.at v.budget pending_advance v.current v.stack) nothing_pending
       ∙ ap (course_left v.reading v.eop v.at v.budget None v.current) inside
 
   leaves : 0 < v.budget → p.commands ≡ [] → course_left v.reading v.eop v.at v.budget None v.current (Within p outer)
-      ≡ plain flat.Leave v.at (course_left v.reading v.eop v.at (v.budget - 1) p.gap p.outside outer)
+      ≡ gives flat.Leave v.at (course_left v.reading v.eop v.at (v.budget - 1) p.advance p.outside outer)
   unfolding course_left
   leaves room ended =
-      let one = expand_one (deeper (MOST_DEEP - suc (depth outer)) v.at) (place_in v.reading p.outside) v.at in
+      let one = expand_one (deeper (MAX_DEPTH - suc (depth outer)) v.at) (place_in v.reading p.outside) v.at in
       let later = stack_left v.reading v.eop v.at p.outside outer in
-      give_cut v.budget _ (due_left p.gap v.at later) flat.Leave None v.at room
-      (ap (λ (commands : List DviCommand). expand_list one v.current commands (leave p.gap v.at later)) ended ∙ leave_is p.gap v.at later)
+      give_cut v.budget _ (after_pending_advance p.advance v.at later) flat.Leave None v.at room
+      (ap (λ (commands : List DviCommand). expand_list one v.current commands (leave p.advance v.at later)) ended ∙ leave_is p.advance v.at later)
 
-  pub leave_step : 0 < v.budget → p.commands ≡ [] → GivesOne v (record v { budget = v.budget - 1; marked = false; due = p.gap; current = p.outside; stack = outer }) flat.Leave None
+  pub leave_step : 0 < v.budget → p.commands ≡ [] → GivesOne v (record v { budget = v.budget - 1; marked = false; pending_advance = p.advance; current = p.outside; stack = outer }) flat.Leave None
   leave_step room ended = record {
     given = packet_here ∙ leaves room ended;
     has = (refl, refl);
@@ -203,26 +204,26 @@ module _ (v : Expansion) (undue : v.due ≡ None) (p : Packet) (outer : Stack) (
 
   late : course_left v.reading v.eop v.at 0 None v.current (Within p outer) ≡ Stops TooLong v.at
   unfolding course_left
-  late = late_list (deeper (MOST_DEEP - suc (depth outer)) v.at) (place_in v.reading p.outside) v.at v.current p.commands p.gap (stack_left v.reading v.eop v.at p.outside outer)
+  late = late_list (deeper (MAX_DEPTH - suc (depth outer)) v.at) (place_in v.reading p.outside) v.at v.current p.commands p.advance (stack_left v.reading v.eop v.at p.outside outer)
 
-  pub late_packet_step : v.budget ≡ 0 → (left v ≡ Stops TooLong v.at) × Stays v (record v { marked = false })
+  pub late_packet_step : v.budget ≡ 0 → (rest_of v ≡ Stops TooLong v.at) × Stays v (record v { marked = false })
   late_packet_step none =
       (packet_here ∙ ap (λ (b : ℕ). course_left v.reading v.eop v.at b None v.current (Within p outer)) none ∙ late, record { left = refl; unmarked = refl; asks = refl })
 
 -- ---- the motion after a packet
 
-module _ (v : Expansion) (width : ℤ) (due : v.due ≡ Some width) where
-  due_here : left v ≡ course_left v.reading v.eop v.at v.budget (Some width) v.current v.stack
-  due_here = ap (λ (o : Option ℤ). course_left v.reading v.eop v.at v.budget o v.current v.stack) due
+module _ (v : Expansion) (width : ℤ) (pending_advance : v.pending_advance ≡ Some width) where
+  advance_here : rest_of v ≡ course_left v.reading v.eop v.at v.budget (Some width) v.current v.stack
+  advance_here = ap (λ (o : Option ℤ). course_left v.reading v.eop v.at v.budget o v.current v.stack) pending_advance
 
   advances : 0 < v.budget → course_left v.reading v.eop v.at v.budget (Some width) v.current v.stack
-      ≡ plain (flat.Advance width) v.at (course_left v.reading v.eop v.at (v.budget - 1) None v.current v.stack)
+      ≡ gives (flat.Advance width) v.at (course_left v.reading v.eop v.at (v.budget - 1) None v.current v.stack)
   unfolding course_left
   advances room = give_cut v.budget _ (stack_left v.reading v.eop v.at v.current v.stack) (flat.Advance width) None v.at room refl
 
-  pub advance_step : 0 < v.budget → GivesOne v (record v { budget = v.budget - 1; marked = false; due = None }) (flat.Advance width) None
+  pub advance_step : 0 < v.budget → GivesOne v (record v { budget = v.budget - 1; marked = false; pending_advance = None }) (flat.Advance width) None
   advance_step room = record {
-    given = due_here ∙ advances room;
+    given = advance_here ∙ advances room;
     has = (refl, refl);
     asks = falls v.budget v.current v.current;
     fewer = fewer v.budget v.current v.current room;
@@ -232,24 +233,24 @@ module _ (v : Expansion) (width : ℤ) (due : v.due ≡ Some width) where
   unfolding course_left
   late_due = refl
 
-  pub late_due_step : v.budget ≡ 0 → (left v ≡ Stops TooLong v.at) × Stays v (record v { marked = false })
+  pub late_due_step : v.budget ≡ 0 → (rest_of v ≡ Stops TooLong v.at) × Stays v (record v { marked = false })
   late_due_step none =
-      (due_here ∙ ap (λ (b : ℕ). course_left v.reading v.eop v.at b (Some width) v.current v.stack) none ∙ late_due, record { left = refl; unmarked = refl; asks = refl })
+      (advance_here ∙ ap (λ (b : ℕ). course_left v.reading v.eop v.at b (Some width) v.current v.stack) none ∙ late_due, record { left = refl; unmarked = refl; asks = refl })
 
 -- ---- the page's end, and a command that comes too late
 
-module _ (v : Expansion) (undue : v.due ≡ None) where
-  undue_here : left v ≡ course_left v.reading v.eop v.at v.budget None v.current v.stack
-  undue_here = ap (λ (o : Option ℤ). course_left v.reading v.eop v.at v.budget o v.current v.stack) undue
+module _ (v : Expansion) (nothing_pending : v.pending_advance ≡ None) where
+  undue_here : rest_of v ≡ course_left v.reading v.eop v.at v.budget None v.current v.stack
+  undue_here = ap (λ (o : Option ℤ). course_left v.reading v.eop v.at v.budget o v.current v.stack) nothing_pending
 
   ends : (at : ℕ) (commands : List Placed) → commands ≡ [] → course_left v.reading v.eop at v.budget None v.current (Page commands) ≡ Ends v.eop
   unfolding course_left
   ends at commands none = end_cut v.budget _ v.eop (ap (page_from v.reading v.eop v.current) none)
 
-  pub end_step : (commands : List Placed) → v.stack ≡ Page commands → commands ≡ [] → (left v ≡ Ends v.eop) × Stays v (record v { at = v.eop; marked = false })
+  pub end_step : (commands : List Placed) → v.stack ≡ Page commands → commands ≡ [] → (rest_of v ≡ Ends v.eop) × Stays v (record v { at = v.eop; marked = false })
   end_step commands page none =
-      let at_end : (at : ℕ) → course_left v.reading v.eop at v.budget v.due v.current v.stack ≡ Ends v.eop = λ at.
-      ap (λ (o : Option ℤ). course_left v.reading v.eop at v.budget o v.current v.stack) undue
+      let at_end : (at : ℕ) → course_left v.reading v.eop at v.budget v.pending_advance v.current v.stack ≡ Ends v.eop = λ at.
+      ap (λ (o : Option ℤ). course_left v.reading v.eop at v.budget o v.current v.stack) nothing_pending
       ∙ ap (course_left v.reading v.eop at v.budget None v.current) page ∙ ends at commands none in
       (at_end v.at, record { left = at_end v.eop ∙ sym (at_end v.at); unmarked = refl; asks = refl })
 
@@ -258,12 +259,12 @@ module _ (v : Expansion) (undue : v.due ≡ None) where
   late_here at x late none = ap (λ (b : ℕ). cut b (stack_left v.reading v.eop v.at v.current v.stack)) none ∙ late
 
   moved : (at : ℕ) → stack_left v.reading v.eop at v.current v.stack ≡ stack_left v.reading v.eop v.at v.current v.stack
-      → course_left v.reading v.eop at v.budget v.due v.current v.stack ≡ left v
+      → course_left v.reading v.eop at v.budget v.pending_advance v.current v.stack ≡ rest_of v
   unfolding course_left
   moved at same =
-      ap (λ (o : Option ℤ). cut v.budget (due_left o at (stack_left v.reading v.eop at v.current v.stack))) undue ∙ ap (cut v.budget) same
-      ∙ ap (λ (o : Option ℤ). cut v.budget (due_left o v.at (stack_left v.reading v.eop v.at v.current v.stack))) (sym undue)
+      ap (λ (o : Option ℤ). cut v.budget (after_pending_advance o at (stack_left v.reading v.eop at v.current v.stack))) nothing_pending ∙ ap (cut v.budget) same
+      ∙ ap (λ (o : Option ℤ). cut v.budget (after_pending_advance o v.at (stack_left v.reading v.eop v.at v.current v.stack))) (sym nothing_pending)
 
   pub late_step : (at : ℕ) → stack_left v.reading v.eop at v.current v.stack ≡ stack_left v.reading v.eop v.at v.current v.stack
-      → cut 0 (stack_left v.reading v.eop v.at v.current v.stack) ≡ Stops TooLong at → v.budget ≡ 0 → (left v ≡ Stops TooLong at) × Stays v (record v { at = at; marked = false })
+      → cut 0 (stack_left v.reading v.eop v.at v.current v.stack) ≡ Stops TooLong at → v.budget ≡ 0 → (rest_of v ≡ Stops TooLong at) × Stays v (record v { at = at; marked = false })
   late_step at same late none = (undue_here ∙ late_here at (Stops TooLong at) late none, record { left = moved at same; unmarked = refl; asks = refl })

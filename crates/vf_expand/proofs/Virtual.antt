@@ -5,37 +5,37 @@ use Rattle.outside.specs.declared.keys.FontKey.{FontKey}
 use Rattle.dvi_commands.specs.Spelling.{DviCommand}
 use Rattle.dvi_commands.specs.Reading.{commands_of}
 use Rattle.drift_rules.specs.Position as flat
-use Rattle.font_decode.specs.Fonts.{FontSeen, packet_of}
+use Rattle.font_decode.specs.Fonts.{FontValue, packet_of}
 use Rattle.vf_expand.specs.Faults.{Depth, NoPacket}
-use Rattle.vf_expand.specs.Course.{Course, Stops, InPacket, deeper, expand_list, expand_one, first_font, leave, number_of, packet, plain, virtual}
+use Rattle.vf_expand.specs.Course.{Course, Stops, InPacket, deeper, expand_list, expand_one, first_font, leave, number_of, packet, gives, virtual}
 
-module _ (at : ℕ) (k : FontKey) (f : FontSeen) (c : ℤ) (gap : Option ℤ) (after : Course) where
-  none_deeper : virtual (deeper zero at) at k f c gap after ≡ Stops (Depth k c) at
+module _ (at : ℕ) (k : FontKey) (f : FontValue) (c : ℤ) (advance : Option ℤ) (after : Course) where
+  none_deeper : virtual (deeper zero at) at k f c advance after ≡ Stops (Depth k c) at
   unfolding deeper
   none_deeper = refl
 
-  pub too_deep : (n : ℕ) → n ≡ 0 → virtual (deeper n at) at k f c gap after ≡ Stops (Depth k c) at
-  too_deep n none = ap (λ (m : ℕ). virtual (deeper m at) at k f c gap after) none ∙ none_deeper
+  pub too_deep : (n : ℕ) → n ≡ 0 → virtual (deeper n at) at k f c advance after ≡ Stops (Depth k c) at
+  too_deep n none = ap (λ (m : ℕ). virtual (deeper m at) at k f c advance after) none ∙ none_deeper
 
-  abbrev inner : ℕ → FontKey → FontSeen → List DviCommand → Course → Course
+  abbrev inner : ℕ → FontKey → FontValue → List DviCommand → Course → Course
   inner n l g commands rest = expand_list (expand_one (deeper n at) (InPacket l g) at) (first_font g) commands rest
 
-  one_deeper : (n : ℕ) → virtual (deeper (suc n) at) at k f c gap after ≡ packet (inner n) at k f c gap (packet_of f (number_of c)) after
+  one_deeper : (n : ℕ) → virtual (deeper (suc n) at) at k f c advance after ≡ packet (inner n) at k f c advance (packet_of f (number_of c)) after
   unfolding deeper
   one_deeper n = refl
 
-  pub no_packet : (n : ℕ) → 0 < n → packet_of f (number_of c) ≡ None → virtual (deeper n at) at k f c gap after ≡ Stops (NoPacket k c) at
+  pub no_packet : (n : ℕ) → 0 < n → packet_of f (number_of c) ≡ None → virtual (deeper n at) at k f c advance after ≡ Stops (NoPacket k c) at
   no_packet zero some none = absurd (omega arith)
-  no_packet (suc n) some none = one_deeper n ∙ ap (λ (o : Option (List ℕ)). packet (inner n) at k f c gap o after) none
+  no_packet (suc n) some none = one_deeper n ∙ ap (λ (o : Option (List ℕ)). packet (inner n) at k f c advance o after) none
 
   pub has_packet : (n : ℕ) (text : List ℕ) → 0 < n → packet_of f (number_of c) ≡ Some text
-      → virtual (deeper n at) at k f c gap after
-      ≡ plain flat.Enter at (expand_list (expand_one (deeper (n - 1) at) (InPacket k f) at) (first_font f) (commands_of text) (leave gap at after))
+      → virtual (deeper n at) at k f c advance after
+      ≡ gives flat.Enter at (expand_list (expand_one (deeper (n - 1) at) (InPacket k f) at) (first_font f) (commands_of text) (leave advance at after))
   has_packet zero text some there = absurd (omega arith)
   has_packet (suc n) text some there =
       let less : n ≡ suc n - 1 = omega arith in
-      one_deeper n ∙ ap (λ (o : Option (List ℕ)). packet (inner n) at k f c gap o after) there
-      ∙ ap (λ (m : ℕ). plain flat.Enter at (inner m k f (commands_of text) (leave gap at after))) less
+      one_deeper n ∙ ap (λ (o : Option (List ℕ)). packet (inner n) at k f c advance o after) there
+      ∙ ap (λ (m : ℕ). gives flat.Enter at (inner m k f (commands_of text) (leave advance at after))) less
 
 -- ---- what a look-up of a packet says
 

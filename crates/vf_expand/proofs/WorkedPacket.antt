@@ -7,25 +7,26 @@ use Rattle.dvi_commands.specs.Reading.{Placed, placed, commands_of}
 use Rattle.drift_rules.specs.Position as flat
 use Rattle.page_index.specs.Document.{Reading, font_table}
 use Rattle.pk_runs.specs.declared.glyph.Glyph.{Glyph}
-use Rattle.font_decode.specs.Fonts.{FontSeen, scaled_width_of, glyph_at}
-use Rattle.font_decode.specs.declared.decoded.Decoded.{Decoded}
-use Rattle.font_decode.specs.declared.decoded.Decoded.TheVariants as decoded
+use Rattle.font_decode.specs.Fonts.{FontValue, scaled_width_of, glyph_at}
+use Rattle.font_decode.specs.declared.font_or_fault.Decoded.{Decoded}
+use Rattle.font_decode.specs.declared.font_or_fault.Decoded.TheVariants as decoded
 use Rattle.vf_expand.specs.Faults.{Depth}
 use Rattle.vf_expand.specs.Faults as fault
-use Rattle.vf_expand.specs.Course.{Current, Known, NoFont, Chosen, InPacket, MOST_DEEP, current_of, first_font, gap_of, local_key}
+use Rattle.vf_expand.specs.Course.{Current, Known, NoFont, Chosen, InPacket, current_of, first_font, advance_of, local_key}
+use Rattle.vf_expand.specs.Limits.{MAX_DEPTH}
 use Rattle.vf_expand.specs.Members.{Member, Flat, LookUp}
-use Rattle.vf_expand.specs.PageLists.{AtFault, Fonts, Outcome, Goes, Faults, Packets, after, go_on, in_frame, full_list, joined, of_change, of_command, of_found, of_kind, of_list, of_packet, of_virtual, of_width, packets_in}
+use Rattle.vf_expand.specs.PageLists.{AtFault, Fonts, Outcome, Goes, Faults, Packets, outcome_after, go_on, in_packet_level, full_list, list_of_outcome, of_change, of_command, of_decoded, of_kind, of_list, of_packet, of_virtual, of_width, packets_in}
 use Rattle.vf_expand.specs.Laws.{HasPacket, LoopsAreTooDeep, ThePacketIsWorked, a_packet, nested_entries, packet_members}
 use Rattle.vf_expand.proofs.WorkedPage.{gives_glyph, goes}
 
 -- a virtual character of the font that was found
-virtual_found : (packets : Packets) (at : ℕ) (k local : FontKey) (f : FontSeen) (wide : ℤ) (text : List ℕ) (put : Bool) → HasPacket f wide text local
-    → of_found packets at k (decoded.Font f) (pos 65) put ≡ of_virtual packets at k f (pos 65) (gap_of wide put)
+virtual_found : (packets : Packets) (at : ℕ) (k local : FontKey) (f : FontValue) (wide : ℤ) (text : List ℕ) (put : Bool) → HasPacket f wide text local
+    → of_decoded packets at k (decoded.Font f) (pos 65) put ≡ of_virtual packets at k f (pos 65) (advance_of wide put)
 virtual_found packets at k local f wide text put has =
     ap (of_width packets at k f (pos 65) put) has.width ∙ ap (of_kind packets at k f (pos 65) wide put) has.virtual
 
 -- the first local font
-begins : (k local : FontKey) (f : FontSeen) (wide : ℤ) (text : List ℕ) → HasPacket f wide text local → first_font f ≡ Chosen local
+begins : (k local : FontKey) (f : FontValue) (wide : ℤ) (text : List ℕ) → HasPacket f wide text local → first_font f ≡ Chosen local
 begins k local f wide text has = ap (λ (o : Option ℤ). current_of (local_key f o)) has.first ∙ ap current_of has.key
 
 the_commands : commands_of a_packet ≡ Set (pos 65) ∷ Right (negsuc 0) ∷ Push ∷ Pop ∷ []
@@ -36,18 +37,18 @@ one_command : commands_of (65 ∷ []) ≡ Set (pos 65) ∷ []
 unfolding commands_of
 one_command = refl
 
-module _ (fonts : Fonts) (reading : Reading) (k local : FontKey) (f : FontSeen) where
+module _ (fonts : Fonts) (reading : Reading) (k local : FontKey) (f : FontValue) where
   -- a packet of a font, where there is room for it
-  packet_is : (n at : ℕ) (wide : ℤ) (text : List ℕ) (gap : Option ℤ) → HasPacket f wide text local
-      → of_virtual (packets_in fonts (suc n) at) at k f (pos 65) gap
-      ≡ in_frame at (Known k (decoded.Font f)) gap (of_list (of_command fonts (packets_in fonts n at) (InPacket k f) at) (Chosen local) (commands_of text))
+  packet_is : (n at : ℕ) (wide : ℤ) (text : List ℕ) (advance : Option ℤ) → HasPacket f wide text local
+      → of_virtual (packets_in fonts (suc n) at) at k f (pos 65) advance
+      ≡ in_packet_level at (Known k (decoded.Font f)) advance (of_list (of_command fonts (packets_in fonts n at) (InPacket k f) at) (Chosen local) (commands_of text))
   unfolding packets_in
-  packet_is n at wide text gap has =
+  packet_is n at wide text advance has =
       let one = of_command fonts (packets_in fonts n at) (InPacket k f) at in
-      ap (of_packet (λ l g commands. of_list (of_command fonts (packets_in fonts n at) (InPacket l g) at) (first_font g) commands) at k f (pos 65) gap) has.packet
-      ∙ ap (λ (c : Current). in_frame at (Known k (decoded.Font f)) gap (of_list one c (commands_of text))) (begins k local f wide text has)
+      ap (of_packet (λ l g commands. of_list (of_command fonts (packets_in fonts n at) (InPacket l g) at) (first_font g) commands) at k f (pos 65) advance) has.packet
+      ∙ ap (λ (c : Current). in_packet_level at (Known k (decoded.Font f)) advance (of_list one c (commands_of text))) (begins k local f wide text has)
 
-  module _ (l : FontSeen) (g : Glyph) (sized : f.size ≡ 128) (has : HasPacket f (pos 6) a_packet local) (inside : fonts local ≡ decoded.Font l)
+  module _ (l : FontValue) (g : Glyph) (sized : f.size ≡ 128) (has : HasPacket f (pos 6) a_packet local) (inside : fonts local ≡ decoded.Font l)
       (width : scaled_width_of l (pos 65) ≡ Some (pos 3)) (glyph : glyph_at l 65 ≡ Some g) where
     abbrev known : Current
     known = Known local (decoded.Font l)
@@ -61,18 +62,18 @@ module _ (fonts : Fonts) (reading : Reading) (k local : FontKey) (f : FontSeen) 
         let one = of_command fonts packets (InPacket k f) at in
         let rest : List DviCommand = Right (negsuc 0) ∷ Push ∷ Pop ∷ [] in
         ap (of_list one (Chosen local)) the_commands
-        ∙ ap (λ (d : Decoded). go_on (after (LookUp local at ∷ []) (of_found packets at local d (pos 65) false)) (λ next. of_list one next rest)) inside
-        ∙ ap (λ (o : Outcome). go_on (after (LookUp local at ∷ []) o) (λ next. of_list one next rest)) (gives_glyph packets at local l g (pos 3) false width glyph)
+        ∙ ap (λ (d : Decoded). go_on (outcome_after (LookUp local at ∷ []) (of_decoded packets at local d (pos 65) false)) (λ next. of_list one next rest)) inside
+        ∙ ap (λ (o : Outcome). go_on (outcome_after (LookUp local at ∷ []) o) (λ next. of_list one next rest)) (gives_glyph packets at local l g (pos 3) false width glyph)
         ∙ ap (λ (n : ℕ). Goes (members_at at (scale (negsuc 0) n)) known) sized
 
-    whole : (at : ℕ) (put : Bool) → of_found (packets_in fonts MOST_DEEP at) at k (decoded.Font f) (pos 65) put
-        ≡ in_frame at (Known k (decoded.Font f)) (gap_of (pos 6) put) (Goes (members_at at (negsuc 0)) known)
+    whole : (at : ℕ) (put : Bool) → of_decoded (packets_in fonts MAX_DEPTH at) at k (decoded.Font f) (pos 65) put
+        ≡ in_packet_level at (Known k (decoded.Font f)) (advance_of (pos 6) put) (Goes (members_at at (negsuc 0)) known)
     whole at put =
-        virtual_found (packets_in fonts MOST_DEEP at) at k local f (pos 6) a_packet put has ∙ packet_is 9 at (pos 6) a_packet (gap_of (pos 6) put) has
-        ∙ ap (in_frame at (Known k (decoded.Font f)) (gap_of (pos 6) put)) (in_the_packet (packets_in fonts 9 at) at)
+        virtual_found (packets_in fonts MAX_DEPTH at) at k local f (pos 6) a_packet put has ∙ packet_is 9 at (pos 6) a_packet (advance_of (pos 6) put) has
+        ∙ ap (in_packet_level at (Known k (decoded.Font f)) (advance_of (pos 6) put)) (in_the_packet (packets_in fonts 9 at) at)
 
 -- where the page's font has no other packet
-module _ (fonts : Fonts) (k : FontKey) (f : FontSeen) (found : fonts k ≡ decoded.Font f) (has : HasPacket f (pos 8) (65 ∷ []) k) where
+module _ (fonts : Fonts) (k : FontKey) (f : FontValue) (found : fonts k ≡ decoded.Font f) (has : HasPacket f (pos 8) (65 ∷ []) k) where
   deep : ℕ → ℕ → List Member
   deep at zero = []
   deep at (suc n) = Flat flat.Enter None at ∷ LookUp k at ∷ deep at n
@@ -81,17 +82,17 @@ module _ (fonts : Fonts) (k : FontKey) (f : FontSeen) (found : fonts k ≡ decod
   unfolding packets_in
   no_room at = refl
 
-  too_deep : (reading : Reading) (n at : ℕ) → of_found (packets_in fonts n at) at k (decoded.Font f) (pos 65) false ≡ Faults (deep at n) (Depth k (pos 65))
+  too_deep : (reading : Reading) (n at : ℕ) → of_decoded (packets_in fonts n at) at k (decoded.Font f) (pos 65) false ≡ Faults (deep at n) (Depth k (pos 65))
   unfolding deep
   too_deep reading zero at = virtual_found (packets_in fonts zero at) at k k f (pos 8) (65 ∷ []) false has ∙ no_room at
   too_deep reading (suc n) at =
       let one = of_command fonts (packets_in fonts n at) (InPacket k f) at in
-      let outer = in_frame at (Known k (decoded.Font f)) (Some (pos 8)) in
+      let outer = in_packet_level at (Known k (decoded.Font f)) (Some (pos 8)) in
       virtual_found (packets_in fonts (suc n) at) at k k f (pos 8) (65 ∷ []) false has
       ∙ packet_is fonts reading k k f n at (pos 8) (65 ∷ []) (Some (pos 8)) has
       ∙ ap (λ (commands : List DviCommand). outer (of_list one (Chosen k) commands)) one_command
-      ∙ ap (λ (d : Decoded). outer (go_on (after (LookUp k at ∷ []) (of_found (packets_in fonts n at) at k d (pos 65) false)) (λ next. of_list one next []))) found
-      ∙ ap (λ (o : Outcome). outer (go_on (after (LookUp k at ∷ []) o) (λ next. of_list one next []))) (too_deep reading n at)
+      ∙ ap (λ (d : Decoded). outer (go_on (outcome_after (LookUp k at ∷ []) (of_decoded (packets_in fonts n at) at k d (pos 65) false)) (λ next. of_list one next []))) found
+      ∙ ap (λ (o : Outcome). outer (go_on (outcome_after (LookUp k at ∷ []) o) (λ next. of_list one next []))) (too_deep reading n at)
 
   deep_entered : (at n : ℕ) → LookUp k at ∷ deep at n ≡ nested_entries k at n ++ (LookUp k at ∷ [])
   unfolding deep
@@ -114,8 +115,8 @@ changes reading k at table = ap (of_change at (fault.NoFont (pos 0))) table
 pub the_packet_is_worked : ThePacketIsWorked
 the_packet_is_worked fonts reading k local f l g table sized found has inside width glyph =
     let known = Known k (decoded.Font f) in
-    let set = ap (λ (d : Decoded). after (LookUp k 81 ∷ []) (of_found (packets_in fonts MOST_DEEP 81) 81 k d (pos 65) false)) found
-    ∙ ap (after (LookUp k 81 ∷ [])) (whole fonts reading k local f l g sized has inside width glyph 81 false) in
+    let set = ap (λ (d : Decoded). outcome_after (LookUp k 81 ∷ []) (of_decoded (packets_in fonts MAX_DEPTH 81) 81 k d (pos 65) false)) found
+    ∙ ap (outcome_after (LookUp k 81 ∷ [])) (whole fonts reading k local f l g sized has inside width glyph 81 false) in
     let put = whole fonts reading k local f l g sized has inside width glyph 82 true in
     goes fonts reading 85 (placed 80 (Font (pos 0)) (171 ∷ [])) from_81 NoFont (Chosen k) (Flat flat.Skip None 80 ∷ []) _ (changes reading k 80 table)
     (goes fonts reading 85 (placed 81 (Set (pos 65)) (65 ∷ [])) from_82 (Chosen k) known (LookUp k 81 ∷ packet_members local g 81 ++ (Flat (flat.Advance (pos 6)) None 81 ∷ [])) _ set
@@ -124,8 +125,8 @@ the_packet_is_worked fonts reading k local f l g table sized found has inside wi
 
 pub loops_are_too_deep : LoopsAreTooDeep
 loops_are_too_deep fonts reading k f table found has =
-    let set = ap (λ (d : Decoded). after (LookUp k 81 ∷ []) (of_found (packets_in fonts MOST_DEEP 81) 81 k d (pos 65) false)) found
-    ∙ ap (after (LookUp k 81 ∷ [])) (too_deep fonts k f found has reading MOST_DEEP 81) in
+    let set = ap (λ (d : Decoded). outcome_after (LookUp k 81 ∷ []) (of_decoded (packets_in fonts MAX_DEPTH 81) 81 k d (pos 65) false)) found
+    ∙ ap (outcome_after (LookUp k 81 ∷ [])) (too_deep fonts k f found has reading MAX_DEPTH 81) in
     let all = goes fonts reading 85 (placed 80 (Font (pos 0)) (171 ∷ [])) from_81 NoFont (Chosen k) (Flat flat.Skip None 80 ∷ []) _ (changes reading k 80 table)
-    (ap (λ (o : Outcome). joined 81 o (λ now. full_list fonts reading 85 now from_82)) set) in
-    all ∙ ap (λ (members : List Member). record { members = Flat flat.Skip None 80 ∷ members; ending = AtFault (Depth k (pos 65)) 81 }) (deep_entered fonts k f found has 81 MOST_DEEP)
+    (ap (λ (o : Outcome). list_of_outcome 81 o (λ now. full_list fonts reading 85 now from_82)) set) in
+    all ∙ ap (λ (members : List Member). record { members = Flat flat.Skip None 80 ∷ members; ending = AtFault (Depth k (pos 65)) 81 }) (deep_entered fonts k f found has 81 MAX_DEPTH)

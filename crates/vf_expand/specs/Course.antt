@@ -14,11 +14,13 @@ use Rattle.drift_rules.specs.Position as flat
 use Rattle.page_index.specs.Document.{Reading, font_table}
 use Rattle.page_index.specs.Pages.{eop_at, page_commands}
 use Rattle.pk_runs.specs.declared.glyph.Glyph.{Glyph}
-use Rattle.font_decode.specs.Fonts.{FontSeen, scaled_width_of, glyph_at, is_virtual_of, packet_of, local_of, first_local_of}
-use Rattle.font_decode.specs.declared.decoded.Decoded.{Decoded}
-use Rattle.font_decode.specs.declared.decoded.Decoded.TheVariants as decoded
-use Rattle.vf_expand.specs.Faults.{PageFaultSeen}
+use Rattle.font_decode.specs.Fonts.{FontValue, scaled_width_of, glyph_at, is_virtual_of, packet_of, local_of, first_local_of}
+use Rattle.font_decode.specs.declared.font_or_fault.Decoded.{Decoded}
+use Rattle.font_decode.specs.declared.font_or_fault.Decoded.TheVariants as decoded
+use Rattle.vf_expand.specs.Faults.{PageFaultValue}
 use Rattle.vf_expand.specs.Faults as fault
+use Rattle.vf_expand.specs.Limits.{MAX_DEPTH}
+use Rattle.vf_expand.specs.Limits.{MAX_FLAT_COMMANDS}
 
 -- what comes: a flat command, that of a character with its glyph; a look-up of a key, with what
 -- each font makes of the rest; or the end. Each has the position of the page's own command that it
@@ -27,15 +29,15 @@ pub data Course : Type 0 where
   Gives : FlatCommand → Option Glyph → ℕ → Course → Course
   Asks : FontKey → ℕ → (Decoded → Course) → Course
   Ends : ℕ → Course
-  Stops : PageFaultSeen → ℕ → Course
+  Stops : PageFaultValue → ℕ → Course
 
-abbrev pub plain : FlatCommand → ℕ → Course → Course
-plain f at rest = Gives f None at rest
+abbrev pub gives : FlatCommand → ℕ → Course → Course
+gives f at rest = Gives f None at rest
 
 -- where a command stands: on a page of a document, or in a packet of the virtual font with this key
 pub data Place : Type 0 where
   OnPage : Reading → Place
-  InPacket : FontKey → FontSeen → Place
+  InPacket : FontKey → FontValue → Place
 
 -- the current font: none, a key that was not looked up since it became current, or a key with what
 -- was found
@@ -58,12 +60,12 @@ dimension (InPacket k f) z = scale z f.size
 -- ---- font changes
 
 -- a font becomes current, also where it is so already
-abbrev pub changed_to : Option FontKey → PageFaultSeen → ℕ → (Current → Course) → Course
+abbrev pub changed_to : Option FontKey → PageFaultValue → ℕ → (Current → Course) → Course
 changed_to None f at others = Stops f at
-changed_to (Some k) f at others = plain flat.Skip at (others (Chosen k))
+changed_to (Some k) f at others = gives flat.Skip at (others (Chosen k))
 
 -- a number that no local font has; it is named only where there are local fonts
-abbrev pub no_local : FontKey → Option ℤ → ℤ → PageFaultSeen
+abbrev pub no_local : FontKey → Option ℤ → ℤ → PageFaultValue
 no_local k None n = fault.NoLocalFont k None
 no_local k (Some first) n = fault.NoLocalFont k (Some n)
 
@@ -74,7 +76,7 @@ font_change (InPacket k f) at n others =
     changed_to (local_of f n) (no_local k (first_local_of f) n) at others
 
 -- the first local font is current as a packet begins, and none where there are no local fonts
-abbrev pub local_key : FontSeen → Option ℤ → Option FontKey
+abbrev pub local_key : FontValue → Option ℤ → Option FontKey
 local_key f None = None
 local_key f (Some n) = local_of f n
 
@@ -82,7 +84,7 @@ abbrev pub current_of : Option FontKey → Current
 current_of None = NoFont
 current_of (Some k) = Chosen k
 
-abbrev pub first_font : FontSeen → Current
+abbrev pub first_font : FontValue → Current
 first_font f = current_of (local_key f (first_local_of f))
 
 -- ---- virtual characters
@@ -90,23 +92,23 @@ first_font f = current_of (local_key f (first_local_of f))
 -- what the commands of a packet of a font become, before what comes after them; None where no
 -- packet may stand any deeper
 abbrev pub Deeper : Type 0
-Deeper = Option (FontKey → FontSeen → List DviCommand → Course → Course)
+Deeper = Option (FontKey → FontValue → List DviCommand → Course → Course)
 
 -- how far a character moves after its packet: not at all where it is put
-abbrev pub gap_of : ℤ → Bool → Option ℤ
-gap_of width true = None
-gap_of width false = Some width
+abbrev pub advance_of : ℤ → Bool → Option ℤ
+advance_of width true = None
+advance_of width false = Some width
 
 -- after a packet's commands
 abbrev pub leave : Option ℤ → ℕ → Course → Course
-leave None at after = plain flat.Leave at after
-leave (Some width) at after = plain flat.Leave at (plain (flat.Advance width) at after)
+leave None at after = gives flat.Leave at after
+leave (Some width) at after = gives flat.Leave at (gives (flat.Advance width) at after)
 
-abbrev pub packet : (FontKey → FontSeen → List DviCommand → Course → Course) → ℕ → FontKey
-    → FontSeen → ℤ → Option ℤ → Option (List ℕ) → Course → Course
-packet inner at k f c gap None after = Stops (fault.NoPacket k c) at
-packet inner at k f c gap (Some text) after =
-    plain flat.Enter at (inner k f (commands_of text) (leave gap at after))
+abbrev pub packet : (FontKey → FontValue → List DviCommand → Course → Course) → ℕ → FontKey
+    → FontValue → ℤ → Option ℤ → Option (List ℕ) → Course → Course
+packet inner at k f c advance None after = Stops (fault.NoPacket k c) at
+packet inner at k f c advance (Some text) after =
+    gives flat.Enter at (inner k f (commands_of text) (leave advance at after))
 
 -- the code as a number from 0
 abbrev pub number_of : ℤ → ℕ
@@ -114,10 +116,10 @@ number_of (pos c) = c
 number_of (negsuc c) = 0
 
 -- too deep comes before a packet that isn't there
-abbrev pub virtual : Deeper → ℕ → FontKey → FontSeen → ℤ → Option ℤ → Course → Course
-virtual None at k f c gap after = Stops (fault.Depth k c) at
-virtual (Some inner) at k f c gap after =
-    packet inner at k f c gap (packet_of f (number_of c)) after
+abbrev pub virtual : Deeper → ℕ → FontKey → FontValue → ℤ → Option ℤ → Course → Course
+virtual None at k f c advance after = Stops (fault.Depth k c) at
+virtual (Some inner) at k f c advance after =
+    packet inner at k f c advance (packet_of f (number_of c)) after
 
 -- ---- characters
 
@@ -127,24 +129,24 @@ with_glyph at k c width put (Some g) after =
     Gives (flat.Char k (number_of c) width put) (Some g) at after
 
 -- of a packed font, or of a virtual one
-abbrev pub by_kind : Deeper → ℕ → FontKey → FontSeen → ℤ → ℤ → Bool → Bool → Course → Course
+abbrev pub by_kind : Deeper → ℕ → FontKey → FontValue → ℤ → ℤ → Bool → Bool → Course → Course
 by_kind deeper at k f c width put false after =
     with_glyph at k c width put (glyph_at f (number_of c)) after
-by_kind deeper at k f c width put true after = virtual deeper at k f c (gap_of width put) after
+by_kind deeper at k f c width put true after = virtual deeper at k f c (advance_of width put) after
 
-abbrev pub with_width : Deeper → ℕ → FontKey → FontSeen → ℤ → Bool → Option ℤ → Course → Course
+abbrev pub with_width : Deeper → ℕ → FontKey → FontValue → ℤ → Bool → Option ℤ → Course → Course
 with_width deeper at k f c put None after = Stops (fault.NoCharacter k c) at
 with_width deeper at k f c put (Some width) after =
     by_kind deeper at k f c width put (is_virtual_of f) after
 
 -- a character of the font that was found
-abbrev pub found : Deeper → ℕ → FontKey → Decoded → ℤ → Bool → Course → Course
-found deeper at k (decoded.Fault f) c put after = Stops (fault.Font k f) at
-found deeper at k (decoded.Font f) c put after =
+abbrev pub char_of_decoded : Deeper → ℕ → FontKey → Decoded → ℤ → Bool → Course → Course
+char_of_decoded deeper at k (decoded.Fault f) c put after = Stops (fault.Font k f) at
+char_of_decoded deeper at k (decoded.Font f) c put after =
     with_width deeper at k f c put (scaled_width_of f c) after
 
 -- a character where no font is current; in a packet the font then has no local fonts
-abbrev pub no_font : Place → PageFaultSeen
+abbrev pub no_font : Place → PageFaultValue
 no_font (OnPage reading) = fault.NoCurrentFont
 no_font (InPacket k f) = fault.NoLocalFont k None
 
@@ -152,8 +154,9 @@ no_font (InPacket k f) = fault.NoLocalFont k None
 abbrev pub character : Deeper → Place → ℕ → Current → ℤ → Bool → (Current → Course) → Course
 character deeper place at NoFont c put others = Stops (no_font place) at
 character deeper place at (Chosen k) c put others =
-    Asks k at (λ d. found deeper at k d c put (others (Known k d)))
-character deeper place at (Known k d) c put others = found deeper at k d c put (others (Known k d))
+    Asks k at (λ d. char_of_decoded deeper at k d c put (others (Known k d)))
+character deeper place at (Known k d) c put others =
+    char_of_decoded deeper at k d c put (others (Known k d))
 
 -- ---- commands
 
@@ -163,28 +166,28 @@ expand_one deeper place at current (Set c) others = character deeper place at cu
 expand_one deeper place at current (Put c) others = character deeper place at current c true others
 expand_one deeper place at current (Font n) others = font_change place at n others
 expand_one deeper place at current (SetRule a b) others =
-    plain (flat.Rule (dimension place a) (dimension place b) false) at (others current)
+    gives (flat.Rule (dimension place a) (dimension place b) false) at (others current)
 expand_one deeper place at current (PutRule a b) others =
-    plain (flat.Rule (dimension place a) (dimension place b) true) at (others current)
+    gives (flat.Rule (dimension place a) (dimension place b) true) at (others current)
 expand_one deeper place at current (Right b) others =
-    plain (flat.Right (dimension place b) (space current)) at (others current)
+    gives (flat.Right (dimension place b) (space current)) at (others current)
 expand_one deeper place at current (W b) others =
-    plain (flat.W (dimension place b) (space current)) at (others current)
+    gives (flat.W (dimension place b) (space current)) at (others current)
 expand_one deeper place at current (X b) others =
-    plain (flat.X (dimension place b) (space current)) at (others current)
+    gives (flat.X (dimension place b) (space current)) at (others current)
 expand_one deeper place at current (Down a) others =
-    plain (flat.Down (dimension place a) (space current)) at (others current)
+    gives (flat.Down (dimension place a) (space current)) at (others current)
 expand_one deeper place at current (Y a) others =
-    plain (flat.Y (dimension place a) (space current)) at (others current)
+    gives (flat.Y (dimension place a) (space current)) at (others current)
 expand_one deeper place at current (Z a) others =
-    plain (flat.Z (dimension place a) (space current)) at (others current)
-expand_one deeper place at current W0 others = plain (flat.W0 (space current)) at (others current)
-expand_one deeper place at current X0 others = plain (flat.X0 (space current)) at (others current)
-expand_one deeper place at current Y0 others = plain (flat.Y0 (space current)) at (others current)
-expand_one deeper place at current Z0 others = plain (flat.Z0 (space current)) at (others current)
-expand_one deeper place at current Push others = plain flat.Push at (others current)
-expand_one deeper place at current Pop others = plain flat.Pop at (others current)
-expand_one deeper place at current _ others = plain flat.Skip at (others current)
+    gives (flat.Z (dimension place a) (space current)) at (others current)
+expand_one deeper place at current W0 others = gives (flat.W0 (space current)) at (others current)
+expand_one deeper place at current X0 others = gives (flat.X0 (space current)) at (others current)
+expand_one deeper place at current Y0 others = gives (flat.Y0 (space current)) at (others current)
+expand_one deeper place at current Z0 others = gives (flat.Z0 (space current)) at (others current)
+expand_one deeper place at current Push others = gives flat.Push at (others current)
+expand_one deeper place at current Pop others = gives flat.Pop at (others current)
+expand_one deeper place at current _ others = gives flat.Skip at (others current)
 
 -- the commands of a packet, one after another, and what comes after them; the font that is then
 -- current is the packet's own
@@ -202,14 +205,11 @@ deeper (suc n) at =
     Some (λ k f commands after. expand_list (expand_one (deeper n at) (InPacket k f) at)
     (first_font f) commands after)
 
-abbrev pub MOST_DEEP : ℕ
-MOST_DEEP = 10
-
 -- a page's commands from one on, with the position of its Eop
 abbrev pub page_from : Reading → ℕ → Current → List Placed → Course
 page_from reading eop current [] = Ends eop
 page_from reading eop current (p ∷ commands) =
-    expand_one (deeper MOST_DEEP p.at) (OnPage reading) p.at current p.command (λ next.
+    expand_one (deeper MAX_DEPTH p.at) (OnPage reading) p.at current p.command (λ next.
     page_from reading eop next commands)
 
 -- ---- at most n flat commands: where no more may be given, only the end may stand
@@ -223,12 +223,9 @@ cut (suc n) (Gives f g at rest) = Gives f g at (cut n rest)
 cut (suc n) (Asks k at rest) = Asks k at (λ d. cut (suc n) (rest d))
 cut (suc n) (Stops f at) = Stops f at
 
-abbrev pub MOST_FLAT : ℕ
-MOST_FLAT = 16777216
-
 -- ---- the page of a document with a number, from 0
 
 abbrev pub course_of : Reading → ℕ → Course
 course_of reading i =
-    cut MOST_FLAT
+    cut MAX_FLAT_COMMANDS
     (page_from reading (unwrap_or (eop_at i reading) 0) NoFont (page_commands i reading))

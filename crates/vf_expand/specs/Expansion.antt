@@ -7,29 +7,30 @@ use Rattle.drift_rules.specs.Position.{FlatCommand, Char, Advance}
 use Rattle.page_index.specs.Document.{Reading}
 use Rattle.pk_runs.specs.declared.glyph.Glyph.{Glyph}
 use Rattle.font_decode.specs.Fonts.{glyph_at}
-use Rattle.font_decode.specs.declared.decoded.Decoded.{Decoded}
-use Rattle.font_decode.specs.declared.decoded.Decoded.TheVariants as decoded
-use Rattle.vf_expand.specs.Course.{Course, Gives, Asks, Ends, Stops, plain, Place, OnPage, InPacket, Current, NoFont, Chosen, Known, MOST_DEEP, deeper, expand_one, expand_list, leave, page_from, cut}
+use Rattle.font_decode.specs.declared.font_or_fault.Decoded.{Decoded}
+use Rattle.font_decode.specs.declared.font_or_fault.Decoded.TheVariants as decoded
+use Rattle.vf_expand.specs.Course.{Course, Gives, Asks, Ends, Stops, gives, Place, OnPage, InPacket, Current, NoFont, Chosen, Known, deeper, expand_one, expand_list, leave, page_from, cut}
+use Rattle.vf_expand.specs.Limits.{MAX_DEPTH}
 
 -- a packet that is read: the font that is current outside it, which is its own, how far its
 -- character moves after it, and the commands that are left
-pub record Packet : Type 0 where
+pub record OpenPacket : Type 0 where
   pub outside : Current
-  pub gap : Option ℤ
+  pub advance : Option ℤ
   pub commands : List DviCommand
 
 -- what is read: the page's own commands that are left, and the packets inside one another, the
 -- innermost first
 pub record Stack : Type 0 where
   pub page : List Placed
-  pub packets : List Packet
+  pub packets : List OpenPacket
 
 -- the page alone
 abbrev pub Page : List Placed → Stack
 Page commands = record { page = commands; packets = [] }
 
 -- a packet inside all others
-abbrev pub Within : Packet → Stack → Stack
+abbrev pub Within : OpenPacket → Stack → Stack
 Within p outer = record { page = outer.page; packets = p ∷ outer.packets }
 
 -- how many packets stand inside one another
@@ -37,7 +38,7 @@ abbrev pub depth : Stack → ℕ
 depth stack = length stack.packets
 
 -- nothing is left of the packet that is read, or of the page
-abbrev pub AreEnded : List Placed → List Packet → Type 0
+abbrev pub AreEnded : List Placed → List OpenPacket → Type 0
 AreEnded commands [] = commands ≡ []
 AreEnded commands (p ∷ outer) = p.commands ≡ []
 
@@ -51,21 +52,21 @@ place_in reading _ = OnPage reading
 
 -- what is left of the packets and of the page, where the page's own command at a position is being
 -- expanded
-abbrev pub packets_left : Reading → ℕ → ℕ → List Placed → Current → List Packet → Course
+abbrev pub packets_left : Reading → ℕ → ℕ → List Placed → Current → List OpenPacket → Course
 packets_left reading eop at commands current [] = page_from reading eop current commands
 packets_left reading eop at commands current (p ∷ outer) =
-    expand_list (expand_one (deeper (MOST_DEEP - suc (length outer)) at)
+    expand_list (expand_one (deeper (MAX_DEPTH - suc (length outer)) at)
     (place_in reading p.outside) at) current p.commands
-    (leave p.gap at (packets_left reading eop at commands p.outside outer))
+    (leave p.advance at (packets_left reading eop at commands p.outside outer))
 
 abbrev pub stack_left : Reading → ℕ → ℕ → Current → Stack → Course
 stack_left reading eop at current stack =
     packets_left reading eop at stack.page current stack.packets
 
 -- a motion that is still to come after a packet's end
-abbrev pub due_left : Option ℤ → ℕ → Course → Course
-due_left None at rest = rest
-due_left (Some width) at rest = plain (Advance width) at rest
+abbrev pub after_pending_advance : Option ℤ → ℕ → Course → Course
+after_pending_advance None at rest = rest
+after_pending_advance (Some width) at rest = gives (Advance width) at rest
 
 -- `at` is the position of the last step, and `budget` how many flat commands may still be given.
 -- The last step gave a character where it is marked
@@ -75,17 +76,17 @@ pub record Expansion : Type 0 where
   pub at : ℕ
   pub budget : ℕ
   pub marked : Bool
-  pub due : Option ℤ
+  pub pending_advance : Option ℤ
   pub current : Current
   pub stack : Stack
 
 -- what is still to come
 unfoldable pub course_left : Reading → ℕ → ℕ → ℕ → Option ℤ → Current → Stack → Course
-course_left reading eop at budget due current stack =
-    cut budget (due_left due at (stack_left reading eop at current stack))
+course_left reading eop at budget pending_advance current stack =
+    cut budget (after_pending_advance pending_advance at (stack_left reading eop at current stack))
 
-abbrev pub left : Expansion → Course
-left v = course_left v.reading v.eop v.at v.budget v.due v.current v.stack
+abbrev pub rest_of : Expansion → Course
+rest_of v = course_left v.reading v.eop v.at v.budget v.pending_advance v.current v.stack
 
 -- a look-up stands next
 abbrev pub IsAtLook : Course → Type 0
@@ -100,16 +101,16 @@ SetsNoCharacter (Char k c width put) = ⊥
 SetsNoCharacter f = Unit {0}
 
 -- the next step gives no character; one of a virtual font is given as its packet
-abbrev pub GivesNoPlain : Course → Type 0
-GivesNoPlain (Gives f g at rest) = SetsNoCharacter f
-GivesNoPlain (Asks k at rest) = Unit {0}
-GivesNoPlain (Ends at) = Unit {0}
-GivesNoPlain (Stops fault at) = Unit {0}
+abbrev pub GivesNoPackedChar : Course → Type 0
+GivesNoPackedChar (Gives f g at rest) = SetsNoCharacter f
+GivesNoPackedChar (Asks k at rest) = Unit {0}
+GivesNoPackedChar (Ends at) = Unit {0}
+GivesNoPackedChar (Stops fault at) = Unit {0}
 
 -- what is left after a look-up, with the font that is found
-abbrev pub answered : Course → Decoded → Course
-answered (Asks k at rest) d = rest d
-answered other d = other
+abbrev pub after_answer : Course → Decoded → Course
+after_answer (Asks k at rest) d = rest d
+after_answer other d = other
 
 -- the position of what stands next
 abbrev pub place_of : Course → ℕ

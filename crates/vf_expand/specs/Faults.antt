@@ -8,26 +8,26 @@ use Rattle.vf_expand.specs.declared.faults.PageFault.{PageFault}
 use Rattle.vf_expand.specs.declared.faults.PageFault.TheVariants as code
 
 -- without the keys' places in memory
-pub data PageFaultSeen : Type 0 where
-  NoFont : ℤ → PageFaultSeen
-  NoCurrentFont : PageFaultSeen
-  NoCharacter : FontKey → ℤ → PageFaultSeen
-  NoGlyph : FontKey → ℤ → PageFaultSeen
-  NoPacket : FontKey → ℤ → PageFaultSeen
-  NoLocalFont : FontKey → Option ℤ → PageFaultSeen
-  Depth : FontKey → ℤ → PageFaultSeen
-  TooLong : PageFaultSeen
-  Font : FontKey → FontFault → PageFaultSeen
-  Pen : PenFault → PageFaultSeen
+pub data PageFaultValue : Type 0 where
+  NoFont : ℤ → PageFaultValue
+  NoCurrentFont : PageFaultValue
+  NoCharacter : FontKey → ℤ → PageFaultValue
+  NoGlyph : FontKey → ℤ → PageFaultValue
+  NoPacket : FontKey → ℤ → PageFaultValue
+  NoLocalFont : FontKey → Option ℤ → PageFaultValue
+  Depth : FontKey → ℤ → PageFaultValue
+  TooLong : PageFaultValue
+  Font : FontKey → FontFault → PageFaultValue
+  Pen : PenFault → PageFaultValue
 
-abbrev pub seen_fault : PageFault → PageFaultSeen
-seen_fault (code.NoFont number) = NoFont number
-seen_fault code.NoCurrentFont = NoCurrentFont
-seen_fault (code.NoCharacter key c) = NoCharacter (arc_value key) c
-seen_fault (code.NoGlyph key c) = NoGlyph (arc_value key) c
-seen_fault (code.NoPacket key c) = NoPacket (arc_value key) c
-seen_fault (code.NoLocalFont key number) = NoLocalFont (arc_value key) number
-seen_fault (code.Depth key c) = Depth (arc_value key) c
-seen_fault code.TooLong = TooLong
-seen_fault (code.Font key fault) = Font (arc_value key) fault
-seen_fault (code.Pen fault) = Pen fault
+abbrev pub value_of_fault : PageFault → PageFaultValue
+value_of_fault (code.NoFont number) = NoFont number
+value_of_fault code.NoCurrentFont = NoCurrentFont
+value_of_fault (code.NoCharacter key c) = NoCharacter (arc_value key) c
+value_of_fault (code.NoGlyph key c) = NoGlyph (arc_value key) c
+value_of_fault (code.NoPacket key c) = NoPacket (arc_value key) c
+value_of_fault (code.NoLocalFont key number) = NoLocalFont (arc_value key) number
+value_of_fault (code.Depth key c) = Depth (arc_value key) c
+value_of_fault code.TooLong = TooLong
+value_of_fault (code.Font key fault) = Font (arc_value key) fault
+value_of_fault (code.Pen fault) = Pen fault

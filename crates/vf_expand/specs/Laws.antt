@@ -9,13 +9,13 @@ use Rattle.drift_rules.specs.Position as flat
 use Rattle.page_index.specs.Document.{Reading, font_table}
 use Rattle.pk_runs.specs.declared.glyph.Glyph.{Glyph}
 use Rattle.font_decode.specs.Decoding.{IsFontIn}
-use Rattle.font_decode.specs.Fonts.{FontSeen, scaled_width_of, glyph_at, is_virtual_of, packet_of, local_of, first_local_of}
-use Rattle.font_decode.specs.declared.decoded.Decoded.TheVariants as decoded
+use Rattle.font_decode.specs.Fonts.{FontValue, scaled_width_of, glyph_at, is_virtual_of, packet_of, local_of, first_local_of}
+use Rattle.font_decode.specs.declared.font_or_fault.Decoded.TheVariants as decoded
 use Rattle.font_decode.specs.Laws.{AreByteFiles}
 use Rattle.vf_expand.specs.Faults.{Depth, TooLong}
 use Rattle.vf_expand.specs.Course.{Course, NoFont, course_of}
 use Rattle.vf_expand.specs.Members.{Member, Flat, LookUp, Unfolds, looks_of}
-use Rattle.vf_expand.specs.PageLists.{AtEnd, AtFault, Fonts, before, full_list, up_to_limit, list_from, list_of, no_more}
+use Rattle.vf_expand.specs.PageLists.{AtEnd, AtFault, Fonts, list_after, full_list, up_to_limit, list_from, list_of, no_more}
 
 -- whatever the fonts are, the course of a page comes to its list
 abbrev pub CoursesAreLists : Type 0
@@ -38,7 +38,7 @@ MembersAreTheList =
     (l : library.FileTable) (u : Units) (fonts : Fonts) (reading : Reading) (i : ℕ)
     (members : List Member) (to : Course) → AreFontsIn l u fonts
     → Unfolds (IsFontIn l u) (course_of reading i) members to
-    → list_of fonts reading i ≡ before members (list_from fonts to)
+    → list_of fonts reading i ≡ list_after members (list_from fonts to)
 
 -- so the look-ups of a page that was broken off are the first of the page's look-ups
 abbrev pub LooksAreThePages : Type 0
@@ -91,7 +91,7 @@ pub record IsWorked (fonts : Fonts) (reading : Reading) (k : FontKey) (g : Glyph
 -- where font 7 has the key k, whose font has a width of 8 and a glyph for 65
 abbrev pub ThePageIsWorked : Type 0
 ThePageIsWorked =
-    (fonts : Fonts) (reading : Reading) (k : FontKey) (f : FontSeen) (g : Glyph)
+    (fonts : Fonts) (reading : Reading) (k : FontKey) (f : FontValue) (g : Glyph)
     → font_table reading (pos 7) ≡ Some k → fonts k ≡ decoded.Font f
     → scaled_width_of f (pos 65) ≡ Some (pos 8) → glyph_at f 65 ≡ Some g
     → IsWorked fonts reading k g
@@ -99,7 +99,7 @@ ThePageIsWorked =
 -- ---- virtual characters
 
 -- a font with these local fonts and this packet of the character 65, which is so wide
-pub record HasPacket (f : FontSeen) (wide : ℤ) (text : List ℕ) (local : FontKey) : Type 0 where
+pub record HasPacket (f : FontValue) (wide : ℤ) (text : List ℕ) (local : FontKey) : Type 0 where
   pub virtual : is_virtual_of f ≡ true
   pub width : scaled_width_of f (pos 65) ≡ Some wide
   pub packet : packet_of f 65 ≡ Some text
@@ -130,7 +130,7 @@ packet_members local g at =
 -- set moves by its own width after it
 abbrev pub ThePacketIsWorked : Type 0
 ThePacketIsWorked =
-    (fonts : Fonts) (reading : Reading) (k local : FontKey) (f l : FontSeen) (g : Glyph)
+    (fonts : Fonts) (reading : Reading) (k local : FontKey) (f l : FontValue) (g : Glyph)
     → font_table reading (pos 0) ≡ Some k → f.size ≡ 128
     → fonts k ≡ decoded.Font f → HasPacket f (pos 6) a_packet local
     → fonts local ≡ decoded.Font l → scaled_width_of l (pos 65) ≡ Some (pos 3)
@@ -151,7 +151,7 @@ nested_entries k at (suc n) = LookUp k at ∷ Flat flat.Enter None at ∷ nested
 -- deep
 abbrev pub LoopsAreTooDeep : Type 0
 LoopsAreTooDeep =
-    (fonts : Fonts) (reading : Reading) (k : FontKey) (f : FontSeen)
+    (fonts : Fonts) (reading : Reading) (k : FontKey) (f : FontValue)
     → font_table reading (pos 0) ≡ Some k
     → fonts k ≡ decoded.Font f → HasPacket f (pos 8) (65 ∷ []) k
     → full_list fonts reading 85 NoFont characters ≡ record {

@@ -3,7 +3,7 @@ use Rattle.std.specs.Prelude.{◌≡◌, ℕ, List, [], ◌∷◌, Option}
 use Rattle.outside.specs.declared.keys.FontKey.{FontKey}
 use Rattle.drift_rules.specs.Position.{FlatCommand}
 use Rattle.pk_runs.specs.declared.glyph.Glyph.{Glyph}
-use Rattle.font_decode.specs.declared.decoded.Decoded.{Decoded}
+use Rattle.font_decode.specs.declared.font_or_fault.Decoded.{Decoded}
 use Rattle.vf_expand.specs.Course.{Course, Gives, Asks}
 
 -- a flat command, that of a character with its glyph, or a look-up; with the position of the page's

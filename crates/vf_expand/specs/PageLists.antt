@@ -11,18 +11,20 @@ use Rattle.drift_rules.specs.Position as flat
 use Rattle.page_index.specs.Document.{Reading, font_table}
 use Rattle.page_index.specs.Pages.{eop_at, page_commands}
 use Rattle.pk_runs.specs.declared.glyph.Glyph.{Glyph}
-use Rattle.font_decode.specs.Fonts.{FontSeen, scaled_width_of, glyph_at, is_virtual_of, packet_of, local_of, first_local_of}
-use Rattle.font_decode.specs.declared.decoded.Decoded.{Decoded}
-use Rattle.font_decode.specs.declared.decoded.Decoded.TheVariants as decoded
-use Rattle.vf_expand.specs.Faults.{PageFaultSeen}
+use Rattle.font_decode.specs.Fonts.{FontValue, scaled_width_of, glyph_at, is_virtual_of, packet_of, local_of, first_local_of}
+use Rattle.font_decode.specs.declared.font_or_fault.Decoded.{Decoded}
+use Rattle.font_decode.specs.declared.font_or_fault.Decoded.TheVariants as decoded
+use Rattle.vf_expand.specs.Faults.{PageFaultValue}
 use Rattle.vf_expand.specs.Faults as fault
-use Rattle.vf_expand.specs.Course.{Course, Gives, Asks, Ends, Stops, Place, OnPage, InPacket, Current, NoFont, Chosen, Known, MOST_FLAT, MOST_DEEP, dimension, first_font, gap_of, no_font, no_local, number_of, space}
+use Rattle.vf_expand.specs.Course.{Course, Gives, Asks, Ends, Stops, Place, OnPage, InPacket, Current, NoFont, Chosen, Known, dimension, first_font, advance_of, no_font, no_local, number_of, space}
+use Rattle.vf_expand.specs.Limits.{MAX_FLAT_COMMANDS}
+use Rattle.vf_expand.specs.Limits.{MAX_DEPTH}
 use Rattle.vf_expand.specs.Members.{Member, Flat, LookUp}
 
 -- how a list ends: at the page's end, or at its first fault, with the position
 pub data Ending : Type 0 where
   AtEnd : ℕ → Ending
-  AtFault : PageFaultSeen → ℕ → Ending
+  AtFault : PageFaultValue → ℕ → Ending
 
 pub record PageList : Type 0 where
   pub members : List Member
@@ -32,8 +34,8 @@ abbrev pub no_more : Ending → PageList
 no_more ending = record { members = []; ending = ending }
 
 -- members, and the list that comes after them
-abbrev pub before : List Member → PageList → PageList
-before members rest = record { members = members ++ rest.members; ending = rest.ending }
+abbrev pub list_after : List Member → PageList → PageList
+list_after members rest = record { members = members ++ rest.members; ending = rest.ending }
 
 -- the font that is found for each key
 abbrev pub Fonts : Type 0
@@ -43,18 +45,18 @@ Fonts = FontKey → Decoded
 
 pub data Outcome : Type 0 where
   Goes : List Member → Current → Outcome
-  Faults : List Member → PageFaultSeen → Outcome
+  Faults : List Member → PageFaultValue → Outcome
 
-abbrev pub plainly : FlatCommand → ℕ → Current → Outcome
-plainly f at current = Goes (Flat f None at ∷ []) current
+abbrev pub goes_with : FlatCommand → ℕ → Current → Outcome
+goes_with f at current = Goes (Flat f None at ∷ []) current
 
 -- members, and the outcome that comes after them
-abbrev pub after : List Member → Outcome → Outcome
-after first (Goes members next) = Goes (first ++ members) next
-after first (Faults members f) = Faults (first ++ members) f
+abbrev pub outcome_after : List Member → Outcome → Outcome
+outcome_after first (Goes members next) = Goes (first ++ members) next
+outcome_after first (Faults members f) = Faults (first ++ members) f
 
 abbrev pub go_on : Outcome → (Current → Outcome) → Outcome
-go_on (Goes members next) others = after members (others next)
+go_on (Goes members next) others = outcome_after members (others next)
 go_on (Faults members f) others = Faults members f
 
 -- ---- virtual characters
@@ -66,29 +68,30 @@ of_list one current (c ∷ commands) = go_on (one current c) (λ next. of_list o
 
 -- what the commands of a packet of a font give; None where no packet may stand any deeper
 abbrev pub Packets : Type 0
-Packets = Option (FontKey → FontSeen → List DviCommand → Outcome)
+Packets = Option (FontKey → FontValue → List DviCommand → Outcome)
 
 -- a character that was set moves after its packet, and one that was put doesn't
-abbrev pub leaving : Option ℤ → ℕ → List Member
-leaving None at = Flat flat.Leave None at ∷ []
-leaving (Some width) at = Flat flat.Leave None at ∷ Flat (flat.Advance width) None at ∷ []
+abbrev pub leave_members : Option ℤ → ℕ → List Member
+leave_members None at = Flat flat.Leave None at ∷ []
+leave_members (Some width) at = Flat flat.Leave None at ∷ Flat (flat.Advance width) None at ∷ []
 
 -- the font that is current before a packet is so after it
-abbrev pub in_frame : ℕ → Current → Option ℤ → Outcome → Outcome
-in_frame at current gap (Goes members last) =
-    Goes (Flat flat.Enter None at ∷ members ++ leaving gap at) current
-in_frame at current gap (Faults members f) = Faults (Flat flat.Enter None at ∷ members) f
+abbrev pub in_packet_level : ℕ → Current → Option ℤ → Outcome → Outcome
+in_packet_level at current advance (Goes members last) =
+    Goes (Flat flat.Enter None at ∷ members ++ leave_members advance at) current
+in_packet_level at current advance (Faults members f) = Faults (Flat flat.Enter None at ∷ members) f
 
-abbrev pub of_packet : (FontKey → FontSeen → List DviCommand → Outcome) → ℕ → FontKey → FontSeen → ℤ
-    → Option ℤ → Option (List ℕ) → Outcome
-of_packet inner at k f c gap None = Faults [] (fault.NoPacket k c)
-of_packet inner at k f c gap (Some text) =
-    in_frame at (Known k (decoded.Font f)) gap (inner k f (commands_of text))
+abbrev pub of_packet : (FontKey → FontValue → List DviCommand → Outcome) → ℕ → FontKey → FontValue
+    → ℤ → Option ℤ → Option (List ℕ) → Outcome
+of_packet inner at k f c advance None = Faults [] (fault.NoPacket k c)
+of_packet inner at k f c advance (Some text) =
+    in_packet_level at (Known k (decoded.Font f)) advance (inner k f (commands_of text))
 
 -- too deep comes before a packet that isn't there
-abbrev pub of_virtual : Packets → ℕ → FontKey → FontSeen → ℤ → Option ℤ → Outcome
-of_virtual None at k f c gap = Faults [] (fault.Depth k c)
-of_virtual (Some inner) at k f c gap = of_packet inner at k f c gap (packet_of f (number_of c))
+abbrev pub of_virtual : Packets → ℕ → FontKey → FontValue → ℤ → Option ℤ → Outcome
+of_virtual None at k f c advance = Faults [] (fault.Depth k c)
+of_virtual (Some inner) at k f c advance =
+    of_packet inner at k f c advance (packet_of f (number_of c))
 
 -- ---- characters
 
@@ -98,66 +101,66 @@ of_glyph at k d c width put (Some g) =
     Goes (Flat (flat.Char k (number_of c) width put) (Some g) at ∷ []) (Known k d)
 
 -- of a packed font, or of a virtual one
-abbrev pub of_kind : Packets → ℕ → FontKey → FontSeen → ℤ → ℤ → Bool → Bool → Outcome
+abbrev pub of_kind : Packets → ℕ → FontKey → FontValue → ℤ → ℤ → Bool → Bool → Outcome
 of_kind packets at k f c width put false =
     of_glyph at k (decoded.Font f) c width put (glyph_at f (number_of c))
-of_kind packets at k f c width put true = of_virtual packets at k f c (gap_of width put)
+of_kind packets at k f c width put true = of_virtual packets at k f c (advance_of width put)
 
-abbrev pub of_width : Packets → ℕ → FontKey → FontSeen → ℤ → Bool → Option ℤ → Outcome
+abbrev pub of_width : Packets → ℕ → FontKey → FontValue → ℤ → Bool → Option ℤ → Outcome
 of_width packets at k f c put None = Faults [] (fault.NoCharacter k c)
 of_width packets at k f c put (Some width) = of_kind packets at k f c width put (is_virtual_of f)
 
 -- a character of a font
-abbrev pub of_found : Packets → ℕ → FontKey → Decoded → ℤ → Bool → Outcome
-of_found packets at k (decoded.Fault f) c put = Faults [] (fault.Font k f)
-of_found packets at k (decoded.Font f) c put = of_width packets at k f c put (scaled_width_of f c)
+abbrev pub of_decoded : Packets → ℕ → FontKey → Decoded → ℤ → Bool → Outcome
+of_decoded packets at k (decoded.Fault f) c put = Faults [] (fault.Font k f)
+of_decoded packets at k (decoded.Font f) c put = of_width packets at k f c put (scaled_width_of f c)
 
 -- a look-up stands before the first character after its font became current, and nowhere else
 abbrev pub of_character : Fonts → Packets → Place → ℕ → Current → ℤ → Bool → Outcome
-of_character fonts packets place at NoFont c put = Faults [] (no_font place)
-of_character fonts packets place at (Chosen k) c put =
-    after (LookUp k at ∷ []) (of_found packets at k (fonts k) c put)
-of_character fonts packets place at (Known k d) c put = of_found packets at k d c put
+of_character fonts packets position_of at NoFont c put = Faults [] (no_font position_of)
+of_character fonts packets position_of at (Chosen k) c put =
+    outcome_after (LookUp k at ∷ []) (of_decoded packets at k (fonts k) c put)
+of_character fonts packets position_of at (Known k d) c put = of_decoded packets at k d c put
 
 -- ---- commands
 
-abbrev pub of_change : ℕ → PageFaultSeen → Option FontKey → Outcome
+abbrev pub of_change : ℕ → PageFaultValue → Option FontKey → Outcome
 of_change at f None = Faults [] f
-of_change at f (Some k) = plainly flat.Skip at (Chosen k)
+of_change at f (Some k) = goes_with flat.Skip at (Chosen k)
 
 abbrev pub of_font : Place → ℕ → ℤ → Outcome
 of_font (OnPage reading) at n = of_change at (fault.NoFont n) (font_table reading n)
 of_font (InPacket k f) at n = of_change at (no_local k (first_local_of f) n) (local_of f n)
 
 abbrev pub of_command : Fonts → Packets → Place → ℕ → Current → DviCommand → Outcome
-of_command fonts packets place at current (Set c) =
-    of_character fonts packets place at current c false
-of_command fonts packets place at current (Put c) =
-    of_character fonts packets place at current c true
-of_command fonts packets place at current (Font n) = of_font place at n
-of_command fonts packets place at current (SetRule a b) =
-    plainly (flat.Rule (dimension place a) (dimension place b) false) at current
-of_command fonts packets place at current (PutRule a b) =
-    plainly (flat.Rule (dimension place a) (dimension place b) true) at current
-of_command fonts packets place at current (Right b) =
-    plainly (flat.Right (dimension place b) (space current)) at current
-of_command fonts packets place at current (W b) =
-    plainly (flat.W (dimension place b) (space current)) at current
-of_command fonts packets place at current (X b) =
-    plainly (flat.X (dimension place b) (space current)) at current
-of_command fonts packets place at current (Down a) =
-    plainly (flat.Down (dimension place a) (space current)) at current
-of_command fonts packets place at current (Y a) =
-    plainly (flat.Y (dimension place a) (space current)) at current
-of_command fonts packets place at current (Z a) =
-    plainly (flat.Z (dimension place a) (space current)) at current
-of_command fonts packets place at current W0 = plainly (flat.W0 (space current)) at current
-of_command fonts packets place at current X0 = plainly (flat.X0 (space current)) at current
-of_command fonts packets place at current Y0 = plainly (flat.Y0 (space current)) at current
-of_command fonts packets place at current Z0 = plainly (flat.Z0 (space current)) at current
-of_command fonts packets place at current Push = plainly flat.Push at current
-of_command fonts packets place at current Pop = plainly flat.Pop at current
-of_command fonts packets place at current _ = plainly flat.Skip at current
+of_command fonts packets position_of at current (Set c) =
+    of_character fonts packets position_of at current c false
+of_command fonts packets position_of at current (Put c) =
+    of_character fonts packets position_of at current c true
+of_command fonts packets position_of at current (Font n) = of_font position_of at n
+of_command fonts packets position_of at current (SetRule a b) =
+    goes_with (flat.Rule (dimension position_of a) (dimension position_of b) false) at current
+of_command fonts packets position_of at current (PutRule a b) =
+    goes_with (flat.Rule (dimension position_of a) (dimension position_of b) true) at current
+of_command fonts packets position_of at current (Right b) =
+    goes_with (flat.Right (dimension position_of b) (space current)) at current
+of_command fonts packets position_of at current (W b) =
+    goes_with (flat.W (dimension position_of b) (space current)) at current
+of_command fonts packets position_of at current (X b) =
+    goes_with (flat.X (dimension position_of b) (space current)) at current
+of_command fonts packets position_of at current (Down a) =
+    goes_with (flat.Down (dimension position_of a) (space current)) at current
+of_command fonts packets position_of at current (Y a) =
+    goes_with (flat.Y (dimension position_of a) (space current)) at current
+of_command fonts packets position_of at current (Z a) =
+    goes_with (flat.Z (dimension position_of a) (space current)) at current
+of_command fonts packets position_of at current W0 = goes_with (flat.W0 (space current)) at current
+of_command fonts packets position_of at current X0 = goes_with (flat.X0 (space current)) at current
+of_command fonts packets position_of at current Y0 = goes_with (flat.Y0 (space current)) at current
+of_command fonts packets position_of at current Z0 = goes_with (flat.Z0 (space current)) at current
+of_command fonts packets position_of at current Push = goes_with flat.Push at current
+of_command fonts packets position_of at current Pop = goes_with flat.Pop at current
+of_command fonts packets position_of at current _ = goes_with flat.Skip at current
 
 -- where n packets may stand inside one another; all that a packet gives has the position of the
 -- page's own command
@@ -169,32 +172,32 @@ packets_in fonts (suc n) at =
 
 -- ---- the commands of a page, one after another, with the position of its Eop
 
-abbrev pub joined : ℕ → Outcome → (Current → PageList) → PageList
-joined at (Goes members next) rest = before members (rest next)
-joined at (Faults members f) rest = record { members = members; ending = AtFault f at }
+abbrev pub list_of_outcome : ℕ → Outcome → (Current → PageList) → PageList
+list_of_outcome at (Goes members next) rest = list_after members (rest next)
+list_of_outcome at (Faults members f) rest = record { members = members; ending = AtFault f at }
 
 abbrev pub full_list : Fonts → Reading → ℕ → Current → List Placed → PageList
 full_list fonts reading eop current [] = no_more (AtEnd eop)
 full_list fonts reading eop current (p ∷ commands) =
-    joined p.at (of_command fonts (packets_in fonts MOST_DEEP p.at)
+    list_of_outcome p.at (of_command fonts (packets_in fonts MAX_DEPTH p.at)
     (OnPage reading) p.at current p.command) (λ next. full_list fonts reading eop next commands)
 
 -- ---- at most n flat commands, and the look-ups before them; where more comes, only the page's end
 -- may
 
-abbrev pub place : Member → ℕ
-place (Flat f g at) = at
-place (LookUp k at) = at
+abbrev pub position_of : Member → ℕ
+position_of (Flat f g at) = at
+position_of (LookUp k at) = at
 
 abbrev pub up_to_limit : ℕ → List Member → Ending → PageList
 up_to_limit zero [] (AtEnd at) = no_more (AtEnd at)
 up_to_limit zero [] (AtFault f at) = no_more (AtFault fault.TooLong at)
-up_to_limit zero (m ∷ members) ending = no_more (AtFault fault.TooLong (place m))
+up_to_limit zero (m ∷ members) ending = no_more (AtFault fault.TooLong (position_of m))
 up_to_limit (suc n) [] ending = no_more ending
 up_to_limit (suc n) (Flat f g at ∷ members) ending =
-    before (Flat f g at ∷ []) (up_to_limit n members ending)
+    list_after (Flat f g at ∷ []) (up_to_limit n members ending)
 up_to_limit (suc n) (LookUp k at ∷ members) ending =
-    before (LookUp k at ∷ []) (up_to_limit (suc n) members ending)
+    list_after (LookUp k at ∷ []) (up_to_limit (suc n) members ending)
 
 -- ---- the list of the page of a document with a number, from 0
 
@@ -202,12 +205,12 @@ abbrev pub list_of : Fonts → Reading → ℕ → PageList
 list_of fonts reading i =
     let full = full_list fonts reading (unwrap_or (eop_at i reading) 0) NoFont
     (page_commands i reading) in
-    up_to_limit MOST_FLAT full.members full.ending
+    up_to_limit MAX_FLAT_COMMANDS full.members full.ending
 
 -- ---- what is still to come, where the fonts are given
 
 abbrev pub list_from : Fonts → Course → PageList
-list_from fonts (Gives f g at rest) = before (Flat f g at ∷ []) (list_from fonts rest)
-list_from fonts (Asks k at rest) = before (LookUp k at ∷ []) (list_from fonts (rest (fonts k)))
+list_from fonts (Gives f g at rest) = list_after (Flat f g at ∷ []) (list_from fonts rest)
+list_from fonts (Asks k at rest) = list_after (LookUp k at ∷ []) (list_from fonts (rest (fonts k)))
 list_from fonts (Ends at) = no_more (AtEnd at)
 list_from fonts (Stops f at) = no_more (AtFault f at)

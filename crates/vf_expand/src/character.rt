@@ -2,18 +2,18 @@
 ghost use Rattle.std.specs.Prelude.{◌≡◌, ◌<◌, ℕ, pos, IfOk, IfSome, IsNone, Some, unsigned_abs};
 ghost use Rattle.std.specs.Arc.{arc_value};
 ghost use Rattle.drift_rules.specs.Bounds.{IsNumber};
-ghost use Rattle.font_decode.specs.declared.decoded.Decoded.TheVariants as decoded;
+ghost use Rattle.font_decode.specs.declared.font_or_fault.Decoded.TheVariants as decoded;
 ghost use Rattle.vf_expand.specs.Course.{first_font, no_font};
-ghost use Rattle.vf_expand.specs.Faults.{seen_fault};
+ghost use Rattle.vf_expand.specs.Faults.{value_of_fault};
 ghost use Rattle.vf_expand.specs.Course as course;
 ghost use Rattle.vf_expand.specs.Expansion.{font_of, glyph_in};
-ghost use Rattle.vf_expand.specs.Effects.{CharacterHasEffect, EffectFits, FoundHasEffect, HasKey, SetsNoPlain, SetsPlain, VirtualHasEffect, seen_current, seen_place};
+ghost use Rattle.vf_expand.specs.Effects.{CharacterHasEffect, EffectFits, DecodedHasEffect, HasKey, SetsNoPackedChar, SetsPackedChar, VirtualHasEffect, value_of_current, value_of_place};
 
 use crate::current::Current;
-use crate::effect::{Effect, Source};
+use crate::effect::{Effect, Place};
 use crate::faults::PageFault;
-use crate::frames::Frame;
 use crate::keys::PageKeys;
+use crate::outer_levels::Level;
 use drift_rules::Flat;
 use font_decode::{Decoded, Font};
 use outside::FontKey;
@@ -23,8 +23,8 @@ use std::sync::Arc;
 
 // The font that is current as a packet begins: the first local font.
 fn first_current(keys: &mut PageKeys, font: &Font) -> Result<Current, NoMemory>
-    ensures first { IfOk result (λ current. seen_current current ≡ first_font font.now) }
-    ensures key { IfOk result (λ current. HasKey (seen_current current)) }
+    ensures first { IfOk result (λ current. value_of_current current ≡ first_font font.now) }
+    ensures key { IfOk result (λ current. HasKey (value_of_current current)) }
 {
     let Some(number) = font.first_local() else {
         return Ok(Current::NoFont);
@@ -35,7 +35,7 @@ fn first_current(keys: &mut PageKeys, font: &Font) -> Result<Current, NoMemory>
     }
 }
 
-// A character of a virtual font, where n packets may stand inside one another.
+// A character of a virtual font, where n packets may be nested.
 #[inline(never)]
 fn virtual_character(
     keys: &mut PageKeys,
@@ -43,11 +43,12 @@ fn virtual_character(
     key: &Arc<FontKey>,
     font: &Font,
     code: i32,
-    gap: Option<i64>,
+    advance: Option<i64>,
 ) -> Result<Effect, NoMemory>
     requires byte { (n : ℕ) × (code ≡ pos n) × (n < 256) }
-    requires gap { IfSome gap IsNumber }
-    ensures has_effect { IfOk result (VirtualHasEffect room (arc_value key.now) font.now code gap) }
+    requires advance { IfSome advance IsNumber }
+    ensures has_effect { IfOk result (VirtualHasEffect room (arc_value key.now) font.now code
+        advance) }
     ensures fits { IfOk result EffectFits }
 {
     if room == 0 {
@@ -56,17 +57,17 @@ fn virtual_character(
     if font.packet(code as u32).is_none() {
         return Ok(Effect::Stop(PageFault::NoPacket(Arc::try_clone(key)?, code)));
     }
-    Ok(Effect::Enter(Frame {
+    Ok(Effect::Enter(Level {
         code: code as u8,
         pos: 0,
-        gap,
+        advance,
         current: first_current(keys, font)?,
     }))
 }
 
 // A character of a font that has files.
 #[inline(always)]
-fn mark(
+fn char_of_font(
     keys: &mut PageKeys,
     room: usize,
     key: &Arc<FontKey>,
@@ -75,20 +76,20 @@ fn mark(
     put: bool,
 ) -> Result<Effect, NoMemory>
     ensures has_effect { IfOk result
-        (FoundHasEffect room (arc_value key.now) (decoded.Font font.now) code put) }
+        (DecodedHasEffect room (arc_value key.now) (decoded.Font font.now) code put) }
     ensures fits { IfOk result EffectFits }
 {
     let Some(width) = font.width(code) else {
         return Ok(Effect::Stop(PageFault::NoCharacter(Arc::try_clone(key)?, code)));
     };
     if font.is_virtual() {
-        let gap = if put { None } else { Some(width) };
-        return virtual_character(keys, room, key, font, code, gap);
+        let advance = if put { None } else { Some(width) };
+        return virtual_character(keys, room, key, font, code, advance);
     }
     if font.glyph(code as u32).is_none() {
         return Ok(Effect::Stop(PageFault::NoGlyph(Arc::try_clone(key)?, code)));
     }
-    Ok(Effect::Mark(Flat::Char {
+    Ok(Effect::Char(Flat::Char {
         key: Arc::try_clone(key)?,
         code: code as u8,
         width,
@@ -98,7 +99,7 @@ fn mark(
 
 // A character of the font that was found.
 #[inline(always)]
-fn found(
+fn char_of_decoded(
     keys: &mut PageKeys,
     room: usize,
     key: &Arc<FontKey>,
@@ -107,45 +108,46 @@ fn found(
     put: bool,
 ) -> Result<Effect, NoMemory>
     ensures has_effect { IfOk result
-        (FoundHasEffect room (arc_value key.now) decoded.now code put) }
+        (DecodedHasEffect room (arc_value key.now) decoded.now code put) }
     ensures fits { IfOk result EffectFits }
 {
     match decoded {
         Decoded::Fault(fault) => Ok(Effect::Stop(PageFault::Font(Arc::try_clone(key)?, *fault))),
-        Decoded::Font(font) => mark(keys, room, key, font, code, put),
+        Decoded::Font(font) => char_of_font(keys, room, key, font, code, put),
     }
 }
 
 // A character where no font is current.
 #[inline(never)]
-fn no_font(source: Source) -> Result<PageFault, NoMemory>
-    ensures { IfOk result (λ fault. seen_fault fault ≡ no_font (seen_place source.entry)) }
+fn no_font(place: Place) -> Result<PageFault, NoMemory>
+    ensures { IfOk result (λ fault. value_of_fault fault ≡ no_font (value_of_place place.entry)) }
 {
-    match source {
-        Source::Page(_) => Ok(PageFault::NoCurrentFont),
-        Source::Packet(key, _) => Ok(PageFault::NoLocalFont(Arc::try_clone(key)?, None)),
+    match place {
+        Place::Page(_) => Ok(PageFault::NoCurrentFont),
+        Place::Packet(key, _) => Ok(PageFault::NoLocalFont(Arc::try_clone(key)?, None)),
     }
 }
 
 /// The key of a character's font, the character's width in DVI units, and its glyph.
 #[derive(Clone, Copy)]
-pub struct PlainCharacter<'a> {
+pub struct CharInFont<'a> {
     pub key: &'a Arc<FontKey>,
     pub width: i64,
     pub glyph: &'a Glyph,
 }
 
-/// A character that is set or put in a packed font that was found. `None` where no font was found or it
-/// has a fault, in a virtual font, and where the font has no width or no glyph for the code.
+/// A character that is set or put in a packed font that was found. `None` where no font was found
+/// or it has a fault, in a virtual font, and where the font has no width or no glyph for the code.
 #[inline(always)]
-pub fn plain_character(current: &Current, code: i32) -> Option<PlainCharacter>
+pub fn packed_char(current: &Current, code: i32) -> Option<CharInFont>
     ensures sets { IfSome result (λ found.
-        SetsPlain (seen_current current.now) code (arc_value found.key.now) found.width) }
+        SetsPackedChar (value_of_current current.now) code (arc_value found.key.now) found.width) }
     ensures glyph { IfSome result (λ found.
-        glyph_in (font_of (seen_current current.now)) (unsigned_abs code) ≡ Some found.glyph.now) }
+        glyph_in (font_of (value_of_current current.now)) (unsigned_abs code)
+        ≡ Some found.glyph.now) }
     ensures number { IfSome result (λ found. IsNumber found.width) }
     ensures byte { IfSome result (λ _. (n : ℕ) × (code ≡ pos n) × (n < 256)) }
-    ensures none { IsNone result → SetsNoPlain (seen_current current.now) code }
+    ensures none { IsNone result → SetsNoPackedChar (value_of_current current.now) code }
 {
     let Current::Known(key, found) = current else {
         return None;
@@ -159,27 +161,27 @@ pub fn plain_character(current: &Current, code: i32) -> Option<PlainCharacter>
     }
     let width = font.width(code)?;
     let glyph = font.glyph(code as u32)?;
-    Some(PlainCharacter { key, width, glyph })
+    Some(CharInFont { key, width, glyph })
 }
 
-/// What a character gives, where n packets may stand inside one another.
+/// What a character gives, where n packets may be nested.
 #[inline(always)]
 pub fn character(
     keys: &mut PageKeys,
-    source: Source,
+    place: Place,
     room: usize,
     current: &Current,
     code: i32,
     put: bool,
 ) -> Result<Effect, NoMemory>
-    requires { HasKey (seen_current current.now) }
-    ensures has_effect { IfOk result (CharacterHasEffect (seen_place source.entry) room
-        (seen_current current.now) code put) }
+    requires { HasKey (value_of_current current.now) }
+    ensures has_effect { IfOk result (CharacterHasEffect (value_of_place place.entry) room
+        (value_of_current current.now) code put) }
     ensures fits { IfOk result EffectFits }
 {
     match current {
-        Current::NoFont => Ok(Effect::Stop(no_font(source)?)),
+        Current::NoFont => Ok(Effect::Stop(no_font(place)?)),
         Current::Chosen(key) => Ok(Effect::Ask(Arc::try_clone(key)?)),
-        Current::Known(key, font) => found(keys, room, key, font, code, put),
+        Current::Known(key, font) => char_of_decoded(keys, room, key, font, code, put),
     }
 }

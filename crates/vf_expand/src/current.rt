@@ -2,7 +2,7 @@
 ghost use Rattle.std.specs.Prelude.{◌≡◌};
 ghost use Rattle.drift_rules.specs.Bounds.{IsSpace};
 ghost use Rattle.vf_expand.specs.Course.{space};
-ghost use Rattle.vf_expand.specs.Effects.{HasKey, seen_current};
+ghost use Rattle.vf_expand.specs.Effects.{HasKey, value_of_current};
 
 use font_decode::Decoded;
 use outside::FontKey;
@@ -17,11 +17,11 @@ pub enum Current {
     Known(Arc<FontKey>, Arc<Decoded>),
 }
 
-/// A sixth of the current font's size, in DVI units, and 0 where there is none.
+/// A sixth of the current font's size, in DVI units, and 0 where no font is current.
 #[inline(always)]
 pub fn space_of(current: &Current) -> i64
-    requires { HasKey (seen_current current.now) }
-    ensures value { result ≡ space (seen_current current.now) }
+    requires { HasKey (value_of_current current.now) }
+    ensures value { result ≡ space (value_of_current current.now) }
     ensures fits { IsSpace result }
 {
     match current {

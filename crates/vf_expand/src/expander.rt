@@ -2,21 +2,22 @@
 ghost use Rattle.std.specs.Prelude.{◌≡◌, ◌<◌, ◌+◌, Some, None, IfOk, IfSome, IsNone, OnErr, MatchOption};
 ghost use Rattle.std.specs.Arc.{arc_value};
 ghost use Rattle.page_index.specs.Document.{pages_begun};
-ghost use Rattle.vf_expand.specs.Course.{course_of, MOST_FLAT as THE_MOST};
-ghost use Rattle.vf_expand.specs.Expansion.{GivesNoPlain, IsAtLook, IsEnded, answered, asks_left, left, marked_font, place_of, steps_left};
-ghost use Rattle.vf_expand.specs.Steps.{Fits, Steps};
+ghost use Rattle.vf_expand.specs.Course.{course_of};
+ghost use Rattle.vf_expand.specs.Limits as limits;
+ghost use Rattle.vf_expand.specs.Expansion.{GivesNoPackedChar, IsAtLook, IsEnded, after_answer, asks_left, rest_of, marked_font, place_of, steps_left};
+ghost use Rattle.vf_expand.specs.Steps.{StepFits, Steps};
 ghost use Rattle.drift_rules.specs.Bounds.{IsNumber};
 
-use crate::character::plain_character;
+use crate::character::packed_char;
 use crate::current::Current;
-use crate::effect::{Effect, expanded};
+use crate::current_level::current_level;
+use crate::effect::{Effect, effect_of};
 use crate::faults::PageFault;
-use crate::frames::{Frame, Frames, MOST_DEEP};
 use crate::keys::PageKeys;
-use crate::last_step::LastStep;
-use crate::opened::opened;
+use crate::outer_levels::{Level, MAX_DEPTH, OuterLevels};
+use crate::progress::Progress;
 use crate::sets::character_at;
-use crate::step::{PlainStep, Step};
+use crate::step::{PackedChar, Step};
 use drift_rules::Flat;
 use dvi_commands::command_at;
 use font_decode::Decoded;
@@ -26,17 +27,17 @@ use std::marker::Model;
 use std::mem;
 use std::sync::Arc;
 
-/// A page that is being expanded. The level that is read is the page or a packet; a motion is due
-/// after the packet of a character that was set.
+/// A page that is being expanded. The level that is read is the page or a packet; after the packet
+/// of a character that was set, a motion is still to be made.
 #[derive(Drop)]
 pub struct Expander<'a> {
     index: &'a Index<'a>,
     bytes: &'a [u8],
     start: usize,
-    last_step: LastStep,
-    due: Option<i64>,
-    level: Frame,
-    outer: Frames,
+    progress: Progress,
+    pending_advance: Option<i64>,
+    level: Level,
+    outer: OuterLevels,
     keys: PageKeys,
 }
 
@@ -45,39 +46,39 @@ impl<'a> Model for Expander<'a> {
 
     ghost Value = { Expansion };
 
-    ghost use Rattle.vf_expand.specs.View.{seen_expander, IsWellFormed};
+    ghost use Rattle.vf_expand.specs.View.{value_of_expander, IsWellFormed};
 
-    ghost view = { seen_expander };
+    ghost view = { value_of_expander };
 
     ghost invariant = { IsWellFormed };
 }
 
 impl<'a> Expander<'a> {
     ghost use Rattle.std.specs.Borrow.{sem};
-    ghost use Rattle.vf_expand.specs.Lending.{PassesPlain};
+    ghost use Rattle.vf_expand.specs.Lending.{PassesPackedChar};
 
     /// The page with a number, from 0, at its first command, with no current font.
     pub fn new(alloc: Global, index: &'a Index<'a>, i: usize) -> Result<Expander<'a>, NoMemory>
         requires { i < pages_begun index.now.reading }
-        ensures page { IfOk result (λ e. left e ≡ course_of index.now.reading i) }
-        ensures place { IfOk result (λ e. e.at ≡ place_of (left e)) }
+        ensures page { IfOk result (λ e. rest_of e ≡ course_of index.now.reading i) }
+        ensures place { IfOk result (λ e. e.at ≡ place_of (rest_of e)) }
         ensures unmarked { IfOk result (λ e. marked_font e ≡ None) }
-        ensures asks { IfOk result (λ e. asks_left e ≡ THE_MOST) }
+        ensures asks { IfOk result (λ e. asks_left e ≡ limits.MAX_FLAT_COMMANDS) }
     {
         let page = index.page(i);
         Ok(Expander {
             index,
             bytes: page.bytes,
             start: page.at,
-            last_step: LastStep::at_first(page.at),
-            due: None,
-            level: Frame {
+            progress: Progress::at_first(page.at),
+            pending_advance: None,
+            level: Level {
                 code: 0,
                 pos: 0,
-                gap: None,
+                advance: None,
                 current: Current::NoFont,
             },
-            outer: Frames::new(alloc),
+            outer: OuterLevels::new(alloc),
             keys: PageKeys::new(alloc),
         })
     }
@@ -85,104 +86,104 @@ impl<'a> Expander<'a> {
     // The motion after the packet of a character that was set.
     #[inline(never)]
     fn advance(&mut self, width: i64) -> Step
-        requires { self.old.due ≡ Some width }
+        requires { self.old.pending_advance ≡ Some width }
         ensures step { Steps self.old result self.new }
-        ensures fits { Fits result }
+        ensures fits { StepFits result }
     {
-        if self.last_step.budget == 0 {
-            self.last_step = self.last_step.stopped(self.last_step.at);
+        if self.progress.budget == 0 {
+            self.progress = self.progress.halted_at(self.progress.at);
             return Step::Stop(PageFault::TooLong);
         }
-        self.due = None;
-        self.last_step = self.last_step.given(self.last_step.at, false);
+        self.pending_advance = None;
+        self.progress = self.progress.after_flat(self.progress.at, false);
         Step::Flat(Flat::Advance { width })
     }
 
     // The page's end, or the end of a packet.
     #[inline(never)]
     fn ended(&mut self) -> Step
-        requires undue { self.old.due ≡ None }
+        requires nothing_pending { self.old.pending_advance ≡ None }
         requires ended { IsEnded self.old.stack }
         ensures step { Steps self.old result self.new }
-        ensures fits { Fits result }
+        ensures fits { StepFits result }
     {
         if self.outer.top().is_none() {
-            self.last_step = self.last_step.stopped(self.start + self.bytes.len());
+            self.progress = self.progress.halted_at(self.start + self.bytes.len());
             return Step::End;
         }
-        if self.last_step.budget == 0 {
-            self.last_step = self.last_step.stopped(self.last_step.at);
+        if self.progress.budget == 0 {
+            self.progress = self.progress.halted_at(self.progress.at);
             return Step::Stop(PageFault::TooLong);
         }
         let Some(outside) = self.outer.pop() else {
             unreachable!();
         };
-        self.due = self.level.gap;
+        self.pending_advance = self.level.advance;
         self.level = outside;
-        self.last_step = self.last_step.given(self.last_step.at, false);
+        self.progress = self.progress.after_flat(self.progress.at, false);
         Step::Flat(Flat::Leave)
     }
 
     // The next command, whatever it is, or the end.
     #[inline(never)]
     fn expand(&mut self) -> Result<Step, NoMemory>
-        requires undue { self.old.due ≡ None }
+        requires nothing_pending { self.old.pending_advance ≡ None }
         ensures step { IfOk result (λ step. Steps self.old step self.new) }
-        ensures fits { IfOk result Fits }
+        ensures fits { IfOk result StepFits }
         ensures err { OnErr result (self.new ≡ self.old) }
     {
-        let reading = opened(
+        let reading = current_level(
             self.index,
             self.bytes,
             self.start,
             &self.level,
             &self.outer,
-            self.last_step.at,
+            self.progress.at,
         );
         let at = reading.at;
         if self.level.pos == reading.text.len() {
             return Ok(self.ended());
         }
-        if self.last_step.budget == 0 {
-            self.last_step = self.last_step.stopped(at);
+        if self.progress.budget == 0 {
+            self.progress = self.progress.halted_at(at);
             return Ok(Step::Stop(PageFault::TooLong));
         }
-        let room = MOST_DEEP - self.outer.len();
+        let room = MAX_DEPTH - self.outer.len();
         let (command, end) = command_at(reading.text, self.level.pos, reading.context);
-        match expanded(
+        match effect_of(
             &mut self.keys,
-            reading.source,
+            reading.place,
             room,
             &self.level.current,
             &command,
         )? {
             Effect::Flat(flat) => {
                 self.level.pos = end;
-                self.last_step = self.last_step.given(at, false);
+                self.progress = self.progress.after_flat(at, false);
                 Ok(Step::Flat(flat))
             }
-            Effect::Mark(flat) => {
+            Effect::Char(flat) => {
                 self.level.pos = end;
-                self.last_step = self.last_step.given(at, true);
+                self.progress = self.progress.after_flat(at, true);
                 Ok(Step::Flat(flat))
             }
             Effect::Change(key) => {
                 self.level.pos = end;
                 self.level.current = Current::Chosen(key);
-                self.last_step = self.last_step.given(at, false);
+                self.progress = self.progress.after_flat(at, false);
                 Ok(Step::Flat(Flat::Skip))
             }
             Effect::Ask(key) => {
-                self.last_step = self.last_step.stopped(at);
+                self.progress = self.progress.halted_at(at);
                 Ok(Step::Ask(key))
             }
             Effect::Enter(level) => {
                 self.outer.enter(&mut self.level, level, end)?;
-                self.last_step = self.last_step.given(at, false);
+                self.progress = self.progress.after_flat(at, false);
                 Ok(Step::Flat(Flat::Enter))
             }
             Effect::Stop(fault) => {
-                self.last_step = self.last_step.stopped(at);
+                self.progress = self.progress.halted_at(at);
                 Ok(Step::Stop(fault))
             }
         }
@@ -196,23 +197,23 @@ impl<'a> Expander<'a> {
     /// size and rounded down, `Leave`, and `Advance` by its width where it was set. A packet begins
     /// with the first local font of its font. A font is asked for at the first character after the
     /// change to it, and again until it is handed in; a packet between two characters of a font of
-    /// the page asks for it no second time.
+    /// the page doesn't make the page ask for it again.
     ///
     /// The page stops at a change to a font that isn't defined; at a character where no font is
     /// current; at one whose font has a fault, no width, no glyph or no packet for it, or whose
-    /// packet would be the eleventh inside one another; and, where 2^24 flat commands were given,
-    /// before anything but its end. `End` and `Stop` come again and again. Where memory runs out
-    /// nothing has changed.
+    /// packet would be nested eleven deep; and, where 2^24 flat commands were given, before
+    /// anything but its end. `End` and `Stop` are given again at each further call. Where memory
+    /// runs out nothing has changed.
     ///
     /// Knuth, DVItype, "Translation to symbolic form"; VFtoVP, "Virtual fonts"; Breitenlohner,
     /// DVIcopy, "Interpreting VF packets".
     #[inline(always)]
     pub fn next(&mut self) -> Result<Step, NoMemory>
         ensures step { IfOk result (λ step. Steps self.old step self.new) }
-        ensures fits { IfOk result Fits }
+        ensures fits { IfOk result StepFits }
         ensures err { OnErr result (self.new ≡ self.old) }
     {
-        match self.due {
+        match self.pending_advance {
             Some(width) => Ok(self.advance(width)),
             None => self.expand(),
         }
@@ -221,46 +222,46 @@ impl<'a> Expander<'a> {
     /// The next step, with its glyph and without its key, where it is a character, as most steps
     /// are. `None` where it is another one, which `next` gives: then nothing has changed.
     #[inline(always)]
-    pub fn next_plain(&mut self) -> Option<PlainStep<'_>>
-        ensures* passes { sem 𝓛 (PassesPlain self.entry result) }
-        ensures fits { IfSome result (λ plain. IsNumber plain.width) }
-        ensures none { IsNone result → GivesNoPlain (left self.old) }
+    pub fn next_packed_char(&mut self) -> Option<PackedChar<'_>>
+        ensures* passes { sem 𝓛 (PassesPackedChar self.entry result) }
+        ensures fits { IfSome result (λ packed. IsNumber packed.width) }
+        ensures none { IsNone result → GivesNoPackedChar (rest_of self.old) }
     {
-        if self.due.is_some() || self.last_step.budget == 0 {
+        if self.pending_advance.is_some() || self.progress.budget == 0 {
             return None;
         }
-        let reading = opened(
+        let reading = current_level(
             self.index,
             self.bytes,
             self.start,
             &self.level,
             &self.outer,
-            self.last_step.at,
+            self.progress.at,
         );
-        let place = reading.at;
+        let position = reading.at;
         let Some((code, put, end)) = character_at(reading.text, self.level.pos, reading.context)
         else {
             return None;
         };
-        let Some(found) = plain_character(&self.level.current, code) else {
+        let Some(found) = packed_char(&self.level.current, code) else {
             return None;
         };
         self.level.pos = end;
-        self.last_step = self.last_step.given(place, true);
-        Some(PlainStep {
+        self.progress = self.progress.after_flat(position, true);
+        Some(PackedChar {
             code: code as u8,
             width: found.width,
             put,
             glyph: found.glyph,
-            at: place,
+            at: position,
         })
     }
 
-    /// Hands in what was found for the key of the look-up that stands next. The place stays that of
+    /// Hands in what was found for the key of the look-up that comes next. The place stays that of
     /// the last step, which gave no character.
     pub fn answer(&mut self, font: Arc<Decoded>)
-        requires { IsAtLook (left self.old) }
-        ensures rest { left self.new ≡ answered (left self.old) (arc_value font) }
+        requires { IsAtLook (rest_of self.old) }
+        ensures rest { rest_of self.new ≡ after_answer (rest_of self.old) (arc_value font) }
         ensures place { self.new.at ≡ self.old.at }
         ensures unmarked { marked_font self.new ≡ None }
         ensures asks { asks_left self.new + 1 ≡ asks_left self.old }
@@ -279,7 +280,7 @@ impl<'a> Expander<'a> {
         ensures { MatchOption result (marked_font self.now ≡ None)
             (λ font. marked_font self.now ≡ Some (arc_value font.now)) }
     {
-        if !self.last_step.marked {
+        if !self.progress.marked {
             return None;
         }
         match &self.level.current {
@@ -294,6 +295,6 @@ impl<'a> Expander<'a> {
     pub fn at(&self) -> usize
         ensures { result ≡ self.now.at }
     {
-        self.last_step.at
+        self.progress.at
     }
 }

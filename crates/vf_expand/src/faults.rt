@@ -8,7 +8,7 @@ use std::sync::Arc;
 /// codes are those of the commands.
 #[derive(Drop)]
 pub enum PageFault {
-    /// A font change to a number that the document nowhere defines.
+    /// A font change to a number that the document doesn't define.
     NoFont(i32),
     /// A character on the page where no font is current.
     NoCurrentFont,
@@ -22,7 +22,7 @@ pub enum PageFault {
     /// local fonts has, or, without a number, a font change or a character where it has no local
     /// fonts.
     NoLocalFont(Arc<FontKey>, Option<i32>),
-    /// The character of a virtual font stands in ten packets inside one another.
+    /// The character of a virtual font is in the innermost of ten nested packets.
     Depth(Arc<FontKey>, i32),
     /// The page has 2^24 flat commands, and isn't at its end.
     TooLong,

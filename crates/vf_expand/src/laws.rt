@@ -1,4 +1,4 @@
-//! What is true of a page's course and its list.
+//! Laws of a page's course and its list.
 ghost use Rattle.vf_expand.specs.Laws.{CoursesAreLists, LibrariesHaveFonts, MembersAreTheList, LooksAreThePages, ListsAreFollowed, LoopsAreTooDeep, ThePacketIsWorked, ThePageIsWorked};
 
 /// A page's course and its one list, whatever the fonts are; over a library, what is followed of it

@@ -10,7 +10,7 @@ use dvi_commands::{Command, Context, command_at};
 const LAST_PUT: u8 = 136;
 
 /// The code of the character that is set or put at a place of whole commands, whether it is put,
-/// and the place after its command. `None` where any other command stands, and at the end of the
+/// and the place after its command. `None` where any other command comes, and at the end of the
 /// bytes.
 #[inline(always)]
 pub fn character_at(text: &[u8], pos: usize, context: Context) -> Option<(i32, bool, usize)>

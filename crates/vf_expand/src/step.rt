@@ -10,7 +10,7 @@ use std::sync::Arc;
 pub enum Step {
     /// The next flat command.
     Flat(Flat),
-    /// The key of a font that is wanted before the page goes on.
+    /// The key of a font that is needed before the page goes on.
     Ask(Arc<FontKey>),
     /// The page is at its end.
     End,
@@ -22,7 +22,7 @@ pub enum Step {
 /// put, its glyph in that font, and the position, in the document, of the page's command that it
 /// comes from.
 #[derive(Clone, Copy)]
-pub struct PlainStep<'e> {
+pub struct PackedChar<'e> {
     pub code: u8,
     pub width: i64,
     pub put: bool,

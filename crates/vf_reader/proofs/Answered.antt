@@ -2,7 +2,7 @@
 use Rattle.std.proofs.Common.{◌≡◌, ℕ, List, refl}
 use Rattle.std.specs.Prelude.{Result, Ok, Err, IfErr, IfOk, MatchResult}
 use Rattle.vf_reader.specs.Faults.{IsFirstFault}
-use Rattle.vf_reader.specs.Fonts.{IsFontOf, IsVfFile, Virtual}
+use Rattle.vf_reader.specs.Fonts.{HasPacketsOf, IsVfFile, Virtual}
 use Rattle.vf_reader.specs.Stops.{IfFault}
 use Rattle.vf_reader.specs.declared.faults.VfFault.{VfFault}
 use Rattle.vf_reader.specs.declared.faults.VfStop.{VfStop}
@@ -17,7 +17,7 @@ accepted bytes (Err (Fault f)) first items h = absurd (files_have_no_fault bytes
 accepted bytes (Err NoMemory) first items h = refl
 
 -- bytes with a first fault are refused with it, or for want of memory
-pub refused : (bytes : List ℕ) (r : Result Virtual VfStop) → IfOk r (λ font. (items : List (List ℕ)) × IsVfFile bytes items × IsFontOf items font)
+pub refused : (bytes : List ℕ) (r : Result Virtual VfStop) → IfOk r (λ font. (items : List (List ℕ)) × IsVfFile bytes items × HasPacketsOf items font)
     → IfErr r (λ stop. IfFault stop (IsFirstFault bytes)) → (f : VfFault) → IsFirstFault bytes f → MatchResult r (λ _. ⊥) (λ stop. IfFault stop (λ g. g ≡ f))
 refused bytes (Ok font) read first f h = files_have_no_fault bytes read.0 f read.1 h
 refused bytes (Err (Fault g)) read first f h = first_faults_are_one bytes g f first h

@@ -28,7 +28,7 @@ same_test a b = elim (cases_Bool (int_eq a b)) [
   ]
 ]
 
--- ---- a place tells the local font
+-- ---- a place determines the local font
 
 abbrev At : List LocalDef → ℤ → Option ℕ → Type 0
 At locals k None = local_with locals k ≡ None

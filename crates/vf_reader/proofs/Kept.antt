@@ -19,16 +19,16 @@ same_lookup c [] = refl
 same_lookup c (e ∷ es) = ap (λ t. cond t (Some e.1) (lookup (λ k. c == k) es)) (same_test c e.0) ∙ ap (cond (is_eq (nat_cmp c e.0)) (Some e.1)) (same_lookup c es)
 
 abbrev kept : List (Option Span) → List (ℕ × Span) → Spans
-kept plain others = record { plain = plain; others = others }
+kept table others = record { table = table; others = others }
 
 apart : (c k : ℕ) → 256 ≤ c → k < 256 → (c == k) ≡ false
 apart c k high low = grind (arith, nat_tests)
 
 -- a span of a code above 255 is found by it, and every other code keeps its own
-pub other_kept : (c k : ℕ) (g : Span) (plain : List (Option Span)) (old new : List (ℕ × Span)) → 256 ≤ c
+pub other_kept : (c k : ℕ) (g : Span) (table : List (Option Span)) (old new : List (ℕ × Span)) → 256 ≤ c
     → lookup (is_at (nat_cmp k)) new ≡ cond (is_at (nat_cmp c) k) (Some g) (lookup (is_at (nat_cmp k)) old)
-    → span_of (kept plain new) k ≡ (if c == k then Some g else span_of (kept plain old) k)
-other_kept c k g plain old new high found = elim (cases_lt k 256) [
+    → span_of (kept table new) k ≡ (if c == k then Some g else span_of (kept table old) k)
+other_kept c k g table old new high found = elim (cases_lt k 256) [
   | inl low ↦ rw (lt-ltb k 256 low, apart c k high low) refl
   | inr le ↦ rw (le-ltb k 256 le) (
       same_lookup k new ∙ found ∙ ap (λ t. cond t (Some g) (lookup (is_at (nat_cmp k)) old)) (sym (same_test c k))
@@ -36,8 +36,8 @@ other_kept c k g plain old new high found = elim (cases_lt k 256) [
 ]
 
 -- a table without spans has none for any code
-pub nothing_kept : (k : ℕ) (plain : List (Option Span)) (others : List (ℕ × Span)) → plain ≡ replicate 256 None → others ≡ [] → span_of (kept plain others) k ≡ None
-nothing_kept k plain others empty none = elim (cases_lt k 256) [
+pub nothing_kept : (k : ℕ) (table : List (Option Span)) (others : List (ℕ × Span)) → table ≡ replicate 256 None → others ≡ [] → span_of (kept table others) k ≡ None
+nothing_kept k table others empty none = elim (cases_lt k 256) [
   | inl low ↦ rw (lt-ltb k 256 low) (ap (λ xs. get_or xs k None) empty ∙ get_or-replicate 256 k None None low)
   | inr le ↦ rw (le-ltb k 256 le) (ap (lookup (λ q. k == q)) none)
 ]

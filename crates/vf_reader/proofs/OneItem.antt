@@ -5,7 +5,7 @@ use Rattle.std.proofs.lemmas.Bool.{cases_Bool, cases_lt}
 use Rattle.std.proofs.lemmas.List.{drop-append-le, drop_at, get_or-take, get_or_append_left, length-append, length-drop, length-take-le, take-append-drop, take-append-le, take_at}
 use Rattle.big_endian.specs.Fields.{unsigned_at}
 use Rattle.big_endian.specs.Numbers.{unsigned_of}
-use Rattle.vf_reader.specs.Items.{IsCut, IsItem, by_kind, head_size, item_size, opcode, told_size}
+use Rattle.vf_reader.specs.Items.{IsCut, IsItem, by_kind, head_size, item_size, opcode, given_size}
 use Rattle.vf_reader.specs.Faults.{IsMisplaced}
 use Rattle.vf_reader.specs.Laws.{NoItemBeginsAnother}
 
@@ -57,7 +57,7 @@ same_size item more head =
     ap (λ (o : ℕ). head_size o + told_with (item ++ more) o) (same_opcode item more some) ∙ ap (λ (n : ℕ). head_size (opcode item) + n) (told_by item more (opcode item) head)
 
 pub has_head : (item : List ℕ) → IsItem item → head_size (opcode item) ≤ length item
-has_head item h = by (head_size (opcode item)) (told_size item) h.whole
+has_head item h = by (head_size (opcode item)) (given_size item) h.whole
   where
     by : (a b : ℕ) → length item ≡ a + b → a ≤ length item
     by a b e = omega (arith, e)
@@ -114,7 +114,7 @@ nothing_is_cut = (omega arith, omega arith)
 
 cut_here : (item : List ℕ) (k : ℕ) → IsItem item → 0 < k → k < length item → length (take k item) < item_size (take k item)
 cut_here item k h some lt = elim (cases_lt k (head_size (opcode item))) [
-  | inl short ↦ by_head (head_size (opcode (take k item))) (told_size (take k item)) (ap head_size same) short
+  | inl short ↦ by_head (head_size (opcode (take k item))) (given_size (take k item)) (ap head_size same) short
   | inr head ↦
       let there : head_size (opcode (take k item)) ≤ length (take k item) = subst (λ (n : ℕ). n ≤ length (take k item)) (sym (ap head_size same)) (subst (λ (n : ℕ). head_size (opcode item) ≤ n) (sym len) head) in
       let whole : item_size (take k item) ≡ length item = sym (same_size (take k item) (drop k item) there) ∙ ap item_size (take-append-drop k item) ∙ sym h.whole in

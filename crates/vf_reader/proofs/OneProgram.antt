@@ -7,7 +7,7 @@ use Rattle.dvi_commands.specs.declared.command.Context.TheVariants as context
 use Rattle.dvi_commands.proofs.OneCommand.{refused_begins}
 use Rattle.dvi_commands.proofs.Prefix.{no_spelling_begins_another}
 use Rattle.dvi_commands.proofs.Refusals.{spelled_some}
-use Rattle.dvi_commands.proofs.Told.{spelling_tells_the_command}
+use Rattle.dvi_commands.proofs.Determined.{spelling_determines_the_command}
 use Rattle.vf_reader.specs.Programs.{AreSoundFrom, IsFaultAfterCommands, IsFaultHere, command_fault, open_after}
 use Rattle.vf_reader.specs.declared.faults.VfFault.{VfFault}
 use Rattle.vf_reader.specs.declared.faults.VfFault.TheVariants.{Packet}
@@ -16,7 +16,7 @@ use Rattle.vf_reader.specs.declared.faults.VfFault.TheVariants.{Packet}
 same_first : (c d : DviCommand) (a b x y bytes : List ℕ) → Begins context.Packet c a x bytes → Begins context.Packet d b y bytes → (c ≡ d) × (x ≡ y)
 same_first c d a b x y bytes h k =
     let same = no_spelling_begins_another c d a b x y h.spelled k.spelled (sym h.whole ∙ k.whole) in
-    (spelling_tells_the_command c d b (subst (Spells c) same.0 h.spelled) k.spelled, same.1)
+    (spelling_determines_the_command c d b (subst (Spells c) same.0 h.spelled) k.spelled, same.1)
 
 -- and no bytes with none
 some_there : (c : DviCommand) (prefix rest bytes : List ℕ) → Begins context.Packet c prefix rest bytes → bytes ≡ [] → ⊥

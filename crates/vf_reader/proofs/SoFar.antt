@@ -7,7 +7,7 @@ use Rattle.dvi_commands.proofs.Motions.{nothing}
 use Rattle.vf_reader.specs.Preamble.{preamble_fault, preamble_size}
 use Rattle.vf_reader.specs.Items.{IsItem, definition_of, is_packet, text_of}
 use Rattle.vf_reader.specs.Locals.{local_of, local_with, locals_of, with_local}
-use Rattle.vf_reader.specs.Fonts.{AreSound, IsFontOf, IsItemSound, IsVfFile, Spans, Virtual, span_of}
+use Rattle.vf_reader.specs.Fonts.{AreSound, HasPacketsOf, IsItemSound, IsVfFile, Spans, Virtual, span_of}
 use Rattle.vf_reader.specs.Faults.{IsFirstFault, IsItemFault, IsWholeFault}
 use Rattle.vf_reader.specs.Stops.{IfFault}
 use Rattle.vf_reader.specs.Walked.{AreSpansOf, AreWithin}
@@ -117,7 +117,7 @@ next_first bytes rest spans locals f h wrong = rw h.begins (record { items = h.i
 
 -- the closing command follows
 pub file_read : (bytes rest unused : List ℕ) (spans : Spans) (locals : List LocalDef) (font : Virtual) (h : IsReadTo bytes rest spans locals) → rest ≡ 248 ∷ unused → font.bytes ≡ bytes → font.spans ≡ spans
-    → font.locals ≡ locals → (items : List (List ℕ)) × IsVfFile bytes items × IsFontOf items font
+    → font.locals ≡ locals → (items : List (List ℕ)) × IsVfFile bytes items × HasPacketsOf items font
 file_read bytes rest unused spans locals font h end whole spans_are locals_are = (
   h.items,
   record { begins = h.begins; sound = h.sound; unused = unused; whole = h.text ∙ ap (λ t. text_of h.items ++ t) end },

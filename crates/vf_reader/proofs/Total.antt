@@ -13,7 +13,7 @@ use Rattle.dvi_commands.proofs.FieldNumbers.{bytes_before, bytes_after}
 use Rattle.dvi_commands.proofs.Refusals.{spelled_some}
 use Rattle.dvi_commands.proofs.Unrefused.{unrefused_is_spelled}
 use Rattle.vf_reader.specs.Preamble.{preamble_fault, preamble_size}
-use Rattle.vf_reader.specs.Items.{IsItem, code_of, head_size, is_packet, item_size, opcode, program_of, text_of, told_size}
+use Rattle.vf_reader.specs.Items.{IsItem, code_of, head_size, is_packet, item_size, opcode, program_of, text_of, given_size}
 use Rattle.vf_reader.specs.Programs.{AreCommandsOf, AreSoundFrom, IsFaultAfterCommands, IsProgramFault, command_fault, open_after}
 use Rattle.vf_reader.specs.Locals.{local_fault}
 use Rattle.vf_reader.specs.Fonts.{AreSound, IsItemSound, IsVfFile}
@@ -111,7 +111,7 @@ whole_then items rest item more few sound e is some = elim (item_then items item
 ]
 
 some_size : (bytes : List ℕ) → 1 ≤ item_size bytes
-some_size bytes = by (head_size (opcode bytes)) (told_size bytes) (some_head (opcode bytes))
+some_size bytes = by (head_size (opcode bytes)) (given_size bytes) (some_head (opcode bytes))
   where
     by : (a b : ℕ) → 1 ≤ a → 1 ≤ a + b
     by a b h = omega arith
@@ -132,7 +132,7 @@ first_item rest low enough = record {
     within a b n e = omega (arith, e)
 
     there : head_size (opcode (take (item_size rest) rest)) ≤ length (take (item_size rest) rest)
-    there = subst (λ (o : ℕ). head_size o ≤ length (take (item_size rest) rest)) (sym same) (within (head_size (opcode rest)) (told_size rest) (length (take (item_size rest) rest)) len)
+    there = subst (λ (o : ℕ). head_size o ≤ length (take (item_size rest) rest)) (sym same) (within (head_size (opcode rest)) (given_size rest) (length (take (item_size rest) rest)) len)
 
 high_then : (items : List (List ℕ)) (rest : List ℕ) → 246 < opcode rest → IsEnd rest ⊎ IsWrong items rest
 high_then items rest high = elim (cases_eq (opcode rest) 248) [

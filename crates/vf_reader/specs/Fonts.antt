@@ -43,12 +43,12 @@ program_with (item ∷ before) c =
 -- where the packets of the codes from 0 to 255 stand, by their places, and those of others by their
 -- codes
 pub record Spans : Type 0 where
-  pub plain : List (Option Span)
+  pub table : List (Option Span)
   pub others : List (ℕ × Span)
 
 abbrev pub span_of : Spans → ℕ → Option Span
 span_of spans c =
-    if nat_lt c 256 then get_or spans.plain c None else lookup (λ k. c == k) spans.others
+    if nat_lt c 256 then get_or spans.table c None else lookup (λ k. c == k) spans.others
 
 -- the file's bytes, where its packets stand in them, and the local fonts
 pub record Virtual : Type 0 where
@@ -64,6 +64,6 @@ abbrev pub packet_of : Virtual → ℕ → Option (List ℕ)
 packet_of font c = option_map (text_at font.bytes) (span_of font.spans c)
 
 -- the font has the packets and the local fonts of the items
-pub record IsFontOf (items : List (List ℕ)) (font : Virtual) : Type 0 where
+pub record HasPacketsOf (items : List (List ℕ)) (font : Virtual) : Type 0 where
   pub packets : (c : ℕ) → packet_of font c ≡ program_with items c
   pub locals : font.locals ≡ locals_of items

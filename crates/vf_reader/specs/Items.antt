@@ -25,13 +25,13 @@ abbrev pub head_size : ℕ → ℕ
 head_size op = by_kind op 5 13 (op - 242 + 15)
 
 -- then as many bytes follow as the length, or the lengths of area and name, tell
-abbrev pub told_size : List ℕ → ℕ
-told_size bytes =
+abbrev pub given_size : List ℕ → ℕ
+given_size bytes =
     by_kind (opcode bytes) (opcode bytes) (unsigned_at bytes 1 4)
     (slice_index bytes (opcode bytes - 242 + 13) + slice_index bytes (opcode bytes - 242 + 14))
 
 abbrev pub item_size : List ℕ → ℕ
-item_size bytes = head_size (opcode bytes) + told_size bytes
+item_size bytes = head_size (opcode bytes) + given_size bytes
 
 -- the bytes of one whole item
 pub record IsItem (bytes : List ℕ) : Type 0 where

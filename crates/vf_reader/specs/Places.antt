@@ -15,6 +15,6 @@ place_of (d ∷ locals) k = if int_eq d.number k then Some 0 else option_map suc
 abbrev pub place_at : List (ℤ × ℕ) → ℤ → Option ℕ
 place_at entries k = lookup (λ x. is_eq (int_cmp k x)) entries
 
--- the entries tell each number's place
+-- the entries determine each number's place
 abbrev pub ArePlaces : List (ℤ × ℕ) → List LocalDef → Type 0
 ArePlaces entries locals = (k : ℤ) → place_at entries k ≡ place_of locals k

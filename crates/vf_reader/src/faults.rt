@@ -13,7 +13,7 @@ pub enum VfFault {
     /// The first two bytes aren't 247 and 202.
     #[error("the preamble is wrong")]
     Preamble,
-    /// This opcode, 247 or 249 to 255, may not stand after the preamble.
+    /// This opcode, 247 or 249 to 255, isn't allowed after the preamble.
     #[error("command {0} is misplaced")]
     Misplaced(u8),
     /// A command of this character's packet can't be read.

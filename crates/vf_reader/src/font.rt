@@ -10,7 +10,7 @@ use crate::packet_table::{PacketTable, Span};
 use std::marker::Model;
 
 /// The packets and the local fonts of a virtual font. A contract sees it as the file's bytes, where
-/// its packets stand in them, and the local fonts in the order of the file; `packet_of` says which
+/// its packets are in them, and the local fonts in the order of the file; `packet_of` says which
 /// packet a code has.
 #[derive(Drop)]
 pub struct VfFont {

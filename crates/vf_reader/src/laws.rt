@@ -1,4 +1,4 @@
-//! What is true of VF files, each law the contract of a function without a body.
+//! Laws of VF files, each the contract of a function without a body.
 ghost use Rattle.vf_reader.specs.Laws.{CutFilesAreShort, FilesAreReadOneWay, FilesAreReadOrHaveAFault, FilesHaveNoFault, FirstFaultsAreOne, NoItemBeginsAnother};
 
 /// No item begins another. So a file has one list of items, a file that is read has no fault, and

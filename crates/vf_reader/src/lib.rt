@@ -1,7 +1,7 @@
 //! Virtual fonts: the packets and the local fonts of a VF file (Knuth, VFtoVP, "Virtual fonts").
-//! Every packet is judged at reading, also one that no page uses or that a later one replaces; the
-//! first fault of the file is answered. The bytes of the file are kept once, and a packet is given
-//! out as a part of them.
+//! Every packet is judged when the file is read, even one that no page uses or that a later one
+//! replaces; the first fault of the file is answered. The bytes of the file are kept once, and a
+//! packet is given out as a part of them.
 #![tactic(auto)]
 
 pub mod examples;

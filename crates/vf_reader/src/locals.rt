@@ -4,7 +4,7 @@ ghost use Rattle.std.specs.Option.{option_copied};
 ghost use Rattle.big_endian.specs.Fields as fields;
 ghost use Rattle.big_endian.specs.Numbers.{IsSigned};
 ghost use Rattle.dvi_commands.specs.Reading.{code};
-ghost use Rattle.dvi_commands.specs.Spelling.{seen_definition};
+ghost use Rattle.dvi_commands.specs.Spelling.{value_of_definition};
 ghost use Rattle.vf_reader.specs.Items.{IsItem, definition_of, is_packet};
 ghost use Rattle.vf_reader.specs.Locals.{definition_fault, is_factor as is_factor_of, is_same_local, local_of};
 
@@ -67,7 +67,7 @@ fn number(fields: &[u8], n: usize) -> i32
 pub fn definition(item: &[u8]) -> FontDef<'_>
     requires item { IsItem item.now }
     requires kind { IsFalse (is_packet item.now) }
-    ensures fields { seen_definition result ≡ definition_of item.now }
+    ensures fields { value_of_definition result ≡ definition_of item.now }
     ensures fits { IsSigned 4 result.number }
 {
     let n = usize::from(item[0] - LONG_PACKET);
@@ -90,7 +90,7 @@ fn is_factor(factor: i32) -> bool
 
 // Whether a definition says the same as an earlier one. The checksum isn't compared.
 fn is_same(known: &LocalDef, def: &FontDef) -> bool
-    ensures { result ≡ is_same_local known.now (local_of (seen_definition def.now)) }
+    ensures { result ≡ is_same_local known.now (local_of (value_of_definition def.now)) }
 {
     known.factor == def.size.unsigned_abs()
         && known.points == def.design.unsigned_abs()
@@ -100,7 +100,7 @@ fn is_same(known: &LocalDef, def: &FontDef) -> bool
 
 /// What is wrong with a definition, where its number was defined to be `known` before.
 pub fn fault_of(known: Option<&LocalDef>, def: &FontDef) -> Option<VfFault>
-    ensures { result ≡ definition_fault (option_copied known.entry) (seen_definition def.now) }
+    ensures { result ≡ definition_fault (option_copied known.entry) (value_of_definition def.now) }
 {
     if !(is_factor(def.size) && 0 < def.design) {
         return Some(VfFault::LocalDef(def.number));
@@ -113,7 +113,7 @@ pub fn fault_of(known: Option<&LocalDef>, def: &FontDef) -> Option<VfFault>
 
 /// The local font of a definition whose sizes are right.
 pub fn local(alloc: Global, def: &FontDef) -> Result<LocalDef, NoMemory>
-    ensures { IfOk result (λ local. local ≡ local_of (seen_definition def.now)) }
+    ensures { IfOk result (λ local. local ≡ local_of (value_of_definition def.now)) }
 {
     Ok(LocalDef {
         number: def.number,

@@ -1,4 +1,4 @@
-//! Where a font's packets stand.
+//! Where a font's packets are.
 ghost use Rattle.std.specs.Prelude.{◌≡◌, ◌==◌, ℕ, IfOk, None, OnOk, Some, if◌then◌else◌, replicate};
 ghost use Rattle.vf_reader.specs.Fonts.{span_of};
 
@@ -7,7 +7,7 @@ use std::collections::BTreeMap;
 use std::marker::Model;
 
 // The codes that have a place in the table.
-const PLAIN_CODES: u32 = 256;
+const TABLE_CODES: u32 = 256;
 
 /// A part of the file's bytes, up to `end`.
 #[derive(Clone, Copy, Debug, PartialEq, Eq)]
@@ -20,7 +20,7 @@ pub struct Span {
 /// 255 by their places and those of the others by their codes; `span_of` says which one a code has.
 #[derive(Drop)]
 pub struct PacketTable {
-    plain: Vec<Option<Span>>,
+    table: Vec<Option<Span>>,
     others: BTreeMap<u32, Span>,
 }
 
@@ -30,20 +30,20 @@ impl Model for PacketTable {
 
     ghost Value = { Spans };
 
-    ghost view = { λ t. record { plain = t.plain.items; others = t.others.entries } };
+    ghost view = { λ t. record { table = t.table.items; others = t.others.entries } };
 
-    ghost invariant = { λ t. length t.plain.items ≡ 256 };
+    ghost invariant = { λ t. length t.table.items ≡ 256 };
 }
 
 // A table without spans.
 fn no_spans(alloc: Global) -> Result<Vec<Option<Span>>, NoMemory>
-    ensures { IfOk result (λ plain. plain.items ≡ replicate 256 None) }
+    ensures { IfOk result (λ table. table.items ≡ replicate 256 None) }
 {
-    let mut plain = Vec::with_capacity(alloc, PLAIN_CODES as usize)?;
-    for _code in 0..PLAIN_CODES {
-        plain.push(None)?;
+    let mut table = Vec::with_capacity(alloc, TABLE_CODES as usize)?;
+    for _code in 0..TABLE_CODES {
+        table.push(None)?;
     }
-    Ok(plain)
+    Ok(table)
 }
 
 impl PacketTable {
@@ -52,7 +52,7 @@ impl PacketTable {
         ensures { IfOk result (λ table. (c : ℕ) → span_of table c ≡ None) }
     {
         Ok(PacketTable {
-            plain: no_spans(alloc)?,
+            table: no_spans(alloc)?,
             others: BTreeMap::new(alloc),
         })
     }
@@ -62,8 +62,8 @@ impl PacketTable {
         ensures { OnOk result ((k : ℕ) → span_of self.new k
             ≡ (if c == k then Some span else span_of self.old k)) }
     {
-        if c < PLAIN_CODES {
-            self.plain[c as usize] = Some(span);
+        if c < TABLE_CODES {
+            self.table[c as usize] = Some(span);
         } else {
             self.others.insert(c, span)?;
         }
@@ -74,8 +74,8 @@ impl PacketTable {
     pub fn get(&self, c: u32) -> Option<Span>
         ensures { result ≡ span_of self.now c }
     {
-        if c < PLAIN_CODES {
-            self.plain[c as usize]
+        if c < TABLE_CODES {
+            self.table[c as usize]
         } else {
             self.others.get(&c).copied()
         }

@@ -1,7 +1,7 @@
 //! The commands of a packet.
 ghost use Rattle.std.specs.Prelude.{◌≡◌, ◌+◌, ◌<◌, ◌^◌, List, IfErr, IfOk, OnOk, None, Some};
 ghost use Rattle.std.specs.List.{list_all};
-ghost use Rattle.dvi_commands.specs.Spelling.{DviCommand, seen};
+ghost use Rattle.dvi_commands.specs.Spelling.{DviCommand, value_of_command};
 ghost use Rattle.vf_reader.specs.Programs.{AreCommandsOf, IsProgramFault, command_fault, dimensions, is_dimension as is_dimension_of, open_after};
 
 use crate::VfFault;
@@ -16,7 +16,7 @@ fn is_dimension(x: i32) -> bool
 
 // Whether the motion or the sides of the rule are in range.
 fn are_dimensions_right(command: &Command) -> bool
-    ensures { result ≡ list_all is_dimension_of (dimensions (seen command.now)) }
+    ensures { result ≡ list_all is_dimension_of (dimensions (value_of_command command.now)) }
 {
     match *command {
         Command::SetRule { height, width } => is_dimension(height) && is_dimension(width),
@@ -35,9 +35,10 @@ fn are_dimensions_right(command: &Command) -> bool
 // is out of range, `Unbalanced` at a pop where no push is open.
 fn depth_after(code: u32, depth: usize, command: &Command) -> Result<usize, VfFault>
     requires { depth + 1 < 2 ^ 64 }
-    ensures depth { IfOk result (λ after. after ≡ open_after depth (seen command.now)) }
-    ensures right { OnOk result (command_fault code depth (seen command.now) ≡ None) }
-    ensures fault { IfErr result (λ f. command_fault code depth (seen command.now) ≡ Some f) }
+    ensures depth { IfOk result (λ after. after ≡ open_after depth (value_of_command command.now)) }
+    ensures right { OnOk result (command_fault code depth (value_of_command command.now) ≡ None) }
+    ensures fault { IfErr result (λ f. command_fault code depth (value_of_command command.now)
+        ≡ Some f) }
 {
     if !are_dimensions_right(command) {
         return Err(VfFault::Dimension(code));

@@ -1,7 +1,7 @@
 //! Reading a VF file.
 ghost use Rattle.std.specs.Prelude.{◌≡◌, ◌≤◌, ◌+◌, ◌-◌, ℕ, List, ◌++◌, ◌∷◌, IfErr, IfOk, IsFalse, IsTrue, MatchResult, drop, length};
 ghost use Rattle.vf_reader.specs.Faults.{IsFirstFault, IsWholeFault};
-ghost use Rattle.vf_reader.specs.Fonts.{IsFontOf, IsItemSound, IsVfFile};
+ghost use Rattle.vf_reader.specs.Fonts.{HasPacketsOf, IsItemSound, IsVfFile};
 ghost use Rattle.vf_reader.specs.Items.{IsItem, code_of, head_size, is_packet, opcode};
 ghost use Rattle.vf_reader.specs.Locals.{locals_of};
 ghost use Rattle.vf_reader.specs.Stops.{IfFault};
@@ -21,14 +21,14 @@ use big_endian::unsigned;
 use std::alloc::Global;
 
 impl VfFont {
-    /// Reads the packets and the local fonts of a VF file, or tells its first fault. What stands
-    /// after the closing command 248 isn't looked at.
+    /// Reads the packets and the local fonts of a VF file, or answers its first fault. What follows
+    /// the closing command 248 isn't looked at.
     ///
-    /// Want of memory apart, the font comes exactly where the bytes are a VF file, and a fault
+    /// Unless memory runs out, the font comes exactly where the bytes are a VF file, and a fault
     /// exactly where it is their first.
     pub fn read(alloc: Global, bytes: &[u8]) -> Result<VfFont, VfStop>
         ensures font { IfOk result (λ font. (items : List (List ℕ)) ×
-            IsVfFile bytes.now items × IsFontOf items font) }
+            IsVfFile bytes.now items × HasPacketsOf items font) }
         ensures fault { IfErr result (λ stop. IfFault stop (IsFirstFault bytes.now)) }
         ensures accepted { (items : List (List ℕ)) → IsVfFile bytes.now items →
             IfErr result (λ e. e ≡ stop.NoMemory) }
@@ -41,7 +41,7 @@ impl VfFont {
     // The same with the answers alone: that no other could come follows by the laws.
     fn of_items(alloc: Global, bytes: &[u8]) -> Result<VfFont, VfStop>
         ensures font { IfOk result (λ font. (items : List (List ℕ)) ×
-            IsVfFile bytes.now items × IsFontOf items font) }
+            IsVfFile bytes.now items × HasPacketsOf items font) }
         ensures fault { IfErr result (λ stop. IfFault stop (IsFirstFault bytes.now)) }
     {
         let mut items = Items::new(after_preamble(bytes)?);

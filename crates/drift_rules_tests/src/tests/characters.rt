@@ -1,7 +1,7 @@
 //! Characters.
 ghost use Rattle.std.specs.Prelude.{IfOk};
 ghost use Rattle.drift_rules.specs.Bounds.{IsInReach};
-ghost use Rattle.drift_rules.specs.Position.{seen_flat};
+ghost use Rattle.drift_rules.specs.Position.{value_of_flat};
 
 use super::script::{Reply, Step, answer, half_a_dot};
 use drift_rules::{Flat, Mark, Pen};
@@ -12,7 +12,7 @@ use std::test::Fail;
 
 // A character of width 6, that is 3 dots.
 fn character(alloc: Global, put: bool) -> Result<Flat, Fail>
-    ensures { IfOk result (λ flat. IsInReach (seen_flat flat)) }
+    ensures { IfOk result (λ flat. IsInReach (value_of_flat flat)) }
 {
     let name = FontName::new(alloc, b"duo")?;
     let key = Arc::new(

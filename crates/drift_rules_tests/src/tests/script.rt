@@ -1,6 +1,6 @@
 //! Commands as rows of a table, and a pen that follows them.
 ghost use Rattle.drift_rules.specs.Bounds.{IsInReach};
-ghost use Rattle.drift_rules.specs.Position.{seen_flat};
+ghost use Rattle.drift_rules.specs.Position.{value_of_flat};
 
 use drift_rules::{Flat, Mark, Pen, PenStop, Registers};
 use pixel_round::{Conv, Scale, Units};
@@ -68,7 +68,7 @@ pub fn half_a_dot() -> Result<Conv, Scale> {
 
 // The command of a step that is a motion.
 fn motion(step: Step) -> Flat
-    ensures { IsInReach (seen_flat result) }
+    ensures { IsInReach (value_of_flat result) }
 {
     match step {
         Step::Right(by, space) => Flat::Right {
@@ -101,7 +101,7 @@ fn motion(step: Step) -> Flat
 
 // The command of any step.
 fn command(step: Step) -> Flat
-    ensures { IsInReach (seen_flat result) }
+    ensures { IsInReach (value_of_flat result) }
 {
     match step {
         Step::W0(space) => Flat::W0 {

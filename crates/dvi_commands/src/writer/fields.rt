@@ -4,8 +4,8 @@ ghost use Rattle.std.specs.Prelude.{◌≡◌, ◌≤◌, ◌<◌, ◌+◌, ◌-
 ghost use Rattle.std.specs.List.{AllByRecursion};
 ghost use Rattle.big_endian.specs.Numbers.{IsSigned, number_bytes};
 ghost use Rattle.dvi_commands.specs.ShortestSpelling.{shortest_spelling};
-ghost use Rattle.dvi_commands.specs.Spelling.{Bop, Define, Special, Spells, quad, seen_definition};
-ghost use Rattle.dvi_commands.specs.Writing.{IsAreaInName, IsRestShort, LONGEST_SPECIAL};
+ghost use Rattle.dvi_commands.specs.Spelling.{Bop, Define, Special, Spells, quad, value_of_definition};
+ghost use Rattle.dvi_commands.specs.Writing.{IsAreaInName, IsRestShort, MAX_SPECIAL_LENGTH};
 
 use super::numbers::{number_width, quad_at, quad_bytes};
 use super::parts::append;
@@ -53,7 +53,7 @@ pub(super) fn append_bop(out: &mut Vec<u8>, counts: &[i32; 10], back: i32) -> Re
 }
 
 pub(super) fn append_special(out: &mut Vec<u8>, text: &[u8]) -> Result<(), NoMemory>
-    requires { length text.now ≤ LONGEST_SPECIAL }
+    requires { length text.now ≤ MAX_SPECIAL_LENGTH }
     ensures appended { OnOk result (out.new.items ≡ out.old.items ++ shortest_spelling
         (Special text.now)) }
     ensures unchanged { OnErr result (out.new.items ≡ out.old.items) }
@@ -68,13 +68,13 @@ pub(super) fn append_special(out: &mut Vec<u8>, text: &[u8]) -> Result<(), NoMem
 }
 
 pub(super) fn append_definition(out: &mut Vec<u8>, definition: &FontDef) -> Result<(), NoMemory>
-    requires area { IsAreaInName (Define (seen_definition definition.now)) }
-    requires rest { IsRestShort (Define (seen_definition definition.now)) }
+    requires area { IsAreaInName (Define (value_of_definition definition.now)) }
+    requires rest { IsRestShort (Define (value_of_definition definition.now)) }
     ensures appended { OnOk result (out.new.items ≡ out.old.items ++ shortest_spelling
-        (Define (seen_definition definition.now))) }
+        (Define (value_of_definition definition.now))) }
     ensures unchanged { OnErr result (out.new.items ≡ out.old.items) }
-    ensures spelled { Spells (Define (seen_definition definition.now))
-        (shortest_spelling (Define (seen_definition definition.now))) }
+    ensures spelled { Spells (Define (value_of_definition definition.now))
+        (shortest_spelling (Define (value_of_definition definition.now))) }
 {
     let area = definition.area;
     let rest = definition.name.len() - area as usize;

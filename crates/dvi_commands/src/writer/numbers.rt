@@ -60,8 +60,8 @@ pub(super) fn append_opcode(out: &mut Vec<u8>, opcode: u8) -> Result<(), NoMemor
     append(out, &[&[opcode]])
 }
 
-/// Appends the opcode of a motion, which stands as far after another as the number has bytes, and
-/// the number.
+/// Appends a motion: its opcode, which is a base plus the number of bytes that follow, and the
+/// number.
 pub(super) fn append_motion(out: &mut Vec<u8>, before: u8, by: i32) -> Result<(), NoMemory>
     requires { before ≤ 251 }
     ensures appended { OnOk result (out.new.items ≡ out.old.items ++ with_number before
@@ -76,8 +76,8 @@ pub(super) fn append_motion(out: &mut Vec<u8>, before: u8, by: i32) -> Result<()
     )
 }
 
-/// Appends the opcode of a character or a font, which stands as far after another as the number has
-/// bytes, and the number.
+/// Appends the command of a character or a font: its opcode, which is a base plus the number of
+/// bytes that follow, and the number.
 pub(super) fn append_number(out: &mut Vec<u8>, before: u8, number: i32) -> Result<(), NoMemory>
     requires { before ≤ 251 }
     ensures appended { OnOk result (out.new.items ≡ out.old.items ++ with_number before

@@ -1,4 +1,4 @@
-//! Appending parts that lie apart.
+//! Appending several parts at once.
 
 ghost use Rattle.std.specs.Prelude.{◌≡◌, ◌<◌, ◌^◌, ◌++◌, length, OnErr, OnOk};
 ghost use Rattle.dvi_commands.specs.Writing.{joined};

@@ -1,5 +1,5 @@
 //! Places after plain commands.
-use dvi_commands::plain_end;
+use dvi_commands::end_of_skippable;
 
 // Character 65, font 7 by one byte, a motion to the right by 256, a rule put, and the page's end.
 const PAGE: [u8; 16] = [65, 235, 7, 144, 1, 0, 137, 0, 0, 0, 4, 0, 0, 0, 6, 140];
@@ -21,7 +21,7 @@ fn place_after(bytes: &[u8], at: usize) -> Option<Option<usize>> {
     if at > bytes.len() {
         return None;
     }
-    Some(plain_end(bytes, at))
+    Some(end_of_skippable(bytes, at))
 }
 
 #[test]

@@ -1,6 +1,6 @@
 //! Shortest spellings, written after other bytes and read back.
 ghost use Rattle.std.specs.Prelude.{IsTrue};
-ghost use Rattle.dvi_commands.specs.Spelling.{seen};
+ghost use Rattle.dvi_commands.specs.Spelling.{value_of_command};
 ghost use Rattle.dvi_commands.specs.Writing.{IsAreaInName, IsRestShort, IsSpecialShort, IsTextShort};
 
 use super::shown::{read, show};
@@ -137,10 +137,10 @@ static ROWS: [(Context, Command<'static>, &[u8]); 44] = [
 
 // Whether the texts fit into the fields for their lengths.
 fn is_writable(command: &Command) -> bool
-    ensures special { IsTrue result → IsSpecialShort (seen command.now) }
-    ensures text { IsTrue result → IsTextShort (seen command.now) }
-    ensures area { IsTrue result → IsAreaInName (seen command.now) }
-    ensures rest { IsTrue result → IsRestShort (seen command.now) }
+    ensures special { IsTrue result → IsSpecialShort (value_of_command command.now) }
+    ensures text { IsTrue result → IsTextShort (value_of_command command.now) }
+    ensures area { IsTrue result → IsAreaInName (value_of_command command.now) }
+    ensures rest { IsTrue result → IsRestShort (value_of_command command.now) }
 {
     match command {
         Command::Special(text) => text.len() <= 0x7fff_ffff,

@@ -1,6 +1,6 @@
 //! Exit statuses.
 ghost use Rattle.std.specs.Prelude.{◌≡◌};
-ghost use Rattle.dvi_run.specs.Endings.{seen_ending, status_of, with_notes};
+ghost use Rattle.dvi_run.specs.Endings.{value_of_ending, status_of, with_notes};
 
 use super::Ending;
 use vf_expand::PageFault;
@@ -8,7 +8,7 @@ use vf_expand::PageFault;
 impl Ending {
     /// The exit status, by whether the notes took the report.
     pub fn status(&self, taken: bool) -> u8
-        ensures { result ≡ status_of (with_notes (seen_ending self.now) taken) }
+        ensures { result ≡ status_of (with_notes (value_of_ending self.now) taken) }
     {
         match self {
             Ending::Written => if taken { 0 } else { 8 },

@@ -12,14 +12,14 @@ fn command_name(fault: CommandFault) -> Name
     ensures { name_text result ≡ codes "command " ++ command_text fault }
 {
     match fault {
-        CommandFault::Short => Name::plain(b"command short"),
+        CommandFault::Short => Name::text_only(b"command short"),
         CommandFault::Undefined(opcode) => {
             Name::numbered(b"command undefined ", i64::from(opcode))
         }
         CommandFault::Misplaced(opcode) => {
             Name::numbered(b"command misplaced ", i64::from(opcode))
         }
-        CommandFault::NegativeLength => Name::plain(b"command negative length"),
+        CommandFault::NegativeLength => Name::text_only(b"command negative length"),
     }
 }
 
@@ -27,7 +27,7 @@ fn command_name(fault: CommandFault) -> Name
 fn field_name(field: PostField) -> Name
     ensures { name_text result ≡ codes "postamble " ++ field_text field }
 {
-    Name::plain(match field {
+    Name::text_only(match field {
         PostField::Pointer => b"postamble pointer",
         PostField::Num => b"postamble num",
         PostField::Den => b"postamble den",
@@ -41,23 +41,23 @@ pub fn doc_name(fault: &DocFault) -> Name
     ensures { name_text result ≡ doc_text fault.now }
 {
     match *fault {
-        DocFault::Truncated { .. } => Name::plain(b"truncated"),
-        DocFault::Preamble { .. } => Name::plain(b"preamble"),
+        DocFault::Truncated { .. } => Name::text_only(b"truncated"),
+        DocFault::Preamble { .. } => Name::text_only(b"preamble"),
         DocFault::Command { fault, .. } => command_name(fault),
-        DocFault::BackPointer { .. } => Name::plain(b"back pointer"),
+        DocFault::BackPointer { .. } => Name::text_only(b"back pointer"),
         DocFault::FontClash { number, .. } => Name::numbered(b"font clash ", i64::from(number)),
         DocFault::Postamble { field, .. } => field_name(field),
-        DocFault::Trailer { .. } => Name::plain(b"trailer"),
+        DocFault::Trailer { .. } => Name::text_only(b"trailer"),
         DocFault::FontDef { number, .. } => {
             Name::numbered(b"font definition ", i64::from(number))
         }
-        DocFault::Scale { .. } => Name::plain(b"scale"),
-        DocFault::TooManyPages { .. } => Name::plain(b"too many pages"),
-        DocFault::TooLong { .. } => Name::plain(b"too long"),
+        DocFault::Scale { .. } => Name::text_only(b"scale"),
+        DocFault::TooManyPages { .. } => Name::text_only(b"too many pages"),
+        DocFault::TooLong { .. } => Name::text_only(b"too long"),
     }
 }
 
-/// The byte of the document where a fault stands.
+/// The byte of the document where a fault is.
 pub fn place(fault: &DocFault) -> usize
     ensures { result ≡ doc_place fault.now }
 {

@@ -15,11 +15,11 @@ fn tfm_name(fault: TfmFault) -> Name
     ensures { name_text result ≡ codes "tfm " ++ tfm_text fault }
 {
     match fault {
-        TfmFault::Short => Name::plain(b"tfm short"),
-        TfmFault::Counts => Name::plain(b"tfm counts"),
+        TfmFault::Short => Name::text_only(b"tfm short"),
+        TfmFault::Counts => Name::text_only(b"tfm counts"),
         TfmFault::WidthIndex(code) => Name::numbered(b"tfm width index ", i64::from(code)),
         TfmFault::WidthByte(index) => Name::numbered(b"tfm width byte ", i64::from(index)),
-        TfmFault::WidthZero => Name::plain(b"tfm width zero"),
+        TfmFault::WidthZero => Name::text_only(b"tfm width zero"),
     }
 }
 
@@ -44,12 +44,12 @@ fn pk_name(fault: PkFault) -> Name
     ensures { name_text result ≡ codes "pk " ++ pk_text fault }
 {
     match fault {
-        PkFault::Short => Name::plain(b"pk short"),
-        PkFault::Preamble => Name::plain(b"pk preamble"),
+        PkFault::Short => Name::text_only(b"pk short"),
+        PkFault::Preamble => Name::text_only(b"pk preamble"),
         PkFault::Undefined(opcode) => Name::numbered(b"pk undefined ", i64::from(opcode)),
         PkFault::TooBig(code) => Name::numbered(b"pk too big ", i64::from(code)),
         PkFault::Runs(code, fault) => raster_name(code, fault),
-        PkFault::FontTooBig => Name::plain(b"pk font too big"),
+        PkFault::FontTooBig => Name::text_only(b"pk font too big"),
         PkFault::Length(code) => Name::numbered(b"pk length ", i64::from(code)),
     }
 }
@@ -58,7 +58,7 @@ fn pk_name(fault: PkFault) -> Name
 fn missing_name(kind: FileKind) -> Name
     ensures { name_text result ≡ codes "missing " ++ kind_text kind }
 {
-    Name::plain(match kind {
+    Name::text_only(match kind {
         FileKind::Tfm => b"missing tfm",
         FileKind::Vf => b"missing vf",
         FileKind::Pk => b"missing pk",
@@ -69,7 +69,7 @@ fn missing_name(kind: FileKind) -> Name
 fn too_long_name(kind: FileKind) -> Name
     ensures { name_text result ≡ codes "too long " ++ kind_text kind }
 {
-    Name::plain(match kind {
+    Name::text_only(match kind {
         FileKind::Tfm => b"too long tfm",
         FileKind::Vf => b"too long vf",
         FileKind::Pk => b"too long pk",
@@ -85,8 +85,8 @@ pub fn font_name(fault: FontFault) -> Name
         FontFault::Tfm(fault) => tfm_name(fault),
         FontFault::Vf(fault) => vf_name(fault),
         FontFault::Pk(fault) => pk_name(fault),
-        FontFault::Name => Name::plain(b"name"),
-        FontFault::Size => Name::plain(b"size"),
+        FontFault::Name => Name::text_only(b"name"),
+        FontFault::Size => Name::text_only(b"size"),
         FontFault::TooLong(kind) => too_long_name(kind),
     }
 }

@@ -18,7 +18,7 @@ pub struct Name {
 
 impl Name {
     /// A text alone.
-    pub fn plain(text: &'static [u8]) -> Name
+    pub fn text_only(text: &'static [u8]) -> Name
         ensures { name_text result ≡ text.now }
     {
         Name {

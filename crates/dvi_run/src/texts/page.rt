@@ -1,7 +1,7 @@
 //! The faults of a page in words.
 ghost use Rattle.std.specs.Prelude.{◌≡◌, ◌++◌, codes};
 ghost use Rattle.std.specs.Fmt.{signed_decimal};
-ghost use Rattle.vf_expand.specs.Faults.{seen_fault};
+ghost use Rattle.vf_expand.specs.Faults.{value_of_fault};
 ghost use Rattle.vf_expand.specs.Faults as page;
 ghost use Rattle.run_report.specs.Keys.{key_text};
 ghost use Rattle.run_report.specs.Puts.{Puts};
@@ -86,7 +86,7 @@ fn put_font<N: Output>(gather: &mut Gather, notes: &mut N, key: &FontKey, fault:
 /// Puts what is wrong with a page.
 pub fn put_fault<N: Output>(gather: &mut Gather, notes: &mut N, fault: &PageFault)
     ensures { Puts gather.old gather.new (N.written notes.old) (N.written notes.new)
-        (N.faults notes.old) (N.faults notes.new) (fault_text (seen_fault fault.now)) }
+        (N.faults notes.old) (N.faults notes.new) (fault_text (value_of_fault fault.now)) }
 {
     match fault {
         PageFault::NoFont(number) => put_undefined(gather, notes, *number),

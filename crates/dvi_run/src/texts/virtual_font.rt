@@ -33,8 +33,8 @@ pub fn vf_name(fault: VfFault) -> Name
     ensures { name_text result ≡ codes "vf " ++ vf_text fault }
 {
     match fault {
-        VfFault::Short => Name::plain(b"vf short"),
-        VfFault::Preamble => Name::plain(b"vf preamble"),
+        VfFault::Short => Name::text_only(b"vf short"),
+        VfFault::Preamble => Name::text_only(b"vf preamble"),
         VfFault::Misplaced(opcode) => Name::numbered(b"vf misplaced ", i64::from(opcode)),
         VfFault::Packet(code, fault) => packet_name(code, fault),
         VfFault::Unbalanced(code) => Name::numbered(b"vf unbalanced ", i64::from(code)),

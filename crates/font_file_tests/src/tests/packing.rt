@@ -1,4 +1,5 @@
-//! Rasters and what they are packed into, worked out apart from this program by the rules of PKtype.
+//! Rasters and what they are packed into, worked out apart from this program, by the rules of
+//! PKtype.
 
 use pk_packer::pack;
 use pk_runs::{RunStop, raster};

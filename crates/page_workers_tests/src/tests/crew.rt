@@ -34,11 +34,15 @@ pub fn black_page(alloc: Global, width: u8, height: u8) -> Result<Page, Fail> {
 }
 
 // Gives a worker black pages of these sides as paper.
-fn give_paper(alloc: Global, worker: &mut Worker<Planned>, paper: &[(u8, u8)]) -> Result<(), Fail>
+fn give_spare_pages(
+    alloc: Global,
+    worker: &mut Worker<Planned>,
+    spare_pages: &[(u8, u8)],
+) -> Result<(), Fail>
     requires { IsUnused worker.old }
     ensures { IsUnused worker.new }
 {
-    for &(width, height) in paper {
+    for &(width, height) in spare_pages {
         worker.give_back(black_page(alloc, width, height)?);
     }
     Ok(())
@@ -67,7 +71,7 @@ pub fn crew(
     alloc: Global,
     count: usize,
     plan: Plan,
-    paper: &[(u8, u8)],
+    spare_pages: &[(u8, u8)],
 ) -> Result<Vec<Worker<Planned>>, Fail>
     ensures count { IfOk result (λ workers. length workers.items ≡ count) }
     ensures unused { IfOk result (λ workers. All IsUnused workers.items) }
@@ -77,7 +81,7 @@ pub fn crew(
     let mut workers = Vec::new(alloc);
     for _i in 0..count {
         let mut worker = new_worker(alloc, &library, &begun, plan)?;
-        give_paper(alloc, &mut worker, paper)?;
+        give_spare_pages(alloc, &mut worker, spare_pages)?;
         workers.push(worker)?;
     }
     Ok(workers)

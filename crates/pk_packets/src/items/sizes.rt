@@ -1,8 +1,8 @@
 //! How long an item is.
 ghost use Rattle.std.specs.Prelude.{◌≡◌, ◌≤◌, ◌<◌, ◌+◌, IfErr, IfOk, OnOk, length};
-ghost use Rattle.byte_cursor.specs.Cursor.{after, left};
+ghost use Rattle.byte_cursor.specs.Cursor.{cursor_after, bytes_left};
 ghost use Rattle.pk_packets.specs.Faults.{IsItemFault};
-ghost use Rattle.pk_packets.specs.Items.{code_size, count_size, item_size, opcode, told_size};
+ghost use Rattle.pk_packets.specs.Items.{code_size, count_size, item_size, opcode, given_size};
 ghost use Rattle.pk_packets.specs.declared.faults.PkFault.TheVariants as fault;
 
 use crate::PkFault;
@@ -22,19 +22,20 @@ pub fn item_size(rest: &[u8]) -> Result<usize, PkFault>
     if op > NO_OP {
         return Err(PkFault::Undefined(op));
     }
-    let told = told_size(&mut cursor, op)?;
-    cursor.take(told)?;
+    let given = given_size(&mut cursor, op)?;
+    cursor.take(given)?;
     Ok(cursor.at())
 }
 
 // How many bytes follow after the head of an item, of which the opcode was read.
-fn told_size(cursor: &mut Cursor, op: u8) -> Result<usize, PkFault>
+fn given_size(cursor: &mut Cursor, op: u8) -> Result<usize, PkFault>
     requires place { cursor.old.at ≡ 1 }
     requires opcode { op ≡ opcode cursor.old.bytes }
-    ensures told { IfOk result (λ told. told ≡ told_size cursor.old.bytes) }
-    ensures moved { OnOk result (cursor.new ≡ after cursor.old (count_size op + code_size op)) }
+    ensures given { IfOk result (λ given. given ≡ given_size cursor.old.bytes) }
+    ensures moved { OnOk result (cursor.new ≡ cursor_after cursor.old
+        (count_size op + code_size op)) }
     ensures short { IfErr result (λ f. f ≡ fault.Short) }
-    ensures cut { IfErr result (λ _. left cursor.old < count_size op + code_size op) }
+    ensures cut { IfErr result (λ _. bytes_left cursor.old < count_size op + code_size op) }
 {
     if op < SPECIAL {
         return packet_length(cursor, op);
@@ -50,10 +51,11 @@ fn packet_length(cursor: &mut Cursor, flag: u8) -> Result<usize, PkFault>
     requires place { cursor.old.at ≡ 1 }
     requires opcode { flag ≡ opcode cursor.old.bytes }
     requires packet { flag < 240 }
-    ensures told { IfOk result (λ told. told ≡ told_size cursor.old.bytes) }
-    ensures moved { OnOk result (cursor.new ≡ after cursor.old (count_size flag + code_size flag)) }
+    ensures given { IfOk result (λ given. given ≡ given_size cursor.old.bytes) }
+    ensures moved { OnOk result (cursor.new ≡ cursor_after cursor.old
+        (count_size flag + code_size flag)) }
     ensures short { IfErr result (λ f. f ≡ fault.Short) }
-    ensures cut { IfErr result (λ _. left cursor.old < count_size flag + code_size flag) }
+    ensures cut { IfErr result (λ _. bytes_left cursor.old < count_size flag + code_size flag) }
 {
     let form = Form::of(flag);
     let count = cursor.unsigned(form.count)?;

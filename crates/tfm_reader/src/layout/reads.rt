@@ -57,7 +57,7 @@ fn are_right(c: &Counts) -> bool
         && c.words == 6 + c.header + (c.last + 1 - c.first) + c.widths + c.others
 }
 
-/// The places that the counts tell, or what is wrong with the counts.
+/// The places that follow from the counts, or what is wrong with the counts.
 pub fn places(bytes: &[u8]) -> Result<Layout, TfmFault>
     ensures places { IfOk result (λ layout. IsLayoutOf layout bytes.now) }
     ensures right { OnOk result (counts_fault bytes.now ≡ None) }

@@ -1,8 +1,8 @@
 //! How long an item is.
 ghost use Rattle.std.specs.Prelude.{◌≡◌, ◌≤◌, ◌<◌, ◌+◌, ◌≢◌, IfErr, IfOk, OnOk, length};
-ghost use Rattle.byte_cursor.specs.Cursor.{after, left};
+ghost use Rattle.byte_cursor.specs.Cursor.{cursor_after, bytes_left};
 ghost use Rattle.vf_reader.specs.Faults.{IsItemFault};
-ghost use Rattle.vf_reader.specs.Items.{head_size, item_size, opcode, told_size};
+ghost use Rattle.vf_reader.specs.Items.{head_size, item_size, opcode, given_size};
 ghost use Rattle.vf_reader.specs.declared.faults.VfFault.TheVariants as fault;
 
 use crate::VfFault;
@@ -22,17 +22,17 @@ pub fn item_size(rest: &[u8]) -> Result<usize, VfFault>
     if op > LAST_LOCAL {
         return Err(VfFault::Misplaced(op));
     }
-    let told = told_size(&mut cursor, op)?;
-    cursor.take(told)?;
+    let given = given_size(&mut cursor, op)?;
+    cursor.take(given)?;
     Ok(cursor.at())
 }
 
 // How many bytes follow after the head of an item, of which the opcode was read.
-fn told_size(cursor: &mut Cursor, op: u8) -> Result<usize, VfFault>
+fn given_size(cursor: &mut Cursor, op: u8) -> Result<usize, VfFault>
     requires place { cursor.old.at ≡ 1 }
     requires opcode { op ≡ opcode cursor.old.bytes }
     requires known { op ≤ 246 }
-    ensures told { IfOk result (λ told. told ≡ told_size cursor.old.bytes) }
+    ensures given { IfOk result (λ given. given ≡ given_size cursor.old.bytes) }
     ensures moved { OnOk result
         (cursor.new ≡ record { bytes = cursor.old.bytes; at = head_size op }) }
     ensures short { IfErr result (λ f. f ≡ fault.Short) }
@@ -56,7 +56,7 @@ fn local_name_size(cursor: &mut Cursor, op: u8) -> Result<usize, VfFault>
     requires opcode { op ≡ opcode cursor.old.bytes }
     requires definition { 243 ≤ op }
     requires known { op ≤ 246 }
-    ensures told { IfOk result (λ told. told ≡ told_size cursor.old.bytes) }
+    ensures given { IfOk result (λ given. given ≡ given_size cursor.old.bytes) }
     ensures moved { OnOk result
         (cursor.new ≡ record { bytes = cursor.old.bytes; at = head_size op }) }
     ensures short { IfErr result (λ f. f ≡ fault.Short) }

@@ -8,7 +8,7 @@ use Rattle.command_line.proofs.command.command.Goals as goal
 pub returns : goal.returns
 returns c =
     let number = λ (name : List ℕ) (a : App). with_number a name in
-    let e1 = c.in_ok-command.ensures ∙ ap (number (codes "res")) c.plain-command.ensures in
+    let e1 = c.in_ok-command.ensures ∙ ap (number (codes "res")) c.command_without_options-command.ensures in
     let e2 = c.in_ok-command-2.ensures ∙ ap (number (codes "width")) e1 in
     let e3 = c.in_ok-command-3.ensures ∙ ap (number (codes "height")) e2 in
     let e4 = c.in_ok-command-4.ensures ∙ ap (number (codes "left")) e3 in

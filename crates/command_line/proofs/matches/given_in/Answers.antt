@@ -3,25 +3,25 @@ use Rattle.std.proofs.Common.{◌≡◌, ◌∙◌, refl, ap, ℕ, true, false, 
 use Rattle.std.proofs.Common.{None, codes}
 use Rattle.std.specs.Prelude.{find, option_map}
 use Rattle.std.specs.Str.Parse.{digits_value}
-use Rattle.pixel_round.specs.Limits.{HIGHEST_RESOLUTION}
-use Rattle.raster_page.specs.Limits.{LONGEST_PAGE_SIDE}
+use Rattle.pixel_round.specs.Limits.{MAX_RESOLUTION}
+use Rattle.raster_page.specs.Limits.{MAX_PAGE_SIDE}
 use Rattle.command_line.specs.Line.{Text, Use, is_named, is_used, number_of}
 use Rattle.command_line.proofs.matches.given_in.Goals as goal
 
 pub number-requires : goal.number-requires
-number-requires c v = c.requires.1.digits (codes "res") (1, HIGHEST_RESOLUTION) v refl
+number-requires c v = c.requires.1.digits (codes "res") (1, MAX_RESOLUTION) v refl
 
 pub number-requires-2 : goal.number-requires-2
-number-requires-2 c v = c.requires.1.digits (codes "width") (1, LONGEST_PAGE_SIDE) v refl
+number-requires-2 c v = c.requires.1.digits (codes "width") (1, MAX_PAGE_SIDE) v refl
 
 pub number-requires-3 : goal.number-requires-3
-number-requires-3 c v = c.requires.1.digits (codes "height") (1, LONGEST_PAGE_SIDE) v refl
+number-requires-3 c v = c.requires.1.digits (codes "height") (1, MAX_PAGE_SIDE) v refl
 
 pub number-requires-4 : goal.number-requires-4
-number-requires-4 c v = c.requires.1.digits (codes "left") (0, LONGEST_PAGE_SIDE) v refl
+number-requires-4 c v = c.requires.1.digits (codes "left") (0, MAX_PAGE_SIDE) v refl
 
 pub number-requires-5 : goal.number-requires-5
-number-requires-5 c v = c.requires.1.digits (codes "top") (0, LONGEST_PAGE_SIDE) v refl
+number-requires-5 c v = c.requires.1.digits (codes "top") (0, MAX_PAGE_SIDE) v refl
 
 pub number-requires-6 : goal.number-requires-6
 number-requires-6 c v = c.requires.1.digits (codes "workers") (1, 32) v refl
@@ -57,15 +57,15 @@ switch_read used flag text e on off = go used e
 pub returns : goal.returns
 returns c us reads =
     let res = number_read (codes "res") us _ _ c.number.ensures
-    (reads.number (codes "res") (1, HIGHEST_RESOLUTION) refl) in
+    (reads.number (codes "res") (1, MAX_RESOLUTION) refl) in
     let width = number_read (codes "width") us _ _ c.number-2.ensures
-    (reads.number (codes "width") (1, LONGEST_PAGE_SIDE) refl) in
+    (reads.number (codes "width") (1, MAX_PAGE_SIDE) refl) in
     let height = number_read (codes "height") us _ _ c.number-3.ensures
-    (reads.number (codes "height") (1, LONGEST_PAGE_SIDE) refl) in
+    (reads.number (codes "height") (1, MAX_PAGE_SIDE) refl) in
     let left = number_read (codes "left") us _ _ c.number-4.ensures
-    (reads.number (codes "left") (0, LONGEST_PAGE_SIDE) refl) in
+    (reads.number (codes "left") (0, MAX_PAGE_SIDE) refl) in
     let top = number_read (codes "top") us _ _ c.number-5.ensures
-    (reads.number (codes "top") (0, LONGEST_PAGE_SIDE) refl) in
+    (reads.number (codes "top") (0, MAX_PAGE_SIDE) refl) in
     let workers = number_read (codes "workers") us _ _ c.number-6.ensures
     (reads.number (codes "workers") (1, 32) refl) in
     let cache = number_read (codes "cache") us _ _ c.number-7.ensures

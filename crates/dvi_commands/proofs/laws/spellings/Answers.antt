@@ -1,5 +1,5 @@
 use Rattle.dvi_commands.proofs.Prefix.{no_spelling_begins_another, no_spelling_is_a_proper_prefix}
-use Rattle.dvi_commands.proofs.Told.{spelling_tells_the_command}
+use Rattle.dvi_commands.proofs.Determined.{spelling_determines_the_command}
 use Rattle.dvi_commands.proofs.Refusals.{spelled_is_not_refused}
 use Rattle.dvi_commands.proofs.Unrefused.{unrefused_is_spelled}
 use Rattle.dvi_commands.proofs.laws.spellings.Goals as goal
@@ -7,8 +7,8 @@ use Rattle.dvi_commands.proofs.laws.spellings.Goals as goal
 pub returns-clause-apart : goal.returns-clause-apart
 returns-clause-apart c = no_spelling_begins_another
 
-pub returns-clause-told : goal.returns-clause-told
-returns-clause-told c = spelling_tells_the_command
+pub returns-clause-determined : goal.returns-clause-determined
+returns-clause-determined c = spelling_determines_the_command
 
 pub returns-clause-accepted : goal.returns-clause-accepted
 returns-clause-accepted c = spelled_is_not_refused

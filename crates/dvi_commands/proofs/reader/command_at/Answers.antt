@@ -1,5 +1,5 @@
 use Rattle.std.proofs.Common.{◌<◌, length, drop, arith, length-drop}
-use Rattle.dvi_commands.specs.Spelling.{seen}
+use Rattle.dvi_commands.specs.Spelling.{value_of_command}
 use Rattle.dvi_commands.proofs.Commands.{commands_on, never_refused, placed_on, reads_on}
 use Rattle.dvi_commands.proofs.reader.command_at.Goals as goal
 
@@ -12,7 +12,7 @@ pub returns-clause-readable : goal.returns-clause-readable
 returns-clause-readable c = reads_on c.args.context c.args.bytes.now c.args.at c.in-Ok.read.1 _ c.in-Ok.ensures.place.0 c.in-Ok.ensures.read c.requires.readable
 
 pub returns-clause-placed : goal.returns-clause-placed
-returns-clause-placed c start = placed_on c.args.bytes.now c.args.at c.in-Ok.read.1 start (seen c.in-Ok.read.0) c.in-Ok.ensures.place.0 c.in-Ok.ensures.place.1 c.in-Ok.ensures.read
+returns-clause-placed c start = placed_on c.args.bytes.now c.args.at c.in-Ok.read.1 start (value_of_command c.in-Ok.read.0) c.in-Ok.ensures.place.0 c.in-Ok.ensures.place.1 c.in-Ok.ensures.read
 
 pub returns-clause-commands : goal.returns-clause-commands
-returns-clause-commands c = commands_on c.args.bytes.now c.args.at c.in-Ok.read.1 (seen c.in-Ok.read.0) c.in-Ok.ensures.place.0 c.in-Ok.ensures.read
+returns-clause-commands c = commands_on c.args.bytes.now c.args.at c.in-Ok.read.1 (value_of_command c.in-Ok.read.0) c.in-Ok.ensures.place.0 c.in-Ok.ensures.read

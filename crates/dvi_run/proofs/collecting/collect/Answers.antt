@@ -3,7 +3,7 @@ use Rattle.page_workers.specs.declared.worker.PageResult.{PageResult}
 use Rattle.page_workers.specs.declared.worker.Worker.{Worker}
 use Rattle.dvi_run.specs.Rounds.{SameBut}
 use Rattle.dvi_run.specs.Stacks.{AreResults, HasOnTop}
-use Rattle.dvi_run.proofs.Collected.{CollectedTo, collected, none_collected, step_none, step_some}
+use Rattle.dvi_run.proofs.CollectedResults.{CollectedTo, collected, none_collected, step_none, step_some}
 use Rattle.dvi_run.proofs.collecting.collect.Goals as goal
 
 pub loop-i-init : goal.loop-i-init

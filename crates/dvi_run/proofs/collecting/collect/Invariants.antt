@@ -1,6 +1,6 @@
 use Rattle.std.proofs.Common.{◌≡◌, ℕ, ◌≤◌, ◌+◌, length, vec_len, vec_capacity}
 use Rattle.dvi_run.specs.Stacks.{AreResults}
-use Rattle.dvi_run.proofs.Collected.{CollectedTo}
+use Rattle.dvi_run.proofs.CollectedResults.{CollectedTo}
 use Rattle.dvi_run.proofs.collecting.collect.Given as goal
 
 abbrev pub invariant-loop-i : goal.invariant-loop-i

@@ -1,5 +1,5 @@
 use Rattle.std.proofs.Common.{◌≡◌, ℕ, ◌+◌, ◌<◌, ◌≤◌, ◌++◌, List, [], length, get_or, subst, sym, ap, ◌∙◌, arith, rules}
-use Rattle.dvi_run.proofs.Rounded.{are_results}
+use Rattle.dvi_run.proofs.RoundResults.{are_results}
 use Rattle.dvi_run.proofs.rounds.draw_stack.Goals as goal
 
 pub returns-clause-drawn : goal.returns-clause-drawn

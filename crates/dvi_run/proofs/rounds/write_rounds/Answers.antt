@@ -9,18 +9,18 @@ use Rattle.page_draw.specs.Values.{PageValue}
 use Rattle.page_workers.specs.Rounds.{HasBitmap}
 use Rattle.page_workers.specs.declared.worker.PageResult.{PageResult}
 use Rattle.page_workers.specs.declared.worker.Worker.{Worker}
-use Rattle.dvi_run.specs.Endings.{EndingSeen, EndsPages, Source, Written, ending_at}
+use Rattle.dvi_run.specs.Endings.{EndingValue, EndsPages, Source, Written, ending_at}
 use Rattle.dvi_run.specs.Laws.{good}
-use Rattle.dvi_run.specs.Looked.{IsDrawnThrough}
+use Rattle.dvi_run.specs.Looked.{EveryPageCameToItsEnd}
 use Rattle.dvi_run.specs.Pages.{AreValues}
 use Rattle.dvi_run.specs.Rounds.{site}
-use Rattle.dvi_run.specs.Shares.{DrewShares}
+use Rattle.dvi_run.specs.Shares.{WorkersDrew}
 use Rattle.dvi_run.specs.Stacks.{DrewStack, HasFewDots, StoppedAhead, WroteUpTo, WroteWhole}
-use Rattle.dvi_run.specs.Tally.{IsTally}
-use Rattle.dvi_run.proofs.AtHand.{AtHand, IsCount, SomeFailed, is_count, may_draw, next_at_hand, nothing_at_hand}
-use Rattle.dvi_run.proofs.Hands.{all_of, ends_up_to, few_on_stack, good_whole, in_reverse, inside_hand, to_reverse, wrote_whole}
-use Rattle.dvi_run.proofs.Over.{Over, ends_ahead, over_ahead, over_here, over_written}
-use Rattle.dvi_run.proofs.Written.{IsWrittenTo, ends_written, written_none}
+use Rattle.dvi_run.specs.Tally.{TallyMatches}
+use Rattle.dvi_run.proofs.RoundsInProgress.{RoundInProgress, IsCount, SomeFailed, is_count, may_draw, next_at_hand, nothing_at_hand}
+use Rattle.dvi_run.proofs.ResultsToWrite.{all_of, ends_up_to, few_on_stack, good_whole, in_reverse, inside_hand, to_reverse, wrote_whole}
+use Rattle.dvi_run.proofs.WorkersAfterRounds.{WorkersAfterRounds, ends_ahead, over_ahead, over_here, over_written}
+use Rattle.dvi_run.proofs.PagesWritten.{IsWrittenTo, ends_written, written_none}
 use Rattle.dvi_run.proofs.rounds.write_rounds.Goals.{then-loop-first-test+else-have_bitmaps, else-loop-first-test}
 use Rattle.dvi_run.proofs.rounds.write_rounds.Goals as goal
 
@@ -30,11 +30,11 @@ good_on stack all r has = All-contains HasBitmap stack r all (in_reverse stack r
 
 pub loop-first-init : goal.loop-first-init
 loop-first-init g c =
-    let s = site g.F.FontSource.library g.F.FontSource.faults g.F.FontSource.loads c.args.job.now.bench.now g.told c.args.job.now.index.now c.args.job.now.sheet.now in
+    let s = site g.F.FontSource.library g.F.FontSource.faults g.F.FontSource.loads c.args.job.now.bench.now g.known c.args.job.now.index.now c.args.job.now.sheet.now in
     let xs = c.args.workers.now in
     let q = c.requires.1.1.1.1.1 in
     record {
-      hand = subst (λ (l : List PageResult). AtHand s (length xs) xs xs 0 0 (reverse l)) (sym c.new.ensures.items) (nothing_at_hand s (length xs) xs q.1.1);
+      hand = subst (λ (l : List PageResult). RoundInProgress s (length xs) xs xs 0 0 (reverse l)) (sym c.new.ensures.items) (nothing_at_hand s (length xs) xs q.1.1);
       written = written_none s.given s.reading (g.O.Output.written c.args.out.now) c.args.counted;
       counted = refl;
       black = omega arith;
@@ -43,7 +43,7 @@ loop-first-init g c =
 
 pub write_and_draw-requires-after_bounds : goal.write_and_draw-requires-after_bounds
 write_and_draw-requires-after_bounds g c κs within =
-    let s = site g.F.FontSource.library g.F.FontSource.faults g.F.FontSource.loads c.args.job.now.bench.now g.told c.args.job.now.index.now c.args.job.now.sheet.now in
+    let s = site g.F.FontSource.library g.F.FontSource.faults g.F.FontSource.loads c.args.job.now.bench.now g.known c.args.job.now.index.now c.args.job.now.sheet.now in
     let xs = c.args.workers.now in
     let n = length xs in
     let q = c.requires.1.1.1.1.1 in
@@ -67,7 +67,7 @@ write_and_draw-requires-after_bounds g c κs within =
 
 pub invariant_of-press : goal.invariant_of-press
 invariant_of-press g c =
-    let s = site g.F.FontSource.library g.F.FontSource.faults g.F.FontSource.loads c.args.job.now.bench.now g.told c.args.job.now.index.now c.args.job.now.sheet.now in
+    let s = site g.F.FontSource.library g.F.FontSource.faults g.F.FontSource.loads c.args.job.now.bench.now g.known c.args.job.now.index.now c.args.job.now.sheet.now in
     let xs = c.args.workers.now in
     let hand = c.loop-first.invariant.hand in
     let stack = c.loop-first.press.0.items in
@@ -79,7 +79,7 @@ invariant_of-press g c =
 
 pub invariant_of-press-2 : goal.invariant_of-press-2
 invariant_of-press-2 g c =
-    let s = site g.F.FontSource.library g.F.FontSource.faults g.F.FontSource.loads c.args.job.now.bench.now g.told c.args.job.now.index.now c.args.job.now.sheet.now in
+    let s = site g.F.FontSource.library g.F.FontSource.faults g.F.FontSource.loads c.args.job.now.bench.now g.known c.args.job.now.index.now c.args.job.now.sheet.now in
     let xs = c.args.workers.now in
     let hand = c.loop-first.invariant.hand in
     let stack = c.loop-first.press.0.items in
@@ -98,7 +98,7 @@ invariant_of-press-2 g c =
 
 pub loop-first-preserved : goal.loop-first-preserved
 loop-first-preserved g c =
-    let s = site g.F.FontSource.library g.F.FontSource.faults g.F.FontSource.loads c.args.job.now.bench.now g.told c.args.job.now.index.now c.args.job.now.sheet.now in
+    let s = site g.F.FontSource.library g.F.FontSource.faults g.F.FontSource.loads c.args.job.now.bench.now g.known c.args.job.now.index.now c.args.job.now.sheet.now in
     let xs = c.args.workers.now in
     let n = length xs in
     let q = c.requires.1.1.1.1.1 in
@@ -116,22 +116,22 @@ loop-first-preserved g c =
     let sized : IsCount n next (pages_begun c.args.job.now.index.now.reading) c.min-count.result =
     subst (λ (m : ℕ). IsCount n next m c.min-count.result) pages (is_count n next c.pages-pages.result c.round_size-most.result c.min-count.result c.min-count.ensures c.loop-first-test.true most.some most.few most.alone most.several) in
     let all : All HasBitmap stack = subst (λ (l : List PageResult). All HasBitmap l) c.deref.ensures.value (c.if-have_bitmaps.ensures.0 refl) in
-    let went = c.in-Ok.ensures in
+    let answers = c.in-Ok.ensures in
     let mid = g.O.Output.written c.loop-first.out in
     let new = g.O.Output.written c.write_and_draw.new.out in
-    let written : WroteWhole c.args.counted mid new (reverse stack) t u = subst (λ (b : Bool). WroteWhole b mid new (reverse stack) t u) inv.counted went.written in
+    let written : WroteWhole c.args.counted mid new (reverse stack) t u = subst (λ (b : Bool). WroteWhole b mid new (reverse stack) t u) inv.counted answers.written in
     record {
-      hand = next_at_hand s n xs q.1.1 ws next t.pages c.min-count.result (reverse stack) inv.hand (good_on stack all) now c.in-Ok.later.items went.drawn long
-          (λ k d lt. went.no_counter k d (subst (λ (m : ℕ). k < m) (sym (same ∙ long)) lt)) sized u.pages went.written.pages_are;
+      hand = next_at_hand s n xs q.1.1 ws next t.pages c.min-count.result (reverse stack) inv.hand (good_on stack all) now c.in-Ok.later.items answers.drawn long
+          (λ k d lt. answers.no_counter k d (subst (λ (m : ℕ). k < m) (sym (same ∙ long)) lt)) sized u.pages answers.written.pages_are;
       written = wrote_whole s.given s.reading (SomeFailed s n xs ws) (g.O.Output.written c.args.out.now) c.args.counted (reverse stack) mid new t u inv.hand.held written inv.written;
-      counted = went.counted ∙ inv.counted;
+      counted = answers.counted ∙ inv.counted;
       black = c.write_and_draw.new.press.black;
-      output = omega (arith, inv.output, went.output);
+      output = omega (arith, inv.output, answers.output);
     }
 
 pub returns-in-Err : goal.returns-in-Err
 returns-in-Err g c =
-    let s = site g.F.FontSource.library g.F.FontSource.faults g.F.FontSource.loads c.args.job.now.bench.now g.told c.args.job.now.index.now c.args.job.now.sheet.now in
+    let s = site g.F.FontSource.library g.F.FontSource.faults g.F.FontSource.loads c.args.job.now.bench.now g.known c.args.job.now.index.now c.args.job.now.sheet.now in
     let xs = c.args.workers.now in
     let n = length xs in
     let q = c.requires.1.1.1.1.1 in
@@ -150,7 +150,7 @@ returns-in-Err g c =
     let sized : IsCount n next (pages_begun c.args.job.now.index.now.reading) c.min-count.result =
     subst (λ (m : ℕ). IsCount n next m c.min-count.result) pages (is_count n next c.pages-pages.result c.round_size-most.result c.min-count.result c.min-count.ensures c.loop-first-test.true most.some most.few most.alone most.several) in
     let all : All HasBitmap stack = subst (λ (l : List PageResult). All HasBitmap l) c.deref.ensures.value (c.if-have_bitmaps.ensures.0 refl) in
-    let went = c.in-Err.ensures in
+    let answers = c.in-Err.ensures in
     let old = g.O.Output.written c.args.out.now in
     let mid = g.O.Output.written c.loop-first.out in
     let new = g.O.Output.written c.write_and_draw.new.out in
@@ -158,23 +158,23 @@ returns-in-Err g c =
     let Fails = Rose (g.O.Output.faults c.args.out.now) (g.O.Output.faults c.write_and_draw.new.out) in
     let why = c.in-Err.stop in
     let Later = DrewStack g.F.FontSource.library g.F.FontSource.faults g.F.FontSource.loads c.args.job.now.bench.now c.args.job.now.index.now c.args.job.now.sheet.now next c.min-count.result ws now in
-    let stopped : StoppedAhead Later c.args.counted mid new P (reverse stack) t u ws now why = subst (λ (b : Bool). StoppedAhead Later b mid new P (reverse stack) t u ws now why) inv.counted went.stopped in
-    let counters : (k : ℕ) (d : Worker _) → k < n → (get_or now k d).counter ≡ None = λ k d lt. went.no_counter k d (subst (λ (m : ℕ). k < m) (sym (same ∙ long)) lt) in
+    let stopped : StoppedAhead Later c.args.counted mid new P (reverse stack) t u ws now why = subst (λ (b : Bool). StoppedAhead Later b mid new P (reverse stack) t u ws now why) inv.counted answers.stopped in
+    let counters : (k : ℕ) (d : Worker _) → k < n → (get_or now k d).counter ≡ None = λ k d lt. answers.no_counter k d (subst (λ (m : ℕ). k < m) (sym (same ∙ long)) lt) in
     let over = over_ahead s n xs q.0 q.1.1 ws now next c.min-count.result (reverse stack) t u c.args.counted mid new P why inv.hand (good_on stack all) counters long sized stopped in
     let ends = ends_ahead s n xs q.0 q.1.1 ws now next c.min-count.result (reverse stack) t u c.args.counted mid new P why inv.hand (good_on stack all) counters long old Fails
-    (λ rose. rose_later (g.O.Output.faults c.args.out.now) (g.O.Output.faults c.loop-first.out) (g.O.Output.faults c.write_and_draw.new.out) inv.output rose went.output) inv.written below stopped in
-    rw c.stopped.ensures (record {
+    (λ rose. rose_later (g.O.Output.faults c.args.out.now) (g.O.Output.faults c.loop-first.out) (g.O.Output.faults c.write_and_draw.new.out) inv.output rose answers.output) inv.written below stopped in
+    rw c.ending_of_stop.ensures (record {
       ends = ends;
       whole = over.whole;
       cause = over.cause;
       shares = over.shares;
       workers = over.workers;
-      output = omega (arith, inv.output, went.output);
+      output = omega (arith, inv.output, answers.output);
     })
 
 pub returns-in-Ok-write_stack : goal.returns-in-Ok-write_stack
 returns-in-Ok-write_stack g c =
-    let s = site g.F.FontSource.library g.F.FontSource.faults g.F.FontSource.loads c.args.job.now.bench.now g.told c.args.job.now.index.now c.args.job.now.sheet.now in
+    let s = site g.F.FontSource.library g.F.FontSource.faults g.F.FontSource.loads c.args.job.now.bench.now g.known c.args.job.now.index.now c.args.job.now.sheet.now in
     let reading = c.args.job.now.index.now.reading in
     let xs = c.args.workers.now in
     let n = length xs in
@@ -190,7 +190,7 @@ returns-in-Ok-write_stack g c =
     let t = press.1.0 in
     let u = c.write_stack.new.self.tally in
     let inv = c.loop-first.invariant in
-    let hand = subst (λ p. AtHand s n xs ws next p.1.0.pages (reverse p.0.items)) (sym same) inv.hand in
+    let hand = subst (λ p. RoundInProgress s n xs ws next p.1.0.pages (reverse p.0.items)) (sym same) inv.hand in
     let so_far = subst (λ p. IsWrittenTo s.given s.reading (g.O.Output.written c.args.out.now) (g.O.Output.written c.loop-first.out) p.1.0.pages c.args.counted p.1.0.black) (sym same) inv.written in
     let counted = subst (λ p. p.1.1.0 ≡ c.args.counted) (sym same) inv.counted in
     let pages = c.pages-pages.ensures.count in
@@ -222,7 +222,7 @@ returns-in-Ok-write_stack g c =
 
 pub returns : goal.returns
 returns g c =
-    let s = site g.F.FontSource.library g.F.FontSource.faults g.F.FontSource.loads c.args.job.now.bench.now g.told c.args.job.now.index.now c.args.job.now.sheet.now in
+    let s = site g.F.FontSource.library g.F.FontSource.faults g.F.FontSource.loads c.args.job.now.bench.now g.known c.args.job.now.index.now c.args.job.now.sheet.now in
     let reading = c.args.job.now.index.now.reading in
     let xs = c.args.workers.now in
     let n = length xs in
@@ -238,7 +238,7 @@ returns g c =
     let t = press.1.0 in
     let u = c.write_stack.new.self.tally in
     let inv = c.loop-first.invariant in
-    let hand = subst (λ p. AtHand s n xs ws next p.1.0.pages (reverse p.0.items)) (sym same) inv.hand in
+    let hand = subst (λ p. RoundInProgress s n xs ws next p.1.0.pages (reverse p.0.items)) (sym same) inv.hand in
     let so_far = subst (λ p. IsWrittenTo s.given s.reading (g.O.Output.written c.args.out.now) (g.O.Output.written c.loop-first.out) p.1.0.pages c.args.counted p.1.0.black) (sym same) inv.written in
     let counted = subst (λ p. p.1.1.0 ≡ c.args.counted) (sym same) inv.counted in
     let old = g.O.Output.written c.args.out.now in
@@ -254,7 +254,7 @@ returns g c =
     let few = hand.few in
     let ends = ends_up_to s.given reading (SomeFailed s n xs ws) old c.args.counted (reverse stack) mid new t u why P hand.held up Fails
     (λ rose. rose_later (g.O.Output.faults c.args.out.now) (g.O.Output.faults c.loop-first.out) (g.O.Output.faults c.write_stack.new.out) inv.output rose c.in-Err-write_stack.ensures.output) so_far (omega (arith, i.1, reach, few)) in
-    rw c.stopped-in-Err-write_stack.ensures (record {
+    rw c.ending_of_stop-in-Err-write_stack.ensures (record {
       ends = ends;
       whole = over.whole;
       cause = over.cause;

@@ -3,14 +3,14 @@ use Rattle.std.specs.Prelude.{IfSome, is_ok}
 use Rattle.cache_core.specs.Histories.{own}
 use Rattle.cache_core.specs.Views.{calls_of}
 use Rattle.cache_core.specs.declared.calls.Call.{Call}
-use Rattle.dvi_run.specs.Endings.{TellsBy, seen_ending, status_of, with_notes}
+use Rattle.dvi_run.specs.Endings.{PrintsBy, value_of_ending, status_of, with_notes}
 use Rattle.dvi_run.specs.Report.{loads_of, report_text}
 use Rattle.dvi_run.specs.Sampled.{UsesTheSample}
 use Rattle.dvi_run.specs.Outside.{Run, Sources, Streams, Task, change_of, drawing_of}
-use Rattle.dvi_run.specs.Together.{IsOneHistory, Worked}
-use Rattle.dvi_run.proofs.Promised.{caused_at, cut_short_at, noted_at, written_at}
-use Rattle.dvi_run.proofs.Reported.{done_on, drew_on, ends_on, failed_on, report_on, sample_on, tells_on}
-use Rattle.dvi_run.proofs.Together.{ended_at}
+use Rattle.dvi_run.specs.Together.{IsOneHistory, WorkerDone}
+use Rattle.dvi_run.proofs.PromisesKept.{caused_at, cut_short_at, noted_at, written_at}
+use Rattle.dvi_run.proofs.EndAfterReport.{done_on, drew_on, ends_on, failed_on, report_on, sample_on, prints_on}
+use Rattle.dvi_run.proofs.RunOfWorkers.{ended_at}
 use Rattle.dvi_run.proofs.run.run_with.Goals as goal
 
 pub draw_asked-ending-requires : goal.draw_asked-ending-requires
@@ -28,7 +28,7 @@ returns-clause-promises g c =
     let tally = c.draw_asked-ending.result.1 in
     let workers = c.draw_asked-ending.new.workers in
     let history = calls_of c.draw_asked-ending.new.history.items in
-    let task : Task = record { settings = settings; told = g.told } in
+    let task : Task = record { settings = settings; known = g.told } in
     let streams : Streams = record {
       input = change_of g.I.Input.left g.I.Input.faults c.args.input.now c.draw_asked-ending.new.input;
       output = change_of g.O.Output.written g.O.Output.faults c.args.out.now c.draw_asked-ending.new.out;
@@ -36,25 +36,25 @@ returns-clause-promises g c =
     } in
     let sources : Sources _ = record { library = g.F.FontSource.library; faults = g.F.FontSource.faults; loads = g.F.FontSource.loads } in
     let run : Run _ = record { task = task; streams = streams; sources = sources; before = c.args.workers.now; after = workers; history = history } in
-    let is = c.status.ensures ∙ ap (λ (b : Bool). status_of (with_notes (seen_ending x) b)) c.is_ok-taken.ensures.value in
+    let is = c.status.ensures ∙ ap (λ (b : Bool). status_of (with_notes (value_of_ending x) b)) c.is_ok-taken.ensures.value in
     let ends = ends_on _ _ _ _ _ _ _ _ _ x taken end.ends in
     let done = done_on task (drawing_of run) tally x taken end.done in
     let drew = drew_on task (drawing_of run) tally x taken _ end.drew in
     let loads : c.loads_asked-loads.result ≡ loads_of settings.workers workers = c.loads_asked-loads.ensures in
     let calls : calls_of c.as_slice.result.now ≡ history = ap calls_of c.as_slice.ensures.value in
-    let report = ap₂ (λ (l : ℕ) (h : List Call). report_text settings tally l h (seen_ending x)) loads calls ∙ report_on settings tally (loads_of settings.workers workers) history x taken in
+    let report = ap₂ (λ (l : ℕ) (h : List Call). report_text settings tally l h (value_of_ending x)) loads calls ∙ report_on settings tally (loads_of settings.workers workers) history x taken in
     let start = streams.notes.before in
     let last = streams.notes.after in
-    let told = subst (λ (text : List ℕ). TellsBy (with_notes (seen_ending x) taken) start.bytes last.bytes start.faults last.faults text) report
-    (tells_on start.bytes last.bytes start.faults last.faults _ x c.print.result c.print.ensures) in
+    let printed = subst (λ (text : List ℕ). PrintsBy (with_notes (value_of_ending x) taken) start.bytes last.bytes start.faults last.faults text) report
+    (prints_on start.bytes last.bytes start.faults last.faults _ x c.print.result c.print.ensures) in
     record {
-      caused = caused_at run runs.reading runs.values runs.no_fault (with_notes (seen_ending x) taken) (failed_on _ _ _ _ _ x c.print.result c.print.ensures) ends _ is;
-      written = written_at run (with_notes (seen_ending x) taken) ends _ is;
-      ended = (with_notes (seen_ending x) taken, tally, is, ended_at run (with_notes (seen_ending x) taken) tally (noted_at run (with_notes (seen_ending x) taken) ends _ told) done drew _ is);
+      caused = caused_at run runs.reading runs.values runs.no_fault (with_notes (value_of_ending x) taken) (failed_on _ _ _ _ _ x c.print.result c.print.ensures) ends _ is;
+      written = written_at run (with_notes (value_of_ending x) taken) ends _ is;
+      ended = (with_notes (value_of_ending x) taken, tally, is, ended_at run (with_notes (value_of_ending x) taken) tally (noted_at run (with_notes (value_of_ending x) taken) ends _ printed) done drew _ is);
       history = subst (λ (status : ℕ). IsOneHistory settings status history) (sym is) done.one;
       called = λ k d lt.
-          subst (λ (status : ℕ). Worked task sources status (own (k + 1) history) (get_or c.args.workers.now k d) (get_or workers k d)) (sym is) (done.worked k d lt);
-      cut_short = cut_short_at run (with_notes (seen_ending x) taken) ends _ is;
+          subst (λ (status : ℕ). WorkerDone task sources status (own (k + 1) history) (get_or c.args.workers.now k d) (get_or workers k d)) (sym is) (done.worked k d lt);
+      cut_short = cut_short_at run (with_notes (value_of_ending x) taken) ends _ is;
       shares = end.done.shares;
       rest = end.done.rest;
       sample = subst (λ (status : ℕ). IfSome settings.sample (λ pages. UsesTheSample status streams.input.Kept c.args.workers.now workers)) (sym is) (sample_on streams.input.Kept c.args.workers.now workers settings.sample x taken end.sample);

@@ -2,12 +2,12 @@ use mir.Syntax.{of_param}
 use Rattle.std.proofs.Common.{◌≡◌, ◌≤◌, ℕ, Option, IfSome, sym, subst, rules}
 use Rattle.outside.specs.Counts.{Rose}
 use Rattle.cache_core.specs.Views.{calls_of}
-use Rattle.dvi_run.specs.Reading.{OfRead}
-use Rattle.dvi_run.specs.Endings.{IsEnding, seen_ending, status_of}
-use Rattle.dvi_run.specs.Pages.{setup_by}
-use Rattle.dvi_run.specs.Sampled.{FailedBy, document_by, library_by, rest_by}
+use Rattle.dvi_run.specs.Reading.{HoldsOfInput}
+use Rattle.dvi_run.specs.Endings.{IsEnding, value_of_ending, status_of}
+use Rattle.dvi_run.specs.Pages.{setup_with}
+use Rattle.dvi_run.specs.Sampled.{FailedForSample, document_for_sample, library_for_sample, rest_for_sample}
 use Rattle.dvi_run.specs.Outside.{Drawing, Sources, change_of, task_for_sample}
-use Rattle.dvi_run.specs.Together.{AreDone, DrewTogether, SomeUsed, SourceRose}
+use Rattle.dvi_run.specs.Together.{WorkersAreDone, PagesMatchHistory, SomeUsed, SourceRose}
 use Rattle.dvi_run.proofs.sampled.draw_asked.Goals as goal
 
 pub draw_sample-requires : goal.draw_sample-requires
@@ -36,35 +36,35 @@ returns-in-Some-clause-ends g c =
     let SourceFailed = SomeUsed c.args.settings.now.workers c.args.workers.now c.draw_sample.new.workers (SourceRose g.F.FontSource.faults) in
     let InputFailed = Rose (g.I.Input.faults c.args.input.now) (g.I.Input.faults c.args.input.now) in
     let left = g.I.Input.left c.args.input.now in
-    subst (λ (o : Option ℕ). IsEnding old new OutputFailed (FailedBy o SourceFailed) (c.draw_sample.new.out ≡ c.args.out.now) (FailedBy o InputFailed)
-    (setup_by (library_by o g.told) c.args.settings.now) (document_by o left) (rest_by o left) (seen_ending c.draw_sample.result.0)) (sym c.in-Some.is) c.draw_sample.ensures.ends
+    subst (λ (o : Option ℕ). IsEnding old new OutputFailed (FailedForSample o SourceFailed) (c.draw_sample.new.out ≡ c.args.out.now) (FailedForSample o InputFailed)
+    (setup_with (library_for_sample o g.known) c.args.settings.now) (document_for_sample o left) (rest_for_sample o left) (value_of_ending c.draw_sample.result.0)) (sym c.in-Some.is) c.draw_sample.ensures.ends
 
 pub returns-in-Some-clause-done : goal.returns-in-Some-clause-done
 returns-in-Some-clause-done g c =
     let sources : Sources _ = record { library = g.F.FontSource.library; faults = g.F.FontSource.faults; loads = g.F.FontSource.loads } in
     let output = change_of g.O.Output.written g.O.Output.faults c.args.out.now c.draw_sample.new.out in
     let drawing : Drawing _ = record { sources = sources; output = output; before = c.args.workers.now; after = c.draw_sample.new.workers; history = calls_of c.draw_sample.new.history.items } in
-    subst (λ (o : Option ℕ). AreDone (task_for_sample o g.told c.args.settings.now) drawing (seen_ending c.draw_sample.result.0) c.draw_sample.result.1) (sym c.in-Some.is) c.draw_sample.ensures.done
+    subst (λ (o : Option ℕ). WorkersAreDone (task_for_sample o g.known c.args.settings.now) drawing (value_of_ending c.draw_sample.result.0) c.draw_sample.result.1) (sym c.in-Some.is) c.draw_sample.ensures.done
 
 pub returns-in-Some-clause-drew : goal.returns-in-Some-clause-drew
 returns-in-Some-clause-drew g c =
     let sources : Sources _ = record { library = g.F.FontSource.library; faults = g.F.FontSource.faults; loads = g.F.FontSource.loads } in
     let output = change_of g.O.Output.written g.O.Output.faults c.args.out.now c.draw_sample.new.out in
     let drawing : Drawing _ = record { sources = sources; output = output; before = c.args.workers.now; after = c.draw_sample.new.workers; history = calls_of c.draw_sample.new.history.items } in
-    let e = seen_ending c.draw_sample.result.0 in
-    subst (λ (o : Option ℕ). OfRead (document_by o (g.I.Input.left c.args.input.now)) (DrewTogether (task_for_sample o g.told c.args.settings.now) drawing (status_of e) e c.draw_sample.result.1)) (sym c.in-Some.is) c.draw_sample.ensures.drew
+    let e = value_of_ending c.draw_sample.result.0 in
+    subst (λ (o : Option ℕ). HoldsOfInput (document_for_sample o (g.I.Input.left c.args.input.now)) (PagesMatchHistory (task_for_sample o g.known c.args.settings.now) drawing (status_of e) e c.draw_sample.result.1)) (sym c.in-Some.is) c.draw_sample.ensures.drew
 
 pub returns-in-None-clause-done : goal.returns-in-None-clause-done
 returns-in-None-clause-done g c =
     let sources : Sources _ = record { library = g.F.FontSource.library; faults = g.F.FontSource.faults; loads = g.F.FontSource.loads } in
     let output = change_of g.O.Output.written g.O.Output.faults c.args.out.now c.draw_input.new.out in
     let drawing : Drawing _ = record { sources = sources; output = output; before = c.args.workers.now; after = c.draw_input.new.workers; history = calls_of c.draw_input.new.history.items } in
-    subst (λ (o : Option ℕ). AreDone (task_for_sample o g.told c.args.settings.now) drawing (seen_ending c.draw_input.result.0) c.draw_input.result.1) (sym c.in-None.is) c.draw_input.ensures.done
+    subst (λ (o : Option ℕ). WorkersAreDone (task_for_sample o g.known c.args.settings.now) drawing (value_of_ending c.draw_input.result.0) c.draw_input.result.1) (sym c.in-None.is) c.draw_input.ensures.done
 
 pub returns-in-None-clause-drew : goal.returns-in-None-clause-drew
 returns-in-None-clause-drew g c =
     let sources : Sources _ = record { library = g.F.FontSource.library; faults = g.F.FontSource.faults; loads = g.F.FontSource.loads } in
     let output = change_of g.O.Output.written g.O.Output.faults c.args.out.now c.draw_input.new.out in
     let drawing : Drawing _ = record { sources = sources; output = output; before = c.args.workers.now; after = c.draw_input.new.workers; history = calls_of c.draw_input.new.history.items } in
-    let e = seen_ending c.draw_input.result.0 in
-    subst (λ (o : Option ℕ). OfRead (document_by o (g.I.Input.left c.args.input.now)) (DrewTogether (task_for_sample o g.told c.args.settings.now) drawing (status_of e) e c.draw_input.result.1)) (sym c.in-None.is) c.draw_input.ensures.drew
+    let e = value_of_ending c.draw_input.result.0 in
+    subst (λ (o : Option ℕ). HoldsOfInput (document_for_sample o (g.I.Input.left c.args.input.now)) (PagesMatchHistory (task_for_sample o g.known c.args.settings.now) drawing (status_of e) e c.draw_input.result.1)) (sym c.in-None.is) c.draw_input.ensures.drew

@@ -5,29 +5,29 @@ use Rattle.outside.specs.declared.mem_fonts.SureFonts.{SureFonts}
 use Rattle.outside.proofs.mem_fonts.SureFonts.TheSendSync.{the_send}
 use Rattle.cache_core.specs.Views.{calls_of}
 use Rattle.page_index.specs.Faults.{IsFirstFault}
-use Rattle.page_index.specs.Limits.{LONGEST}
+use Rattle.page_index.specs.Limits.{MAX_DOCUMENT_LENGTH}
 use Rattle.page_workers.specs.declared.worker.Worker.{Worker}
 use Rattle.sample_maker.specs.Sample.{sample_document, sample_files}
-use Rattle.dvi_run.specs.Endings.{IsEnding, seen_ending, status_of}
-use Rattle.dvi_run.specs.Pages.{Setup, setup_by}
-use Rattle.dvi_run.specs.Sampled.{WasHanded}
+use Rattle.dvi_run.specs.Endings.{IsEnding, value_of_ending, status_of}
+use Rattle.dvi_run.specs.Pages.{Setup, setup_with}
+use Rattle.dvi_run.specs.Sampled.{TookResults}
 use Rattle.dvi_run.specs.Outside.{Drawing, FaultsRose, Sources, change_of, task_for_sample}
-use Rattle.dvi_run.specs.Together.{DrewTogether, IsReady, RestIsKept}
-use Rattle.dvi_run.proofs.Handed.{done_handed, drew_handed, none_rose, sources_kept}
+use Rattle.dvi_run.specs.Together.{PagesMatchHistory, IsReadyWorker, RestIsKept}
+use Rattle.dvi_run.proofs.MovedResults.{done_handed, drew_handed, none_rose, sources_kept}
 use Rattle.dvi_run.proofs.Outcomes.{bytes_end}
 use Rattle.dvi_run.proofs.OwnDocument.{all_taken, answers_of, ends_without}
-use Rattle.dvi_run.proofs.Together.{idle_done}
-use Rattle.dvi_run.proofs.Told.{of_read}
+use Rattle.dvi_run.proofs.RunOfWorkers.{idle_done}
+use Rattle.dvi_run.proofs.InputRead.{of_read}
 use Rattle.dvi_run.proofs.sampled.draw_sample.Goals as goal
 
 abbrev Library : SureFonts → Option FileTable
 Library s = Some s.library.value
 
 -- the run's own workers are ready as they are handed to a call
-own_ready : (files : FileTable) (n : ℕ) (items now : List (Worker SureFonts)) → now ≡ items → files ≡ sample_files → ((k : ℕ) (d : Worker SureFonts) → k < n → IsReady Library (Some files) (get_or items k d))
-    → (k : ℕ) (d : Worker SureFonts) → k < n → IsReady Library (Some sample_files) (get_or now k d)
-own_ready files n items now same told each k d lt =
-    subst (λ (ws : List (Worker SureFonts)). IsReady Library (Some sample_files) (get_or ws k d)) (sym same) (subst (λ (fs : FileTable). IsReady Library (Some fs) (get_or items k d)) told (each k d lt))
+own_ready : (files : FileTable) (n : ℕ) (items now : List (Worker SureFonts)) → now ≡ items → files ≡ sample_files → ((k : ℕ) (d : Worker SureFonts) → k < n → IsReadyWorker Library (Some files) (get_or items k d))
+    → (k : ℕ) (d : Worker SureFonts) → k < n → IsReadyWorker Library (Some sample_files) (get_or now k d)
+own_ready files n items now same known each k d lt =
+    subst (λ (ws : List (Worker SureFonts)). IsReadyWorker Library (Some sample_files) (get_or ws k d)) (sym same) (subst (λ (fs : FileTable). IsReadyWorker Library (Some fs) (get_or items k d)) known (each k d lt))
 
 pub returns-in_default-own_workers-clause-done : goal.returns-in_default-own_workers-clause-done
 returns-in_default-own_workers-clause-done g c = let q = c.requires.1.1.1.1.1 in idle_done _ _ _ _ _ _ q.1.1.1.1.0 tt (ap calls_of q.1.1.1.1.1)
@@ -60,22 +60,22 @@ returns-clause-ends g c =
     let first = c.as_mut_slice-own.result.now in
     let last = c.draw_document-drawn.new.workers in
     let before = c.args.workers.now in
-    let after = c.hand_all.new.workers in
+    let after = c.move_results.new.workers in
     let same : first ≡ c.in-Ok-own_workers.made.items = c.as_mut_slice-own.ensures.value in
     let long : length first ≡ settings.workers = ap length same ∙ own.count in
     let long_last : length last ≡ settings.workers = (let kept : length last ≡ length first = search rules in kept ∙ long) in
-    let handed : (k : ℕ) (e : _) (d : _) → k < settings.workers → WasHanded (get_or last k e) (get_or before k d) (get_or after k d) =
-    λ k e d lt. c.hand_all.ensures.handed k e d (omega (arith, lt, long_last)) in
+    let handed : (k : ℕ) (e : _) (d : _) → k < settings.workers → TookResults (get_or last k e) (get_or before k d) (get_or after k d) =
+    λ k e d lt. c.move_results.ensures.handed k e d (omega (arith, lt, long_last)) in
     let doc = sample_document c.args.pages in
     let bytes : c.deref.result.now ≡ doc = search rules in
-    let few : length c.deref.result.now ≤ LONGEST = subst (λ (text : List ℕ). length text ≤ LONGEST) (sym bytes) (c.samples.ensures.fit c.args.pages q.1.1.0) in
+    let few : length c.deref.result.now ≤ MAX_DOCUMENT_LENGTH = subst (λ (text : List ℕ). length text ≤ MAX_DOCUMENT_LENGTH) (sym bytes) (c.samples.ensures.fit c.args.pages q.1.1.0) in
     let output = change_of g.O.Output.written g.O.Output.faults c.args.out.now c.draw_document-drawn.new.out in
     let history = calls_of c.draw_document-drawn.new.history.items in
-    let e = seen_ending c.draw_document-drawn.result.0 in
+    let e = value_of_ending c.draw_document-drawn.result.0 in
     let tally = c.draw_document-drawn.result.1 in
     let old = output.before.bytes in
     let new = output.after.bytes in
-    let given : Setup = setup_by (Some sample_files) settings in
+    let given : Setup = setup_with (Some sample_files) settings in
     let OutputFailed = FaultsRose output in
     let text = c.deref.result.now in
     let ends = ends_without old new OutputFailed _ output.Kept given text (none_rose settings first last before after long long_last handed (λ s. 0) (λ s. refl)) e c.draw_document-drawn.ensures.ends in
@@ -89,23 +89,23 @@ returns-clause-sample g c =
     let first = c.as_mut_slice-own.result.now in
     let last = c.draw_document-drawn.new.workers in
     let before = c.args.workers.now in
-    let after = c.hand_all.new.workers in
+    let after = c.move_results.new.workers in
     let same : first ≡ c.in-Ok-own_workers.made.items = c.as_mut_slice-own.ensures.value in
     let long : length first ≡ settings.workers = ap length same ∙ own.count in
     let long_last : length last ≡ settings.workers = (let kept : length last ≡ length first = search rules in kept ∙ long) in
-    let handed : (k : ℕ) (e : _) (d : _) → k < settings.workers → WasHanded (get_or last k e) (get_or before k d) (get_or after k d) =
-    λ k e d lt. c.hand_all.ensures.handed k e d (omega (arith, lt, long_last)) in
-    let rest : RestIsKept settings.workers before after = subst (λ (m : ℕ). RestIsKept m before after) long_last c.hand_all.ensures.rest in
+    let handed : (k : ℕ) (e : _) (d : _) → k < settings.workers → TookResults (get_or last k e) (get_or before k d) (get_or after k d) =
+    λ k e d lt. c.move_results.ensures.handed k e d (omega (arith, lt, long_last)) in
+    let rest : RestIsKept settings.workers before after = subst (λ (m : ℕ). RestIsKept m before after) long_last c.move_results.ensures.rest in
     let doc = sample_document c.args.pages in
     let bytes : c.deref.result.now ≡ doc = search rules in
-    let few : length c.deref.result.now ≤ LONGEST = subst (λ (text : List ℕ). length text ≤ LONGEST) (sym bytes) (c.samples.ensures.fit c.args.pages q.1.1.0) in
+    let few : length c.deref.result.now ≤ MAX_DOCUMENT_LENGTH = subst (λ (text : List ℕ). length text ≤ MAX_DOCUMENT_LENGTH) (sym bytes) (c.samples.ensures.fit c.args.pages q.1.1.0) in
     let output = change_of g.O.Output.written g.O.Output.faults c.args.out.now c.draw_document-drawn.new.out in
     let history = calls_of c.draw_document-drawn.new.history.items in
-    let e = seen_ending c.draw_document-drawn.result.0 in
+    let e = value_of_ending c.draw_document-drawn.result.0 in
     let tally = c.draw_document-drawn.result.1 in
     let old = output.before.bytes in
     let new = output.after.bytes in
-    let given : Setup = setup_by (Some sample_files) settings in
+    let given : Setup = setup_with (Some sample_files) settings in
     let OutputFailed = FaultsRose output in
     let text = c.deref.result.now in
     let ends = ends_without old new OutputFailed _ output.Kept given text (none_rose settings first last before after long long_last handed (λ s. 0) (λ s. refl)) e c.draw_document-drawn.ensures.ends in
@@ -126,20 +126,20 @@ returns-clause-done g c =
     let first = c.as_mut_slice-own.result.now in
     let last = c.draw_document-drawn.new.workers in
     let before = c.args.workers.now in
-    let after = c.hand_all.new.workers in
+    let after = c.move_results.new.workers in
     let same : first ≡ c.in-Ok-own_workers.made.items = c.as_mut_slice-own.ensures.value in
     let long : length first ≡ settings.workers = ap length same ∙ own.count in
     let long_last : length last ≡ settings.workers = (let kept : length last ≡ length first = search rules in kept ∙ long) in
-    let handed : (k : ℕ) (e : _) (d : _) → k < settings.workers → WasHanded (get_or last k e) (get_or before k d) (get_or after k d) =
-    λ k e d lt. c.hand_all.ensures.handed k e d (omega (arith, lt, long_last)) in
-    let rest : RestIsKept settings.workers before after = subst (λ (m : ℕ). RestIsKept m before after) long_last c.hand_all.ensures.rest in
+    let handed : (k : ℕ) (e : _) (d : _) → k < settings.workers → TookResults (get_or last k e) (get_or before k d) (get_or after k d) =
+    λ k e d lt. c.move_results.ensures.handed k e d (omega (arith, lt, long_last)) in
+    let rest : RestIsKept settings.workers before after = subst (λ (m : ℕ). RestIsKept m before after) long_last c.move_results.ensures.rest in
     let files : c.in-Ok.field-0.library ≡ sample_files = search rules in
     let ready = own_ready c.in-Ok.field-0.library settings.workers c.in-Ok-own_workers.made.items first same files own.ready in
     let output = change_of g.O.Output.written g.O.Output.faults c.args.out.now c.draw_document-drawn.new.out in
     let history = calls_of c.draw_document-drawn.new.history.items in
-    let e = seen_ending c.draw_document-drawn.result.0 in
+    let e = value_of_ending c.draw_document-drawn.result.0 in
     let tally = c.draw_document-drawn.result.1 in
-    done_handed settings first last before after long long_last handed rest g.F.FontSource.library g.told q.1.1.1.1.0 _ ready (omega (arith, q.0.workers.0)) _ _ g.F.FontSource.faults g.F.FontSource.loads output history e tally
+    done_handed settings first last before after long long_last handed rest g.F.FontSource.library g.known q.1.1.1.1.0 _ ready (omega (arith, q.0.workers.0)) _ _ g.F.FontSource.faults g.F.FontSource.loads output history e tally
     (λ s. refl) c.args.pages c.draw_document-drawn.ensures.done
 
 pub returns-clause-drew : goal.returns-clause-drew
@@ -150,28 +150,28 @@ returns-clause-drew g c =
     let first = c.as_mut_slice-own.result.now in
     let last = c.draw_document-drawn.new.workers in
     let before = c.args.workers.now in
-    let after = c.hand_all.new.workers in
+    let after = c.move_results.new.workers in
     let same : first ≡ c.in-Ok-own_workers.made.items = c.as_mut_slice-own.ensures.value in
     let long : length first ≡ settings.workers = ap length same ∙ own.count in
     let long_last : length last ≡ settings.workers = (let kept : length last ≡ length first = search rules in kept ∙ long) in
-    let handed : (k : ℕ) (e : _) (d : _) → k < settings.workers → WasHanded (get_or last k e) (get_or before k d) (get_or after k d) =
-    λ k e d lt. c.hand_all.ensures.handed k e d (omega (arith, lt, long_last)) in
-    let rest : RestIsKept settings.workers before after = subst (λ (m : ℕ). RestIsKept m before after) long_last c.hand_all.ensures.rest in
+    let handed : (k : ℕ) (e : _) (d : _) → k < settings.workers → TookResults (get_or last k e) (get_or before k d) (get_or after k d) =
+    λ k e d lt. c.move_results.ensures.handed k e d (omega (arith, lt, long_last)) in
+    let rest : RestIsKept settings.workers before after = subst (λ (m : ℕ). RestIsKept m before after) long_last c.move_results.ensures.rest in
     let files : c.in-Ok.field-0.library ≡ sample_files = search rules in
     let ready = own_ready c.in-Ok.field-0.library settings.workers c.in-Ok-own_workers.made.items first same files own.ready in
     let doc = sample_document c.args.pages in
     let bytes : c.deref.result.now ≡ doc = search rules in
-    let few : length c.deref.result.now ≤ LONGEST = subst (λ (text : List ℕ). length text ≤ LONGEST) (sym bytes) (c.samples.ensures.fit c.args.pages q.1.1.0) in
+    let few : length c.deref.result.now ≤ MAX_DOCUMENT_LENGTH = subst (λ (text : List ℕ). length text ≤ MAX_DOCUMENT_LENGTH) (sym bytes) (c.samples.ensures.fit c.args.pages q.1.1.0) in
     let output = change_of g.O.Output.written g.O.Output.faults c.args.out.now c.draw_document-drawn.new.out in
     let history = calls_of c.draw_document-drawn.new.history.items in
-    let e = seen_ending c.draw_document-drawn.result.0 in
+    let e = value_of_ending c.draw_document-drawn.result.0 in
     let tally = c.draw_document-drawn.result.1 in
     let sources : Sources _ = record { library = g.F.FontSource.library; faults = g.F.FontSource.faults; loads = g.F.FontSource.loads } in
     let drawing : Drawing _ = record { sources = sources; output = output; before = before; after = after; history = history } in
-    let Of = DrewTogether (task_for_sample (Some c.args.pages) g.told settings) drawing (status_of e) e tally in
+    let Of = PagesMatchHistory (task_for_sample (Some c.args.pages) g.known settings) drawing (status_of e) e tally in
     let text = c.deref.result.now in
     let sizes : length before ≡ length after = search rules in
     of_read Of (Some doc) (Some []) doc (all_taken doc (c.samples.ensures.fit c.args.pages q.1.1.0))
     (subst Of bytes
-    (drew_handed settings first last before after long long_last handed rest g.F.FontSource.library g.told q.1.1.1.1.0 _ ready (omega (arith, q.0.workers.0)) (λ s. 0) (λ s. 0) g.F.FontSource.faults g.F.FontSource.loads output history e tally sizes c.args.pages (status_of e) text
+    (drew_handed settings first last before after long long_last handed rest g.F.FontSource.library g.known q.1.1.1.1.0 _ ready (omega (arith, q.0.workers.0)) (λ s. 0) (λ s. 0) g.F.FontSource.faults g.F.FontSource.loads output history e tally sizes c.args.pages (status_of e) text
     c.draw_document-drawn.ensures.drew))

@@ -2,13 +2,13 @@ use mir.Syntax.{of_param}
 use Rattle.std.proofs.Common.{◌≡◌, List, ℕ, None, ap, subst, rules}
 use Rattle.outside.specs.Counts.{Rose}
 use Rattle.cache_core.specs.Views.{calls_of}
-use Rattle.dvi_run.specs.Endings.{EndsBytes, Input, Memory, seen_ending, status_of}
-use Rattle.dvi_run.specs.Pages.{Setup, setup_by}
+use Rattle.dvi_run.specs.Endings.{EndsBytes, Input, Memory, value_of_ending, status_of}
+use Rattle.dvi_run.specs.Pages.{Setup, setup_with}
 use Rattle.dvi_run.specs.Outside.{Drawing, Sources, change_of, task_for_sample}
-use Rattle.dvi_run.specs.Together.{DrewTogether, SomeUsed, SourceRose}
+use Rattle.dvi_run.specs.Together.{PagesMatchHistory, SomeUsed, SourceRose}
 use Rattle.dvi_run.proofs.Outcomes.{bytes_end}
-use Rattle.dvi_run.proofs.Together.{idle_done, idle_drew}
-use Rattle.dvi_run.proofs.Told.{of_read}
+use Rattle.dvi_run.proofs.RunOfWorkers.{idle_done, idle_drew}
+use Rattle.dvi_run.proofs.InputRead.{of_read}
 use Rattle.dvi_run.proofs.stages.draw_input.Goals as goal
 
 pub draw_document-requires : goal.draw_document-requires
@@ -30,13 +30,13 @@ draw_document-requires g c κs within =
 
 pub returns-in-Ok-clause-ends : goal.returns-in-Ok-clause-ends
 returns-in-Ok-clause-ends g c =
-    let given : Setup = setup_by g.told c.args.settings.now in
+    let given : Setup = setup_with g.known c.args.settings.now in
     let old = g.O.Output.written c.args.out.now in
     let new = g.O.Output.written c.draw_document.new.out in
     let OutputFailed = Rose (g.O.Output.faults c.args.out.now) (g.O.Output.faults c.draw_document.new.out) in
     let SourceFailed = SomeUsed c.args.settings.now.workers c.args.workers.now c.draw_document.new.workers (SourceRose g.F.FontSource.faults) in
     let Kept = c.draw_document.new.out ≡ c.args.out.now in
-    let e = seen_ending c.draw_document.result.0 in
+    let e = value_of_ending c.draw_document.result.0 in
     let ends = subst (λ (bytes : List ℕ). EndsBytes old new OutputFailed SourceFailed Kept given bytes e) c.as_slice.ensures.value c.draw_document.ensures.ends in
     bytes_end old new OutputFailed SourceFailed Kept given (Rose (g.I.Input.faults c.args.input.now) (g.I.Input.faults c.read_all.new.input)) (g.I.Input.left c.args.input.now)
     (g.I.Input.left c.read_all.new.input) _ c.in-Ok.ensures.bytes e ends
@@ -46,8 +46,8 @@ returns-in-Ok-clause-drew g c =
     let sources : Sources _ = record { library = g.F.FontSource.library; faults = g.F.FontSource.faults; loads = g.F.FontSource.loads } in
     let output = change_of g.O.Output.written g.O.Output.faults c.args.out.now c.draw_document.new.out in
     let drawing : Drawing _ = record { sources = sources; output = output; before = c.args.workers.now; after = c.draw_document.new.workers; history = calls_of c.draw_document.new.history.items } in
-    let e = seen_ending c.draw_document.result.0 in
-    let Of = DrewTogether (task_for_sample None g.told c.args.settings.now) drawing (status_of e) e c.draw_document.result.1 in
+    let e = value_of_ending c.draw_document.result.0 in
+    let Of = PagesMatchHistory (task_for_sample None g.known c.args.settings.now) drawing (status_of e) e c.draw_document.result.1 in
     of_read Of (g.I.Input.left c.args.input.now) (g.I.Input.left c.read_all.new.input) _ c.in-Ok.ensures.bytes (subst Of c.as_slice.ensures.value c.draw_document.ensures.drew)
 
 pub returns-in-Err-Failed-clause-done : goal.returns-in-Err-Failed-clause-done
@@ -58,7 +58,7 @@ returns-in-Err-Failed-clause-drew g c =
     let q = c.requires.1.1.1.1.1.1 in
     let sources : Sources _ = record { library = g.F.FontSource.library; faults = g.F.FontSource.faults; loads = g.F.FontSource.loads } in
     let output = change_of g.O.Output.written g.O.Output.faults c.args.out.now c.args.out.now in
-    idle_drew (task_for_sample None g.told c.args.settings.now) sources output c.args.workers.now (calls_of c.args.history.now.items) (status_of Input) Input (g.I.Input.left c.args.input.now) tt (ap calls_of q.1.1.1)
+    idle_drew (task_for_sample None g.known c.args.settings.now) sources output c.args.workers.now (calls_of c.args.history.now.items) (status_of Input) Input (g.I.Input.left c.args.input.now) tt (ap calls_of q.1.1.1)
 
 pub returns-in-Err-NoMemory-clause-done : goal.returns-in-Err-NoMemory-clause-done
 returns-in-Err-NoMemory-clause-done g c = let q = c.requires.1.1.1.1.1.1 in idle_done _ _ _ _ _ _ q.1.1.0 tt (ap calls_of q.1.1.1)
@@ -68,4 +68,4 @@ returns-in-Err-NoMemory-clause-drew g c =
     let q = c.requires.1.1.1.1.1.1 in
     let sources : Sources _ = record { library = g.F.FontSource.library; faults = g.F.FontSource.faults; loads = g.F.FontSource.loads } in
     let output = change_of g.O.Output.written g.O.Output.faults c.args.out.now c.args.out.now in
-    idle_drew (task_for_sample None g.told c.args.settings.now) sources output c.args.workers.now (calls_of c.args.history.now.items) (status_of Memory) Memory (g.I.Input.left c.args.input.now) tt (ap calls_of q.1.1.1)
+    idle_drew (task_for_sample None g.known c.args.settings.now) sources output c.args.workers.now (calls_of c.args.history.now.items) (status_of Memory) Memory (g.I.Input.left c.args.input.now) tt (ap calls_of q.1.1.1)

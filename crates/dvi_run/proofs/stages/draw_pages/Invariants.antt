@@ -1,4 +1,4 @@
 use Rattle.dvi_run.proofs.stages.draw_pages.Given as goal
 
-abbrev pub ghost-draw_at_once : goal.ghost-draw_at_once
-ghost-draw_at_once g a = g.told
+abbrev pub ghost-draw_with_shared_cache : goal.ghost-draw_with_shared_cache
+ghost-draw_with_shared_cache g a = g.known

@@ -1,7 +1,7 @@
 use Rattle.std.proofs.Common.{◌≡◌, ◌<◌, ◌++◌, ◌∷◌, [], length, get_or, ap, sym, subst, arith, rules}
 use Rattle.std.proofs.lemmas.List.{length_push}
 use Rattle.page_workers.specs.Seating.{IsUnused}
-use Rattle.dvi_run.proofs.Together.{more_unused}
+use Rattle.dvi_run.proofs.RunOfWorkers.{more_unused}
 use Rattle.dvipbm.proofs.workers.workers_over.Goals as goal
 
 pub loop-k-init : goal.loop-k-init

@@ -1,4 +1,4 @@
-use Rattle.font_decode.proofs.Plain.{names_stay_in_folder, asked_names_stay_in_folder}
+use Rattle.font_decode.proofs.NameBytes.{names_stay_in_folder, asked_names_stay_in_folder}
 use Rattle.font_decode.proofs.Distinct.{names_are_distinct}
 use Rattle.font_decode.proofs.laws.names.Goals as goal
 

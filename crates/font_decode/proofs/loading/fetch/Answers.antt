@@ -62,10 +62,10 @@ returns-in_err-pk-clause-named_until g c =
     let valid : is_valid_name c.args.key.now ≡ true = grind (arith, c.if-not-is_valid_name.false, c.is_valid_name.ensures) in
     let has : is_none c.in_ok-tfm.tfm ≡ false = is_there c.in_ok-tfm.tfm _ c.is_none.ensures c.if-is_none.false in
     let gone : is_some c.in_ok-vf.vf ≡ false = let h = c.if-is_some.false in let e = c.is_some.ensures in cc in
-    let told = g.F.FontSource.library c.args.source.now in
-    on_err c.from_residual-in_err-pk.result _ (told_third bytes c.args.units.now c.args.key.now told c.in_ok-tfm.tfm c.in_ok-vf.vf _ _ _ _ valid has gone
-    c.in_ok-tfm.ensures.file (moved told _ _ c.in_ok-tfm.ensures.library c.in_ok-vf.ensures.file) c.in_ok-tfm.ensures.asked c.in_ok-vf.ensures.asked
-    (moved told _ _ c.in_ok-tfm.ensures.library (moved _ _ _ c.in_ok-vf.ensures.library c.in_err-pk.ensures.named_until)))
+    let known = g.F.FontSource.library c.args.source.now in
+    on_err c.from_residual-in_err-pk.result _ (told_third bytes c.args.units.now c.args.key.now known c.in_ok-tfm.tfm c.in_ok-vf.vf _ _ _ _ valid has gone
+    c.in_ok-tfm.ensures.file (moved known _ _ c.in_ok-tfm.ensures.library c.in_ok-vf.ensures.file) c.in_ok-tfm.ensures.asked c.in_ok-vf.ensures.asked
+    (moved known _ _ c.in_ok-tfm.ensures.library (moved _ _ _ c.in_ok-vf.ensures.library c.in_err-pk.ensures.named_until)))
 
 pub returns-in_err-pk-clause-stopped : goal.returns-in_err-pk-clause-stopped
 returns-in_err-pk-clause-stopped g c =

@@ -46,9 +46,9 @@ returns-clause-named_until g c =
     let n = dpi c.args.units.now k in
     let gone : is_some c.in_ok-exact.exact ≡ false = let h = c.if-is_some.false in let e = c.is_some.ensures in cc in
     let gone_too : is_some c.in_ok-above.above ≡ false = let h = c.if-is_some-2.false in let e = c.is_some-2.ensures in cc in
-    let told = g.F.FontSource.library c.args.source.now in
+    let known = g.F.FontSource.library c.args.source.now in
     on_err_then c.load_file-3.result _ _
-    (λ last. named_until (λ (v : Vec ℕ Global). v.items) told (pk_name k n) (pk_name k (n + 1) ∷ pk_name k (n - 1) ∷ []) c.in_ok-exact.exact _ _ _ c.in_ok-exact.ensures.file gone c.in_ok-exact.ensures.asked
-    (named_until (λ (v : Vec ℕ Global). v.items) told (pk_name k (n + 1)) (pk_name k (n - 1) ∷ []) c.in_ok-above.above _ _ _ (moved told _ _ c.in_ok-exact.ensures.library c.in_ok-above.ensures.file) gone_too c.in_ok-above.ensures.asked
-    (named_until_now told (pk_name k (n - 1)) [] _ _ last)))
+    (λ last. named_until (λ (v : Vec ℕ Global). v.items) known (pk_name k n) (pk_name k (n + 1) ∷ pk_name k (n - 1) ∷ []) c.in_ok-exact.exact _ _ _ c.in_ok-exact.ensures.file gone c.in_ok-exact.ensures.asked
+    (named_until (λ (v : Vec ℕ Global). v.items) known (pk_name k (n + 1)) (pk_name k (n - 1) ∷ []) c.in_ok-above.above _ _ _ (moved known _ _ c.in_ok-exact.ensures.library c.in_ok-above.ensures.file) gone_too c.in_ok-above.ensures.asked
+    (named_until_now known (pk_name k (n - 1)) [] _ _ last)))
     c.load_file-3.ensures.stopped

@@ -3,7 +3,7 @@ use Rattle.std.proofs.Math.Nat.{mul-le-mul_right}
 use Rattle.std.proofs.lemmas.List.{length-take-le, length-drop}
 use Rattle.packed_rows.specs.Packing.{pixel}
 use Rattle.packed_rows.proofs.Stamping.{stamped_more, ended}
-use Rattle.packed_rows.proofs.Turned.{strip_set}
+use Rattle.packed_rows.proofs.RotatedWords.{strip_set}
 use Rattle.packed_rows.proofs.strips.stamp_rows.Goals as goal
 
 pub word_at-requires : goal.word_at-requires
@@ -32,7 +32,7 @@ loop-step-preserved c =
     (stamped_more k first y _ _ c.args.bytes.now c.loop-step.bytes c.join_word.new.row same (omega arith) fit (c.join_word.ensures.len ∙ long)
     (λ x in_row. c.join_word.ensures.pixels x (omega (arith, long, in_row))
     ∙ ap (λ b. b || pixel (take (y * k + k - y * k) (drop (y * k) c.loop-step.bytes)) x)
-    (strip_set c.args.upper.bytes.now c.word_at.result c.turned.result above strip.turn strip.mask strip.to x c.word_at.ensures c.turned.ensures))
+    (strip_set c.args.upper.bytes.now c.word_at.result c.rotated_right.result above strip.turn strip.mask strip.to x c.word_at.ensures c.rotated_right.ensures))
     c.loop-step.invariant)
 
 pub returns-clause-dots : goal.returns-clause-dots

@@ -1,8 +1,8 @@
-use Rattle.page_counter.proofs.Says.{word_counts, seats_counted, claimed_by_one, no_other_claimed, none_in_common, claims_rise, claims_few}
+use Rattle.page_counter.proofs.Says.{counter_counts, seats_counted, claimed_by_one, no_other_claimed, none_in_common, claims_rise, claims_few}
 use Rattle.page_counter.proofs.laws.rule_says.Goals as goal
 
-pub returns-clause-word : goal.returns-clause-word
-returns-clause-word c = word_counts
+pub returns-clause-counter : goal.returns-clause-counter
+returns-clause-counter c = counter_counts
 
 pub returns-clause-seats : goal.returns-clause-seats
 returns-clause-seats c = seats_counted

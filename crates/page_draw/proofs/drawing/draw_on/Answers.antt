@@ -5,8 +5,8 @@ use Rattle.page_index.specs.Pages.{IsConversionOf, document_units}
 use Rattle.font_decode.specs.Decoding.{IsFontOf}
 use Rattle.font_decode.proofs.Trails.{trail_none, trail_more, trail_as}
 use Rattle.vf_expand.specs.Course.{course_of}
-use Rattle.vf_expand.specs.Expansion.{left}
-use Rattle.page_draw.proofs.Lists.{IsSoFar, so_far_look, so_far_none, so_far_same}
+use Rattle.vf_expand.specs.Expansion.{rest_of}
+use Rattle.page_draw.proofs.Lists.{IsDrawnUpTo, so_far_look, so_far_none, so_far_same}
 use Rattle.page_draw.specs.Drawn.{IsFaultOf, IsWhole}
 use Rattle.page_draw.specs.Values.{EndsIn}
 use Rattle.page_draw.proofs.Ends.{broken_at_first, broken_at_look, broken_stop, ended_drawn, ended_stop, rose_on}
@@ -30,7 +30,7 @@ steps-init g c =
       units = refl;
       faults = omega arith;
       trail = trail_none (Unit {0}) (desk.asked c.args.desk.now) (desk.trail c.args.desk.now);
-      so_far = so_far_none _ c.new-pen.result.conv c.args.sheet.now (course_of c.args.wanted.index.now.reading c.args.wanted.number) (left c.in_ok-expander.expander) c.new-pen.result.state
+      so_far = so_far_none _ c.new-pen.result.conv c.args.sheet.now (course_of c.args.wanted.index.now.reading c.args.wanted.number) (rest_of c.in_ok-expander.expander) c.new-pen.result.state
           c.args.page (desk.asked c.args.desk.now) c.in_ok-expander.ensures.page (ap (λ p. p.state) c.new-pen.ensures) c.requires.blank;
     }
 
@@ -52,7 +52,7 @@ returns-in_err-look_up-in-Ask-clause-stop g c =
     let r = c.from_residual-in_err-look_up-in-Ask in
     let p = err_from_is_err_and r.result r.ensures.1 in
     rw (p.1, p.2) (broken_stop _ c.args.wanted.index.now c.args.sheet.now c.args.wanted.number _ _ _ failed.broken
-    (broken_at_look _ c.steps.pen.conv c.args.sheet.now c.args.wanted.index.now c.args.wanted.number (left new.expander) new.pen.state new.page _ _ far i.conv
+    (broken_at_look _ c.steps.pen.conv c.args.sheet.now c.args.wanted.index.now c.args.wanted.number (rest_of new.expander) new.pen.state new.page _ _ far i.conv
     _ _ _ _ step.asked failed.refused))
 
 pub steps-preserved : goal.steps-preserved
@@ -76,11 +76,11 @@ steps-preserved g c =
       trail = trail_more (Unit {0}) (desk.asked c.args.desk.now) (desk.asked c.steps.desk) (desk.asked c.look_up.new.desk)
           (desk.trail c.args.desk.now) (desk.trail c.steps.desk) (desk.trail c.look_up.new.desk) i.trail
           (trail_as (Unit {0}) _ (desk.asked c.steps.desk) (desk.asked c.look_up.new.desk) (desk.trail c.steps.desk) (desk.trail c.look_up.new.desk) (λ w. refl) font.trail);
-      so_far = subst (λ (x : Fraction). IsSoFar (IsFontOf (desk.library c.args.desk.now) (desk.units c.args.desk.now)) x c.args.sheet.now
-          (course_of c.args.wanted.index.now.reading c.args.wanted.number) (left c.look_up.new.expander) new.pen.state new.page (desk.asked c.args.desk.now) (desk.asked c.look_up.new.desk)) (sym conv)
+      so_far = subst (λ (x : Fraction). IsDrawnUpTo (IsFontOf (desk.library c.args.desk.now) (desk.units c.args.desk.now)) x c.args.sheet.now
+          (course_of c.args.wanted.index.now.reading c.args.wanted.number) (rest_of c.look_up.new.expander) new.pen.state new.page (desk.asked c.args.desk.now) (desk.asked c.look_up.new.desk)) (sym conv)
           (so_far_same _ _ _ _ _ _ _ _ _
-          (so_far_look _ c.steps.pen.conv c.args.sheet.now _ (left new.expander) new.pen.state new.page _ _ far _ _ _ answer.0 _ step.asked found font.asked)
-          (left c.look_up.new.expander) answer.2);
+          (so_far_look _ c.steps.pen.conv c.args.sheet.now _ (rest_of new.expander) new.pen.state new.page _ _ far _ _ _ answer.0 _ step.asked found font.asked)
+          (rest_of c.look_up.new.expander) answer.2);
     }
 
 pub steps-smaller : goal.steps-smaller
@@ -94,8 +94,8 @@ returns-in_default-clause-drawn g c =
     let i = c.steps.invariant in
     let new = c.draw_flats.new in
     let far = c.in_ok-step.ensures.drawn (desk.library c.args.desk.now) (desk.units c.args.desk.now) _ _ _ i.so_far in
-    ended_drawn _ c.steps.pen.conv c.args.sheet.now c.args.wanted.index.now c.args.wanted.number (left new.expander) new.pen.state new.page _ _ far i.conv _
-    (subst (λ (x : Fraction). IfOk c.ended.result (λ done. EndsIn x new.pen.state new.page (left new.expander) (Ok done))) c.in_ok-step.ensures.conv c.ended.ensures.whole)
+    ended_drawn _ c.steps.pen.conv c.args.sheet.now c.args.wanted.index.now c.args.wanted.number (rest_of new.expander) new.pen.state new.page _ _ far i.conv _
+    (subst (λ (x : Fraction). IfOk c.end_page.result (λ done. EndsIn x new.pen.state new.page (rest_of new.expander) (Ok done))) c.in_ok-step.ensures.conv c.end_page.ensures.whole)
 
 pub returns-in_default-clause-stop : goal.returns-in_default-clause-stop
 returns-in_default-clause-stop g c =
@@ -103,8 +103,8 @@ returns-in_default-clause-stop g c =
     let i = c.steps.invariant in
     let new = c.draw_flats.new in
     let far = c.in_ok-step.ensures.drawn (desk.library c.args.desk.now) (desk.units c.args.desk.now) _ _ _ i.so_far in
-    ended_stop _ c.steps.pen.conv c.args.sheet.now c.args.wanted.index.now c.args.wanted.number (left new.expander) new.pen.state new.page _ _ far i.conv _
-    (subst (λ (x : Fraction). IfErr c.ended.result (λ why. IsFaultOf why (EndsIn x new.pen.state new.page (left new.expander)))) c.in_ok-step.ensures.conv c.ended.ensures.stop)
+    ended_stop _ c.steps.pen.conv c.args.sheet.now c.args.wanted.index.now c.args.wanted.number (rest_of new.expander) new.pen.state new.page _ _ far i.conv _
+    (subst (λ (x : Fraction). IfErr c.end_page.result (λ why. IsFaultOf why (EndsIn x new.pen.state new.page (rest_of new.expander)))) c.in_ok-step.ensures.conv c.end_page.ensures.stop)
 
 pub returns-in_err-step-clause-cause : goal.returns-in_err-step-clause-cause
 returns-in_err-step-clause-cause g c =

@@ -3,8 +3,8 @@ use Rattle.page_index.specs.Pages.{IsConversionOf, document_units}
 use Rattle.font_decode.specs.Decoding.{IsFontOf}
 use Rattle.font_decode.specs.Desks.{TrailGrew}
 use Rattle.vf_expand.specs.Course.{course_of}
-use Rattle.vf_expand.specs.Expansion.{asks_left, left, steps_left}
-use Rattle.page_draw.proofs.Lists.{IsSoFar}
+use Rattle.vf_expand.specs.Expansion.{asks_left, rest_of, steps_left}
+use Rattle.page_draw.proofs.Lists.{IsDrawnUpTo}
 use Rattle.page_draw.proofs.drawing.draw_on.Given as goal
 
 -- the page so far, and what is left of it
@@ -19,7 +19,7 @@ invariant-steps g l =
       units : desk.units l.desk ≡ desk.units l.fn.desk;
       faults : desk.faults l.fn.desk ≤ desk.faults l.desk;
       trail : TrailGrew (Unit {0}) (desk.asked l.fn.desk) (desk.asked l.desk) (desk.trail l.fn.desk) (desk.trail l.desk);
-      so_far : IsSoFar (IsFontOf (desk.library l.fn.desk) (desk.units l.fn.desk)) l.pen.conv l.sheet (course_of l.fn.wanted.index.now.reading l.fn.wanted.number) (left l.expander)
+      so_far : IsDrawnUpTo (IsFontOf (desk.library l.fn.desk) (desk.units l.fn.desk)) l.pen.conv l.sheet (course_of l.fn.wanted.index.now.reading l.fn.wanted.number) (rest_of l.expander)
           l.pen.state l.page (desk.asked l.fn.desk) (desk.asked l.desk);
     }
 

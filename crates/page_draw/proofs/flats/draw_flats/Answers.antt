@@ -1,78 +1,78 @@
 use Rattle.std.proofs.Common.{◌≡◌, ◌∙◌, arith, refl, subst, None, Some, Ok}
 use Rattle.std.proofs.lemmas.Result.{err_from_is_err_and}
-use Rattle.drift_rules.specs.Position.{after, seen_flat}
+use Rattle.drift_rules.specs.Position.{state_after, value_of_flat}
 use Rattle.pixel_round.specs.Pixels.{Fraction}
 use Rattle.font_decode.specs.Decoding.{IsFontOf}
 use Rattle.vf_expand.specs.Course.{course_of}
-use Rattle.vf_expand.specs.Expansion.{left}
+use Rattle.vf_expand.specs.Expansion.{rest_of}
 use Rattle.page_draw.specs.Inking.{set_in}
 use Rattle.page_draw.proofs.Lists.{so_far_flat, so_far_same}
 use Rattle.page_draw.proofs.Ends.{broken_so_far, pen_stop}
 use Rattle.page_draw.proofs.Other.{comes_alone, fewer_still, no_source, other_stays, stop_as}
 use Rattle.page_draw.proofs.flats.draw_flats.Goals as goal
 
-pub returns-in_err-draw_plain-clause-stop : goal.returns-in_err-draw_plain-clause-stop
-returns-in_err-draw_plain-clause-stop c =
-    let plain = c.in-Some.plain in
-    let new = c.next_plain.follows.lender-at-none in
-    let given = rw c.in-Some.is at c.next_plain.follows.holds-at-none in
-    let flat = set_in given.key plain in
+pub returns-in_err-draw_packed_char-clause-stop : goal.returns-in_err-draw_packed_char-clause-stop
+returns-in_err-draw_packed_char-clause-stop c =
+    let packed = c.in-Some.packed in
+    let new = c.next_packed_char.follows.lender-at-none in
+    let given = rw c.in-Some.is at c.next_packed_char.follows.holds-at-none in
+    let flat = set_in given.key packed in
     let p = err_from_is_err_and c.from_residual.result c.from_residual.ensures.1 in
-    let stop = c.in_err-draw_plain.ensures.stop given.key in
+    let stop = c.in_err-draw_packed_char.ensures.stop given.key in
     rw (p.1, p.2)
-    (λ told units indexed i old now conv so_far.
-    pen_stop (IsFontOf told units) c.args.pen.now.conv c.args.sheet.now indexed i (left c.flats.expander) c.flats.pen.state c.flats.page old now
-    (c.flats.invariant.drawn told units (course_of indexed.reading i) old now so_far) conv
-    flat (Some plain.glyph.now) new.at (left new) given.one.given _
-    (stop_as c.flats.pen.conv c.args.pen.now.conv c.flats.pen.state flat plain.at new.at _ c.flats.invariant.conv given.place stop))
+    (λ known units indexed i old now conv so_far.
+    pen_stop (IsFontOf known units) c.args.pen.now.conv c.args.sheet.now indexed i (rest_of c.flats.expander) c.flats.pen.state c.flats.page old now
+    (c.flats.invariant.drawn known units (course_of indexed.reading i) old now so_far) conv
+    flat (Some packed.glyph.now) new.at (rest_of new) given.one.given _
+    (stop_as c.flats.pen.conv c.args.pen.now.conv c.flats.pen.state flat packed.at new.at _ c.flats.invariant.conv given.place stop))
 
-pub returns-in_err-draw_plain-clause-source : goal.returns-in_err-draw_plain-clause-source
-returns-in_err-draw_plain-clause-source c =
-    let given = rw c.in-Some.is at c.next_plain.follows.holds-at-none in
+pub returns-in_err-draw_packed_char-clause-source : goal.returns-in_err-draw_packed_char-clause-source
+returns-in_err-draw_packed_char-clause-source c =
+    let given = rw c.in-Some.is at c.next_packed_char.follows.holds-at-none in
     let p = err_from_is_err_and c.from_residual.result c.from_residual.ensures.1 in
-    rw (p.1, p.2) (no_source _ _ _ (c.in_err-draw_plain.ensures.stop given.key))
+    rw (p.1, p.2) (no_source _ _ _ (c.in_err-draw_packed_char.ensures.stop given.key))
 
 pub flats-preserved-in-Some : goal.flats-preserved-in-Some
 flats-preserved-in-Some c =
     let i = c.flats.invariant in
-    let plain = c.in-Some.plain in
-    let next = c.next_plain.follows.lender-at-none in
-    let given = rw c.in-Some.is at c.next_plain.follows.holds-at-none in
-    let flat = set_in given.key plain in
-    let moved = subst (λ (x : Fraction). after x c.flats.pen.state flat ≡ Ok c.draw_plain.new.pen.state) i.conv (c.in_ok-draw_plain.ensures.moved given.key) in
-    let inked = c.in_ok-draw_plain.ensures.inked given.key in
+    let packed = c.in-Some.packed in
+    let next = c.next_packed_char.follows.lender-at-none in
+    let given = rw c.in-Some.is at c.next_packed_char.follows.holds-at-none in
+    let flat = set_in given.key packed in
+    let moved = subst (λ (x : Fraction). state_after x c.flats.pen.state flat ≡ Ok c.draw_packed_char.new.pen.state) i.conv (c.in_ok-draw_packed_char.ensures.moved given.key) in
+    let inked = c.in_ok-draw_packed_char.ensures.inked given.key in
     record {
-      conv = c.draw_plain.ensures.conv ∙ i.conv;
+      conv = c.draw_packed_char.ensures.conv ∙ i.conv;
       asks = omega (arith, i.asks, given.one.asks);
       steps = omega (arith, i.steps, given.one.fewer);
-      drawn = λ told units from old new so_far.
-          so_far_flat (IsFontOf told units) c.args.pen.now.conv c.args.sheet.now from (left c.flats.expander) c.flats.pen.state c.flats.page old new
-          (i.drawn told units from old new so_far) flat (Some plain.glyph.now) next.at (left next)
-          c.draw_plain.new.pen.state c.draw_plain.new.page given.one.given moved inked;
+      drawn = λ known units from old new so_far.
+          so_far_flat (IsFontOf known units) c.args.pen.now.conv c.args.sheet.now from (rest_of c.flats.expander) c.flats.pen.state c.flats.page old new
+          (i.drawn known units from old new so_far) flat (Some packed.glyph.now) next.at (rest_of next)
+          c.draw_packed_char.new.pen.state c.draw_packed_char.new.page given.one.given moved inked;
     }
 
 pub returns-in_err-other-clause-stop : goal.returns-in_err-other-clause-stop
 returns-in_err-other-clause-stop c =
     let r = c.from_residual-in_err-other in
     let p = err_from_is_err_and r.result r.ensures.1 in
-    rw (p.1, p.2) (λ told units indexed i old new conv so_far.
-    broken_so_far (IsFontOf told units) c.args.pen.now.conv c.args.sheet.now indexed i (left c.flats.expander) c.flats.pen.state c.flats.page old new
-    (c.flats.invariant.drawn told units (course_of indexed.reading i) old new so_far) conv)
+    rw (p.1, p.2) (λ known units indexed i old new conv so_far.
+    broken_so_far (IsFontOf known units) c.args.pen.now.conv c.args.sheet.now indexed i (rest_of c.flats.expander) c.flats.pen.state c.flats.page old new
+    (c.flats.invariant.drawn known units (course_of indexed.reading i) old new so_far) conv)
 
 pub returns-in_err-draw_one-in-Flat-clause-stop : goal.returns-in_err-draw_one-in-Flat-clause-stop
 returns-in_err-draw_one-in-Flat-clause-stop c =
-    let same = rw c.in_default.is at c.next_plain.follows.holds-at-none in
+    let same = rw c.in_default.is at c.next_packed_char.follows.holds-at-none in
     let given = rw (c.in-Flat.is, same) at c.in_ok-other.ensures.step in
-    let flat = seen_flat c.in-Flat.flat in
-    let step = comes_alone c.flats.expander c.next.new.self flat given.0 (rw c.in_default.is at c.next_plain.ensures.none refl) given.1 in
+    let flat = value_of_flat c.in-Flat.flat in
+    let step = comes_alone c.flats.expander c.next.new.self flat given.0 (rw c.in_default.is at c.next_packed_char.ensures.none refl) given.1 in
     let r = c.from_residual-in_err-draw_one-in-Flat in
     let p = err_from_is_err_and r.result r.ensures.1 in
     let stops = rw c.flats.invariant.conv at c.in_err-draw_one-in-Flat.ensures.stop in
     rw (p.1, p.2)
-    (λ told units indexed i old new conv so_far.
-    pen_stop (IsFontOf told units) c.args.pen.now.conv c.args.sheet.now indexed i (left c.flats.expander) c.flats.pen.state c.flats.page old new
-    (c.flats.invariant.drawn told units (course_of indexed.reading i) old new so_far) conv
-    flat None c.next.new.self.at (left c.next.new.self) step.given _ stops)
+    (λ known units indexed i old new conv so_far.
+    pen_stop (IsFontOf known units) c.args.pen.now.conv c.args.sheet.now indexed i (rest_of c.flats.expander) c.flats.pen.state c.flats.page old new
+    (c.flats.invariant.drawn known units (course_of indexed.reading i) old new so_far) conv
+    flat None c.next.new.self.at (rest_of c.next.new.self) step.given _ stops)
 
 pub returns-in_err-draw_one-in-Flat-clause-source : goal.returns-in_err-draw_one-in-Flat-clause-source
 returns-in_err-draw_one-in-Flat-clause-source c =
@@ -83,51 +83,51 @@ returns-in_err-draw_one-in-Flat-clause-source c =
 pub flats-preserved-in_ok-draw_one-in-Flat : goal.flats-preserved-in_ok-draw_one-in-Flat
 flats-preserved-in_ok-draw_one-in-Flat c =
     let i = c.flats.invariant in
-    let same = rw c.in_default.is at c.next_plain.follows.holds-at-none in
+    let same = rw c.in_default.is at c.next_packed_char.follows.holds-at-none in
     let given = rw (c.in-Flat.is, same) at c.in_ok-other.ensures.step in
-    let flat = seen_flat c.in-Flat.flat in
-    let step = comes_alone c.flats.expander c.next.new.self flat given.0 (rw c.in_default.is at c.next_plain.ensures.none refl) given.1 in
+    let flat = value_of_flat c.in-Flat.flat in
+    let step = comes_alone c.flats.expander c.next.new.self flat given.0 (rw c.in_default.is at c.next_packed_char.ensures.none refl) given.1 in
     let moved = rw i.conv at c.in_ok-draw_one-in-Flat.ensures.moved in
     let inked = rw i.conv at c.in_ok-draw_one-in-Flat.ensures.inked in
     record {
       conv = c.draw_one.ensures.conv ∙ i.conv;
       asks = omega (arith, i.asks, step.asks);
       steps = omega (arith, i.steps, step.fewer);
-      drawn = λ told units from old new so_far.
-          so_far_flat (IsFontOf told units) c.args.pen.now.conv c.args.sheet.now from (left c.flats.expander) c.flats.pen.state c.flats.page old new
-          (i.drawn told units from old new so_far) flat None c.next.new.self.at (left c.next.new.self)
+      drawn = λ known units from old new so_far.
+          so_far_flat (IsFontOf known units) c.args.pen.now.conv c.args.sheet.now from (rest_of c.flats.expander) c.flats.pen.state c.flats.page old new
+          (i.drawn known units from old new so_far) flat None c.next.new.self.at (rest_of c.next.new.self)
           c.draw_one.new.pen.state c.draw_one.new.page step.given moved inked;
     }
 
 pub flats-preserved : goal.flats-preserved
 flats-preserved c =
     let i = c.flats.invariant in
-    let same = rw c.in_default.is at c.next_plain.follows.holds-at-none in
+    let same = rw c.in_default.is at c.next_packed_char.follows.holds-at-none in
     let given = rw (c.in-Flat.is, same) at c.in_ok-other.ensures.step in
-    let flat = seen_flat c.in-Flat.flat in
-    let step = comes_alone c.flats.expander c.next.new.self flat given.0 (rw c.in_default.is at c.next_plain.ensures.none refl) given.1 in
+    let flat = value_of_flat c.in-Flat.flat in
+    let step = comes_alone c.flats.expander c.next.new.self flat given.0 (rw c.in_default.is at c.next_packed_char.ensures.none refl) given.1 in
     let moved = rw i.conv at c.in_ok-draw_one-in-Flat.ensures.moved in
     let inked = rw i.conv at c.in_ok-draw_one-in-Flat.ensures.inked in
     record {
       conv = c.draw_one.ensures.conv ∙ i.conv;
       asks = omega (arith, i.asks, step.asks);
       steps = omega (arith, i.steps, step.fewer);
-      drawn = λ told units from old new so_far.
-          so_far_flat (IsFontOf told units) c.args.pen.now.conv c.args.sheet.now from (left c.flats.expander) c.flats.pen.state c.flats.page old new
-          (i.drawn told units from old new so_far) flat None c.next.new.self.at (left c.next.new.self)
+      drawn = λ known units from old new so_far.
+          so_far_flat (IsFontOf known units) c.args.pen.now.conv c.args.sheet.now from (rest_of c.flats.expander) c.flats.pen.state c.flats.page old new
+          (i.drawn known units from old new so_far) flat None c.next.new.self.at (rest_of c.next.new.self)
           c.draw_one.new.pen.state c.draw_one.new.page step.given moved inked;
     }
 
 pub returns-in_default-2 : goal.returns-in_default-2
 returns-in_default-2 c =
     let i = c.flats.invariant in
-    let none = rw c.in_default.is at c.next_plain.follows.holds-at-none in
+    let none = rw c.in_default.is at c.next_packed_char.follows.holds-at-none in
     let step = rw none at c.in_ok-other.ensures.step in
     let same = other_stays c.flats.expander c.next.new.self c.in_ok-other.other c.in_default-2.not-Flat step in
     record {
-      drawn = λ told units from old new so_far.
-          so_far_same (IsFontOf told units) c.args.pen.now.conv c.args.sheet.now from (left c.flats.expander) c.flats.pen.state c.flats.page old new
-          (i.drawn told units from old new so_far) (left c.next.new.self) same.left;
+      drawn = λ known units from old new so_far.
+          so_far_same (IsFontOf known units) c.args.pen.now.conv c.args.sheet.now from (rest_of c.flats.expander) c.flats.pen.state c.flats.page old new
+          (i.drawn known units from old new so_far) (rest_of c.next.new.self) same.left;
       conv = i.conv;
       asks = omega (arith, i.asks, same.asks);
       steps = fewer_still c.args.expander.now c.flats.expander c.next.new.self c.in_ok-other.other i.steps same.fewer;

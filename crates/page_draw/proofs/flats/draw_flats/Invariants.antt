@@ -1,6 +1,6 @@
 use Rattle.std.proofs.Common.{◌≡◌, ◌≤◌}
-use Rattle.vf_expand.specs.Expansion.{asks_left, left, steps_left}
-use Rattle.page_draw.specs.SoFar.{GoesOn}
+use Rattle.vf_expand.specs.Expansion.{asks_left, rest_of, steps_left}
+use Rattle.page_draw.specs.DrawnUpTo.{Continues}
 use Rattle.page_draw.proofs.flats.draw_flats.Given as goal
 
 -- the page goes on from where it was
@@ -10,7 +10,7 @@ invariant-flats l =
       conv : l.pen.conv ≡ l.fn.pen.conv;
       asks : asks_left l.expander ≤ asks_left l.fn.expander;
       steps : steps_left l.expander ≤ steps_left l.fn.expander;
-      drawn : GoesOn l.fn.pen.conv l.sheet (left l.fn.expander) l.fn.pen.state l.fn.page (left l.expander) l.pen.state l.page;
+      drawn : Continues l.fn.pen.conv l.sheet (rest_of l.fn.expander) l.fn.pen.state l.fn.page (rest_of l.expander) l.pen.state l.page;
     }
 
 abbrev pub decreases-flats : goal.decreases-flats

@@ -47,13 +47,13 @@ returns-in-Some c =
     let same_vv : kept vv ≡ vv = omega (arith, ints) in
     let same_hoff : to_z w32 (of_z w32 g.hoff) ≡ g.hoff = omega (arith, ints) in
     let same_voff : to_z w32 (of_z w32 g.voff) ≡ g.voff = omega (arith, ints) in
-    let kept_column : kept c.placed-column.result ≡ c.placed-column.result = omega (arith, ints) in
-    let kept_row : kept c.placed-row.result ≡ c.placed-row.result = omega (arith, ints) in
-    let column : kept c.placed-column.result ≡ hh -ℤ g.hoff +ℤ pos sheet.left =
-    kept_column ∙ c.placed-column.ensures.value ∙ ap₂ (λ (a b : ℤ). a -ℤ b +ℤ pos sheet.left) same_hh same_hoff in
-    let row : kept c.placed-row.result ≡ vv -ℤ g.voff +ℤ pos sheet.top =
-    kept_row ∙ c.placed-row.ensures.value ∙ ap₂ (λ (a b : ℤ). a -ℤ b +ℤ pos sheet.top) same_vv same_voff in
-    let dots = Dots g.raster (kept c.placed-column.result) (kept c.placed-row.result) in
+    let kept_column : kept c.top_left-column.result ≡ c.top_left-column.result = omega (arith, ints) in
+    let kept_row : kept c.top_left-row.result ≡ c.top_left-row.result = omega (arith, ints) in
+    let column : kept c.top_left-column.result ≡ hh -ℤ g.hoff +ℤ pos sheet.left =
+    kept_column ∙ c.top_left-column.ensures.value ∙ ap₂ (λ (a b : ℤ). a -ℤ b +ℤ pos sheet.left) same_hh same_hoff in
+    let row : kept c.top_left-row.result ≡ vv -ℤ g.voff +ℤ pos sheet.top =
+    kept_row ∙ c.top_left-row.ensures.value ∙ ap₂ (λ (a b : ℤ). a -ℤ b +ℤ pos sheet.top) same_vv same_voff in
+    let dots = Dots g.raster (kept c.top_left-column.result) (kept c.top_left-row.result) in
     let set : dots ∷ [] ≡ inks_of sheet c.args.mark (option_map (λ g. g.now) c.args.glyph) =
     ap₂ (λ (a b : ℤ). Dots g.raster a b ∷ []) column row
     ∙ ap (λ (o : Option Glyph). dots_of sheet o hh vv) (sym (ap (option_map (λ g. g.now)) c.in-Some.is))

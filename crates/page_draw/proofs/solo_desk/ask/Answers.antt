@@ -3,7 +3,7 @@ use Rattle.std.specs.Arc.{arc_value}
 use Rattle.cache_core.specs.Machine.{claim_of}
 use Rattle.cache_core.specs.States.{call}
 use Rattle.cache_core.specs.declared.calls.Done.TheVariants.{Hit, Released}
-use Rattle.page_draw.specs.SoloDesks.{part_of}
+use Rattle.page_draw.specs.SoloDesks.{common_part}
 use Rattle.page_draw.proofs.Alone.{alone_later, asked_grew, refused_trail, hit_trail, released_trail, ended_asked, ended_alone, which, kept_trail, on_ok, on_err, never_busy}
 use Rattle.page_draw.proofs.solo_desk.ask.Goals as goal
 
@@ -26,7 +26,7 @@ returns-in-Hit-clause-alone g c =
     let taken = rw c.in-Hit.is at c.in_ok-font.ensures.taken in
     let l = g.F.FontSource.library c.args.source.now in
     alone_later c.args.cache.now c.look.new.self (call 1 k Hit ∷ []) noted c.in_ok-font.ensures.capacity l l c.args.units.now c.requires.alone refl
-    (ap (λ m. claim_of 1 m.claims) taken.changed ∙ c.requires.alone.free) (refl, tt) (c.in_ok-font.ensures.stands (part_of l c.args.units.now c.args.cache.now.capacity))
+    (ap (λ m. claim_of 1 m.claims) taken.changed ∙ c.requires.alone.free) (refl, tt) (c.in_ok-font.ensures.stands (common_part l c.args.units.now c.args.cache.now.capacity))
 
 pub returns-in-Hit-clause-asked : goal.returns-in-Hit-clause-asked
 returns-in-Hit-clause-asked g c =
@@ -47,7 +47,7 @@ returns-in-Ok-clause-alone g c =
     let noted = rw c.in-Claimed.is at c.in_ok-font.ensures.noted in
     let taken = rw c.in-Claimed.is at c.in_ok-font.ensures.taken in
     let l = g.F.FontSource.library c.args.source.now in
-    let part = part_of l c.args.units.now c.args.cache.now.capacity in
+    let part = common_part l c.args.units.now c.args.cache.now.capacity in
     let ended = which k c.args.cache.now c.look.new.self c.keep.new.cache noted (c.keep.ensures.capacity ∙ c.in_ok-font.ensures.capacity) c.keep.result c.keep.ensures.filled c.keep.ensures.released in
     ended_alone k c.args.cache.now c.look.new.self c.keep.new.cache noted (c.keep.ensures.capacity ∙ c.in_ok-font.ensures.capacity) ended.0 l (g.F.FontSource.library c.load.new.source) c.args.units.now c.requires.alone c.load.ensures.library
     (ap (λ m. m.claims) taken.changed) c.keep.ensures.claims ended.2
@@ -80,7 +80,7 @@ returns-in-Err-clause-alone g c =
     let noted = rw c.in-Claimed.is at c.in_ok-font.ensures.noted in
     let taken = rw c.in-Claimed.is at c.in_ok-font.ensures.taken in
     let l = g.F.FontSource.library c.args.source.now in
-    let part = part_of l c.args.units.now c.args.cache.now.capacity in
+    let part = common_part l c.args.units.now c.args.cache.now.capacity in
     ended_alone k c.args.cache.now c.look.new.self c.release.new.self noted (c.release.ensures.capacity ∙ c.in_ok-font.ensures.capacity) Released l (g.F.FontSource.library c.load.new.source) c.args.units.now c.requires.alone c.load.ensures.library
     (ap (λ m. m.claims) taken.changed) (ap (λ m. m.claims) c.release.ensures.taken.changed) c.release.ensures.noted
     (λ s. c.release.ensures.stands part (c.in_ok-font.ensures.stands part s))

@@ -3,10 +3,10 @@ use Rattle.std.specs.Arc.{arc_value}
 use Rattle.std.specs.declared.sync.Arc.{Arc}
 use Rattle.cache_core.specs.States.{call}
 use Rattle.font_decode.specs.Decoding.{IsFontOf}
-use Rattle.font_decode.specs.declared.decoded.Decoded.{Decoded}
+use Rattle.font_decode.specs.declared.font_or_fault.Decoded.{Decoded}
 use Rattle.cache_core.specs.declared.calls.Done.TheVariants.{Hit, Busy, Claimed, Released}
 use Rattle.page_workers.proofs.Calls.{one_call, no_call, asked_grew, refused_grew, hit_grew, busy_grew, released_grew, two_calls, ended_asked, kept_asked, kept_trail, on_ok, on_err}
-use Rattle.page_workers.proofs.Fonts.{as_told, of_ok}
+use Rattle.page_workers.proofs.Fonts.{as_known, of_ok}
 use Rattle.page_workers.proofs.worker.ask.Goals as goal
 
 -- what is loaded is the key's font by the common part
@@ -15,7 +15,7 @@ keep-requires-clause-stands g c =
     let fits = c.requires.fits in
     let part = c.args.seat.now.view.part in
     rw c.look.ensures.turn.common_part
-    (as_told part.library (g.F.FontSource.library c.args.source.now) c.args.bench.now.units part.units (arc_value c.args.key.now) (arc_value c.in-Ok-load.font) fits.tells fits.units
+    (as_known part.library (g.F.FontSource.library c.args.source.now) c.args.bench.now.units part.units (arc_value c.args.key.now) (arc_value c.in-Ok-load.font) fits.knows_library fits.units
     c.in-Ok-load.ensures.found)
 
 pub returns-in-Busy-clause-found : goal.returns-in-Busy-clause-found
@@ -23,16 +23,16 @@ returns-in-Busy-clause-found g c =
     let fits = c.requires.fits in
     let part = c.args.seat.now.view.part in
     let k = arc_value c.args.key.now in
-    let told = g.F.FontSource.library c.args.source.now in
-    of_ok (λ (font : Arc Decoded Global). IsFontOf told (Some c.args.bench.now.units) k (arc_value font)) (λ (font : Arc Decoded Global). IsFontOf part.library (Some part.units) k (arc_value font))
-    c.load.result (λ font found. as_told part.library told c.args.bench.now.units part.units k (arc_value font) fits.tells fits.units found) c.load.ensures.found
+    let known = g.F.FontSource.library c.args.source.now in
+    of_ok (λ (font : Arc Decoded Global). IsFontOf known (Some c.args.bench.now.units) k (arc_value font)) (λ (font : Arc Decoded Global). IsFontOf part.library (Some part.units) k (arc_value font))
+    c.load.result (λ font found. as_known part.library known c.args.bench.now.units part.units k (arc_value font) fits.knows_library fits.units found) c.load.ensures.found
 
 pub returns-in-Ok-load-clause-found : goal.returns-in-Ok-load-clause-found
 returns-in-Ok-load-clause-found g c =
     let fits = c.requires.fits in
     let part = c.args.seat.now.view.part in
     let k = arc_value c.args.key.now in
-    let loaded = as_told part.library (g.F.FontSource.library c.args.source.now) c.args.bench.now.units part.units k (arc_value c.in-Ok-load.font) fits.tells fits.units
+    let loaded = as_known part.library (g.F.FontSource.library c.args.source.now) c.args.bench.now.units part.units k (arc_value c.in-Ok-load.font) fits.knows_library fits.units
     c.in-Ok-load.ensures.found in
     of_ok (λ (kept : Arc Decoded Global). arc_value kept ≡ arc_value c.in-Ok-load.font) (λ (kept : Arc Decoded Global). IsFontOf part.library (Some part.units) k (arc_value kept))
     c.keep.result (λ kept same. subst (IsFontOf part.library (Some part.units) k) (sym same) loaded) c.keep.ensures.same

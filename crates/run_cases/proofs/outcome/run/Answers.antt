@@ -2,7 +2,7 @@ use denote.Param.Send.{sendable}
 use Rattle.run_cases.proofs.fonts.Fonts.TheSendSync.{the_send}
 use Rattle.std.proofs.Common.{◌≡◌, ◌<◌, ◌≤◌, length, get_or, ap, sym, subst, arith, rules}
 use Rattle.page_workers.specs.Seating.{IsUnused}
-use Rattle.dvi_run.proofs.Together.{ready_untold}
+use Rattle.dvi_run.proofs.RunOfWorkers.{ready_unknown}
 use Rattle.run_cases.proofs.outcome.run.Goals as goal
 
 pub dvipbm_run-status-requires : goal.dvipbm_run-status-requires
@@ -30,7 +30,7 @@ dvipbm_run-status-requires g c κs within =
                       omega (arith, long, made.count),
                       (
                         λ k d lt.
-                            ready_untold _ (get_or ws k d) (subst (λ xs. IsUnused (get_or xs k d)) (sym same) (made.unused k d (omega (arith, lt, long, made.count)))),
+                            ready_unknown _ (get_or ws k d) (subst (λ xs. IsUnused (get_or xs k d)) (sym same) (made.unused k d (omega (arith, lt, long, made.count)))),
                         search rules,
                       ),
                     ),

@@ -2,7 +2,7 @@ use Rattle.std.proofs.Common.{◌≡◌, ◌≤◌, ℕ, suc, List, [], ◌∷�
 use Rattle.std.proofs.lemmas.Int.{ints}
 use Rattle.dvi_commands.proofs.Motions.{stored}
 use Rattle.page_index.specs.Document.{IsDocument}
-use Rattle.page_index.specs.Limits.{LONGEST}
+use Rattle.page_index.specs.Limits.{MAX_DOCUMENT_LENGTH}
 use Rattle.sample_maker.specs.DviFile.{document_reading, document_text}
 use Rattle.sample_maker.proofs.DviMade.{document_made, head_made, pages_fit, post_fits}
 use Rattle.sample_maker.proofs.DviRead.{gives_back}
@@ -58,6 +58,6 @@ unfolding texts
 returns-clause-is_document c = λ res scale define fits.
     let pages = texts c.args.pages.now in
     let same = returns-clause-bytes c in
-    let short : length (document_text c.args.units.now c.args.fonts.now pages) ≤ LONGEST = subst (λ (t : List ℕ). length t ≤ LONGEST) same fits in
+    let short : length (document_text c.args.units.now c.args.fonts.now pages) ≤ MAX_DOCUMENT_LENGTH = subst (λ (t : List ℕ). length t ≤ MAX_DOCUMENT_LENGTH) same fits in
     subst (λ (t : List ℕ). IsDocument res t (document_reading c.args.units.now c.args.fonts.now pages)) (sym same)
     (is_document c.args.units.now c.args.fonts.now pages c.requires.units c.requires.fonts c.in_ok-append_fonts.ensures.spelled c.requires.apart (omega (arith, as_many c.args.pages.now, c.requires.few)) c.requires.pages short res scale define)

@@ -1,10 +1,10 @@
 use Rattle.std.proofs.Common.{ℕ, ℤ, List, Vec, Global, map, subst}
 use Rattle.vf_reader.specs.Fonts.{IsVfFile}
-use Rattle.sample_maker.specs.VfFile.{Packet}
+use Rattle.sample_maker.specs.VfFile.{VfPacket}
 use Rattle.sample_maker.proofs.VfRead.{file_made, gives_font}
 use Rattle.sample_maker.proofs.vf.vf_bytes.Goals as goal
 
-seen : List (ℕ × ℤ × Vec ℕ Global) → List Packet
+seen : List (ℕ × ℤ × Vec ℕ Global) → List VfPacket
 seen packets = map (λ p. (p.0, p.1, p.2.items)) packets
 
 pub returns-clause-bytes : goal.returns-clause-bytes

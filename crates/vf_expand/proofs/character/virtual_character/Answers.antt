@@ -43,5 +43,5 @@ returns-clause-has_effect c =
       program = there.2;
       prefix = refl;
       first = c.in_ok-first_current.ensures.first;
-      gives = λ at others. has_packet at (arc_value c.args.key.now) c.args.font.now c.args.code c.args.gap _ c.args.room there.0 some own;
+      gives = λ at others. has_packet at (arc_value c.args.key.now) c.args.font.now c.args.code c.args.advance _ c.args.room there.0 some own;
     }

@@ -1,6 +1,6 @@
 use Rattle.std.proofs.Common.{◌≡◌, ◌∙◌, ◌++◌, ◌∷◌, [], List, ℤ, Some, None, ap, sym, subst}
 use Rattle.std.specs.Option.{MatchOption}
-use Rattle.dvi_commands.specs.Spelling.{seen_definition}
+use Rattle.dvi_commands.specs.Spelling.{value_of_definition}
 use Rattle.vf_reader.specs.Locals.{local_with}
 use Rattle.vf_reader.specs.declared.locals.LocalDef.{LocalDef}
 use Rattle.vf_reader.proofs.Fields.{stored_is}
@@ -10,7 +10,7 @@ use Rattle.vf_reader.proofs.read.with_local.Goals as goal
 pub returns-in-None : goal.returns-in-None
 returns-in-None c = record {
   added = λ before are.
-      let d = seen_definition c.definition-def.result in
+      let d = value_of_definition c.definition-def.result in
       let item = c.args.item.now in
       let known = c.get-known.result in
       let found = subst (λ (k : ℤ). MatchOption known (local_with c.args.locals k ≡ None) (λ local. local_with c.args.locals k ≡ Some local.now)) (stored_is d.number c.definition-def.ensures.fits) c.get-known.ensures in (
@@ -22,7 +22,7 @@ returns-in-None c = record {
 pub returns-in_ok-with-in-None-2 : goal.returns-in_ok-with-in-None-2
 returns-in_ok-with-in-None-2 c = record {
   added = λ before are.
-      let d = seen_definition c.definition-def.result in
+      let d = value_of_definition c.definition-def.result in
       let item = c.args.item.now in
       let known = c.get-known.result in
       let found = subst (λ (k : ℤ). MatchOption known (local_with c.args.locals k ≡ None) (λ local. local_with c.args.locals k ≡ Some local.now)) (stored_is d.number c.definition-def.ensures.fits) c.get-known.ensures in (

@@ -1,12 +1,12 @@
 use Rattle.std.proofs.Common.{◌≡◌, ◌≤◌, ◌+◌, ◌*◌, ◌++◌, ◌∷◌, [], Bool, List, All, Ok, length, reverse, refl, sym, ap, ◌∙◌, rules, arith, subst}
 use Rattle.std.proofs.lemmas.List.{length-append}
-use Rattle.dvi_run.proofs.Writing.{All-first}
+use Rattle.dvi_run.proofs.StackWritten.{All-first}
 use Rattle.outside.specs.Counts.{Rose}
 use Rattle.page_workers.specs.declared.worker.PageResult.{PageResult}
 use Rattle.dvi_run.specs.Rounds.{WroteOutcome}
 use Rattle.dvi_run.specs.Stacks.{HasFewDots, WroteUpTo}
 use Rattle.dvi_run.specs.declared.tally.Tally.{Tally}
-use Rattle.dvi_run.proofs.Writing.{SoFar, all_so_far, few_on_top, none_so_far, one_more, up_to, wrote_err}
+use Rattle.dvi_run.proofs.StackWritten.{SoFar, all_so_far, few_on_top, none_so_far, one_more, up_to, wrote_err}
 use Rattle.std.proofs.lemmas.Result.{err_from_is_err_and}
 use Rattle.outside.proofs.Growth.{rose_later}
 use Rattle.dvi_run.proofs.pages.Press.write_stack.Goals as goal
@@ -35,14 +35,14 @@ loop-drawn-preserved g c =
     let now = g.O.Output.written c.loop-drawn.out in
     let new = g.O.Output.written c.write_one.new.out in
     let Fails = Rose (g.O.Output.faults c.loop-drawn.out) (g.O.Output.faults c.write_one.new.out) in
-    let went = c.in_ok-black.ensures in
-    let wrote : WroteOutcome K now new Fails r.outcome (Ok more) = subst (λ (b : Bool). WroteOutcome b now new Fails r.outcome (Ok more)) inv.counted went.wrote in
+    let answers = c.in_ok-black.ensures in
+    let wrote : WroteOutcome K now new Fails r.outcome (Ok more) = subst (λ (b : Bool). WroteOutcome b now new Fails r.outcome (Ok more)) inv.counted answers.wrote in
     let so_far : SoFar K old now all (left ++ r ∷ []) t u = subst (λ (l : List PageResult). SoFar K old now all l t u) split inv.so_far in
     record {
-      so_far = subst (λ (l : List PageResult). SoFar K old new all l t v) (sym (ap (λ w. w.items) went.stack))
-          (one_more K old now new all left r t u so_far Fails more v wrote (ap (λ (x : Tally). x.pages + 1) went.tally) (ap (λ (x : Tally). x.black + more) went.tally));
-      counted = went.counted ∙ inv.counted;
-      output = omega (arith, inv.output, went.output);
+      so_far = subst (λ (l : List PageResult). SoFar K old new all l t v) (sym (ap (λ w. w.items) answers.stack))
+          (one_more K old now new all left r t u so_far Fails more v wrote (ap (λ (x : Tally). x.pages + 1) answers.tally) (ap (λ (x : Tally). x.black + more) answers.tally));
+      counted = answers.counted ∙ inv.counted;
+      output = omega (arith, inv.output, answers.output);
     }
 
 pub overflow_add-self : goal.overflow_add-self
@@ -82,9 +82,9 @@ returns-in_err-black-clause-stopped g c =
     let Failed = Rose (g.O.Output.faults c.loop-drawn.out) (g.O.Output.faults c.write_one.new.out) in
     let Fails = Rose (g.O.Output.faults c.args.out.now) (g.O.Output.faults c.write_one.new.out) in
     let why = c.in_err-black.field-0.0 in
-    let went = c.in_err-black.ensures in
+    let answers = c.in_err-black.ensures in
     let so_far : SoFar K old now all (left ++ r ∷ []) t u = subst (λ (l : List PageResult). SoFar K old now all l t u) split inv.so_far in
     let wrote = wrote_err K now new Failed Fails r.outcome why
-    (λ rose. rose_later (g.O.Output.faults c.args.out.now) (g.O.Output.faults c.loop-drawn.out) (g.O.Output.faults c.write_one.new.out) inv.output rose went.output) (rw inv.counted at went.wrote) in
+    (λ rose. rose_later (g.O.Output.faults c.args.out.now) (g.O.Output.faults c.loop-drawn.out) (g.O.Output.faults c.write_one.new.out) inv.output rose answers.output) (rw inv.counted at answers.wrote) in
     let p = err_from_is_err_and c.from_residual.result c.from_residual.ensures.1 in
-    rw (p.1, p.2) (subst (λ (x : Tally). WroteUpTo K old new Fails (reverse all) t x why) (sym went.tally) (up_to K old now new all left r t u so_far Fails why wrote))
+    rw (p.1, p.2) (subst (λ (x : Tally). WroteUpTo K old new Fails (reverse all) t x why) (sym answers.tally) (up_to K old now new all left r t u so_far Fails why wrote))

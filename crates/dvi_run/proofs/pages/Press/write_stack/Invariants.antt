@@ -1,5 +1,5 @@
 use Rattle.std.proofs.Common.{◌≡◌, ◌≤◌, length}
-use Rattle.dvi_run.proofs.Writing.{SoFar}
+use Rattle.dvi_run.proofs.StackWritten.{SoFar}
 use Rattle.dvi_run.proofs.pages.Press.write_stack.Given as goal
 
 abbrev pub invariant-loop-drawn : goal.invariant-loop-drawn

@@ -1,6 +1,6 @@
 use Rattle.std.proofs.Common.{◌≡◌, ◌∙◌, ◌≤◌, ap, subst, arith, refl, rules, pos, neg_ℤ, ◌-ℤ◌, to_z-of_z, to_z, of_z, w32, SFits}
 use Rattle.std.proofs.lemmas.Int.{ints}
-use Rattle.pk_runs.specs.Limits.{LONGEST_SIDE}
+use Rattle.pk_runs.specs.Limits.{MAX_GLYPH_SIDE}
 use Rattle.packed_rows.specs.Changes.{white_bitmap}
 use Rattle.gf_reader.specs.Characters.{width_of}
 use Rattle.gf_reader.proofs.drawing.Drawing.new.Goals as goal
@@ -18,6 +18,6 @@ returns c = λ item h wide high.
       row = omega arith;
       column = omega arith;
       black = refl;
-      narrow = subst (λ n. n ≤ LONGEST_SIDE) wide c.requires.narrow;
-      low = subst (λ n. n ≤ LONGEST_SIDE) high c.requires.low;
+      narrow = subst (λ n. n ≤ MAX_GLYPH_SIDE) wide c.requires.narrow;
+      low = subst (λ n. n ≤ MAX_GLYPH_SIDE) high c.requires.low;
     }

@@ -1,5 +1,5 @@
 use Rattle.std.proofs.Common.{[], refl}
-use Rattle.dvi_commands.specs.Spelling.{seen}
+use Rattle.dvi_commands.specs.Spelling.{value_of_command}
 use Rattle.page_index.specs.Walked.{after_preamble}
 use Rattle.page_index.proofs.Begin.{begun, not_refused}
 use Rattle.page_index.proofs.Steps.{read_as}
@@ -12,4 +12,4 @@ pub returns : goal.returns
 returns c =
     read_as c.args.bytes.now c.args.first.now (after_preamble c.in-Ok.next) c.after_preamble.result [] c.new.result.items c.new-2.result c.new-2.result
     c.after_preamble.ensures c.new.ensures.items refl
-    (begun c.args.bytes.now c.args.first.now c.requires (seen c.in-Ok.field-0-0) c.in-Ok.next c.in-Ok.ensures.read c.in-Ok.ensures.place.0 c.in-Ok.ensures.place.1 c.in-Ok.ensures.allowed c.new-2.result c.new-2.ensures)
+    (begun c.args.bytes.now c.args.first.now c.requires (value_of_command c.in-Ok.field-0-0) c.in-Ok.next c.in-Ok.ensures.read c.in-Ok.ensures.place.0 c.in-Ok.ensures.place.1 c.in-Ok.ensures.allowed c.new-2.result c.new-2.ensures)

@@ -1,5 +1,5 @@
 use Rattle.std.proofs.Common.{subst, sym, ap, ◌∙◌}
-use Rattle.dvi_commands.specs.Spelling.{seen}
+use Rattle.dvi_commands.specs.Spelling.{value_of_command}
 use Rattle.page_index.specs.Faults.{IsFirstFault}
 use Rattle.page_index.specs.Walked.{fonts_after, pages_after, progress_after}
 use Rattle.page_index.specs.declared.faults.DocFault.{DocFault}
@@ -21,13 +21,13 @@ returns-in-Err-read_command-clause-stop c =
 pub returns-in-Some-clause-stop : goal.returns-in-Some-clause-stop
 returns-in-Some-clause-stop c =
     let old = c.args.self.now in
-    judged_fault c.args.bytes.now c.args.first.now old.progress old.pages.items old.fonts c.requires.read c.requires.going c.in_default.ensures.postpost (seen c.in-Ok.read.0) c.in-Ok.read.1
+    judged_fault c.args.bytes.now c.args.first.now old.progress old.pages.items old.fonts c.requires.read c.requires.going c.in_default.ensures.postpost (value_of_command c.in-Ok.read.0) c.in-Ok.read.1
     c.in-Ok.ensures.read c.in-Ok.ensures.place.0 c.in-Ok.ensures.place.1 c.in-Ok.ensures.allowed c.in-Some.fault (sym c.in-Some.ensures)
 
 pub returns-clause-read : goal.returns-clause-read
 returns-clause-read c =
     let old = c.args.self.now in
-    let command = seen c.in-Ok.read.0 in
+    let command = value_of_command c.in-Ok.read.0 in
     let next = c.in-Ok.read.1 in
     read_as c.args.bytes.now c.args.first.now (progress_after old.progress command next) c.after-self.result
     (pages_after old.progress old.pages.items command) c.keep.new.self.pages.items (fonts_after old.fonts command) c.keep.new.self.fonts

@@ -16,7 +16,7 @@ draw_round-requires-clause-ready g c κs within =
     λ j d lt.
     let below : j < length xs = subst (λ (n : ℕ). j < n) long lt in
     seated_may_draw g.F.FontSource.library bench c.in_ok-cache.first.view.part (j + 1) c.pages-count.result (get_or xs j d) (get_or ws j d) few
-    (record { units = search rules; sound = search rules; tells = search rules }) (All-get_or IsUnused xs j d below c.requires.unused) (c.seat_all.ensures.seated j d below)
+    (record { units = search rules; sound = search rules; knows_library = search rules }) (All-get_or IsUnused xs j d below c.requires.unused) (c.seat_all.ensures.seated j d below)
 
 pub join_all-requires-clause-leave : goal.join_all-requires-clause-leave
 join_all-requires-clause-leave g c =

@@ -5,7 +5,7 @@ use Rattle.atomic_table.proofs.Lists.{at_longer}
 use Rattle.cache_core.specs.Histories.{own}
 use Rattle.turn_lock.specs.declared.view.View.{View}
 use Rattle.turn_lock.specs.Histories.{longer_of}
-use Rattle.turn_lock.specs.Steps.{CompareTells}
+use Rattle.turn_lock.specs.Steps.{CompareGives}
 use Rattle.turn_lock.proofs.Lines.{at_inside}
 use Rattle.turn_lock.proofs.Keeps.{joins, settles}
 use Rattle.turn_lock.proofs.BetweenCalls.{kept_empty}
@@ -41,7 +41,7 @@ returns-clause-before g c = λ i m at.
     let is = c.first.view_is in
     let j = c.join_seat.ensures in
     let l = c.load.ensures in
-    let told = subst (λ (v : View). CompareTells v v.stage) (ap (λ (m : Me (Option g.row.T.Denot) View). m.0) j.2) l.2.1 in
+    let told = subst (λ (v : View). CompareGives v v.stage) (ap (λ (m : Me (Option g.row.T.Denot) View). m.0) j.2) l.2.1 in
     let seen : c.load.new.seat.me.0.seen ≡ longer_of a.seen b.seen = ap (λ (m : Me (Option g.row.T.Denot) View). m.0.seen) l.2.0 ∙ ap (λ (m : Me (Option g.row.T.Denot) View). m.0.seen) j.2 in
     let at_a = ap (λ s. get_elem? s.view.joined i) is ∙ at in
     let inside : i + 1 < length (a.joined ++ b.number ∷ []) = let h = at_inside a.joined i m at_a in let n = length-append a.joined (b.number ∷ []) in omega arith in

@@ -5,4 +5,4 @@ use Rattle.vf_reader.proofs.packet_table.PacketTable.put.Goals as goal
 pub returns-in_ok-insert : goal.returns-in_ok-insert
 returns-in_ok-insert c = λ k.
     rw (← c.self.view_is)
-    (other_kept c.args.c k c.args.span c.self.inside.plain.items c.self.inside.others.entries c.insert.new.self.entries (omega arith) (c.in_ok-insert.ensures.updates.0 k))
+    (other_kept c.args.c k c.args.span c.self.inside.table.items c.self.inside.others.entries c.insert.new.self.entries (omega arith) (c.in_ok-insert.ensures.updates.0 k))

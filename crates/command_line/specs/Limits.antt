@@ -1,0 +1,10 @@
+-- The limits of what a command line asks for: of no standard, but this project's own choice.
+use Rattle.std.specs.Prelude.{ℕ}
+
+-- the most workers of a run
+abbrev pub MAX_WORKERS : ℕ
+MAX_WORKERS = 32
+
+-- the most fonts that a cache may keep
+abbrev pub MAX_CACHED_FONTS : ℕ
+MAX_CACHED_FONTS = 256

@@ -1,0 +1,218 @@
+-- The end of a run after its report: it is as it was, but where all pages were written and the
+-- notes failed.
+use Rattle.std.proofs.Common.{◌≡◌, ◌∙◌, inl, inr, ℕ, ◌+◌, Bool, true, false, List, [], ◌∷◌, ◌++◌, Option, Some, None, Result, Ok, Err, refl, sym, ap, get_or}
+use Rattle.std.specs.Prelude.{IfSome, is_ok}
+use Rattle.outside.specs.Counts.{Rose}
+use Rattle.outside.specs.Streams.{Writes}
+use Rattle.cache_core.specs.Histories.{own}
+use Rattle.cache_core.specs.declared.calls.Call.{Call}
+use Rattle.page_draw.specs.Values.{PageValue}
+use Rattle.page_index.specs.Document.{Reading}
+use Rattle.page_workers.specs.declared.worker.Worker.{Worker}
+use Rattle.vf_expand.specs.Faults.{value_of_fault}
+use Rattle.dvi_run.specs.Reading.{HoldsOfInput}
+use Rattle.dvi_run.specs.Pages.{Setup}
+use Rattle.dvi_run.specs.Endings.{EndingValue, Written, Notes, IsAmong, IsEnding, IsPrinted, PrintsBy, Prints, page_status, value_of_ending, status_of, with_notes}
+use Rattle.dvi_run.specs.Lines.{line_of}
+use Rattle.dvi_run.specs.Report.{report_text, trace_and_summary}
+use Rattle.dvi_run.specs.Tally.{CountsTo, TallyMatchesRun}
+use Rattle.dvi_run.specs.Sampled.{UsesTheSample}
+use Rattle.dvi_run.specs.Outside.{Drawing, Task}
+use Rattle.dvi_run.specs.Together.{Answered, WorkersAreDone, PagesMatchHistory, IsOneHistory, WorkerDone}
+use Rattle.dvi_run.specs.declared.ending.Ending.{Ending}
+use Rattle.dvi_run.specs.declared.ending.Ending.TheVariants as code
+use Rattle.command_line.specs.declared.settings.Settings.{Settings}
+use Rattle.dvi_run.specs.declared.tally.Tally.{Tally}
+use Rattle.dvi_run.proofs.Clauses.{AtPage, at_page, of_each}
+
+-- ---- how it ended
+
+module _ (old new : Option (List ℕ)) (OutputFailed SourceFailed OutputKept InputFailed : Type 0) (g : Setup) (left rest : Option (List ℕ)) where
+  abbrev Ends : EndingValue → Type 0
+  Ends e = IsEnding old new OutputFailed SourceFailed OutputKept InputFailed g left rest e
+
+  pub ends_on : (x : Ending) (taken : Bool) → Ends (value_of_ending x) → Ends (with_notes (value_of_ending x) taken)
+  ends_on code.Written true h = h
+  ends_on code.Written false h = h
+  ends_on code.Usage taken h = h
+  ends_on (code.Document fault) taken h = h
+  ends_on (code.Page page fault at) taken h = h
+  ends_on (code.Source page) taken h = h
+  ends_on code.Input taken h = h
+  ends_on (code.Output page) taken h = h
+  ends_on code.Memory taken h = h
+
+-- ---- what the notes took
+
+-- a page's status isn't 8
+no_page : (n : ℕ) → AtPage n → n ≡ 8 → ⊥
+no_page n (inl three) is = let e : 3 ≡ 8 = sym three ∙ is in cc
+no_page n (inr four) is = let e : 4 ≡ 8 = sym four ∙ is in cc
+
+module _ {T E : Type 0} (old new : Option (List ℕ)) (before now : ℕ) (text : List ℕ) where
+  printed_by : (r : Result T E) → Writes old new before now text r → Prints old new before now text
+  printed_by (Ok v) w = inl w.grew
+  printed_by (Err v) w = inr (w.grew, w.cause.rose refl)
+
+  pub line_printed : (r : Result T E) → Writes old new before now text r → IsPrinted old new before now text
+  line_printed r w = record { prints = printed_by r w; count = w.cause.never_falls }
+
+  pub prints_on : (x : Ending) (r : Result T E) → Writes old new before now text r → PrintsBy (with_notes (value_of_ending x) (is_ok r)) old new before now text
+  prints_on code.Written (Ok v) w = w.grew
+  prints_on code.Written (Err v) w = (w.grew, w.cause.rose refl)
+  prints_on code.Usage r w = printed_by r w
+  prints_on (code.Document fault) r w = printed_by r w
+  prints_on (code.Page page fault at) r w = printed_by r w
+  prints_on (code.Source page) r w = printed_by r w
+  prints_on code.Input r w = printed_by r w
+  prints_on (code.Output page) r w = printed_by r w
+  prints_on code.Memory r w = printed_by r w
+
+  pub failed_on : (x : Ending) (r : Result T E) → Writes old new before now text r → status_of (with_notes (value_of_ending x) (is_ok r)) ≡ 8 → Rose before now
+  failed_on code.Written (Ok v) w is = cc
+  failed_on code.Written (Err v) w is = w.cause.rose refl
+  failed_on code.Usage r w is = cc
+  failed_on (code.Document fault) r w is = cc
+  failed_on (code.Page page fault at) r w is = absurd (no_page (page_status (value_of_fault fault)) (at_page (value_of_fault fault)) is)
+  failed_on (code.Source page) r w is = cc
+  failed_on code.Input r w is = cc
+  failed_on (code.Output page) r w is = cc
+  failed_on code.Memory r w is = cc
+
+-- ---- the report
+
+line_on : (x : Ending) (taken : Bool) → line_of (value_of_ending x) ≡ line_of (with_notes (value_of_ending x) taken)
+line_on code.Written true = refl
+line_on code.Written false = refl
+line_on code.Usage taken = refl
+line_on (code.Document fault) taken = refl
+line_on (code.Page page fault at) taken = refl
+line_on (code.Source page) taken = refl
+line_on code.Input taken = refl
+line_on (code.Output page) taken = refl
+line_on code.Memory taken = refl
+
+-- it is the same whether the notes took it or not
+pub report_on : (settings : Settings) (tally : Option Tally) (loads : ℕ) (history : List Call) (x : Ending) (taken : Bool)
+    → report_text settings tally loads history (value_of_ending x) ≡ report_text settings tally loads history (with_notes (value_of_ending x) taken)
+report_on settings None loads history x taken = line_on x taken
+report_on settings (Some t) loads history x taken = ap (λ (line : List ℕ). trace_and_summary settings t loads history ++ line) (line_on x taken)
+
+-- ---- what was drawn
+
+not_idle : IsAmong 8 (1 ∷ 2 ∷ 6 ∷ []) → ⊥
+not_idle (inl is) = cc
+not_idle (inr (inl is)) = cc
+not_idle (inr (inr (inl is))) = cc
+not_idle (inr (inr (inr none))) = none
+
+counts_8 : (tally : Option Tally) → CountsTo tally Written → CountsTo tally Notes
+counts_8 None h = h
+counts_8 (Some t) h = h
+
+tallied_8 : (counted : Bool) (old new : Option (List ℕ)) (tally : Option Tally) (values : List PageValue) → TallyMatchesRun counted old new tally Written values → TallyMatchesRun counted old new tally Notes values
+tallied_8 counted old new None values h = let is = h.0 in absurd cc
+tallied_8 counted old new (Some t) values h = record { few = h.few; black = h.black; next = tt; written = h.written }
+
+one_8 : (settings : Settings) (history : List Call) → IsOneHistory settings 0 history → IsOneHistory settings 8 history
+one_8 settings history one = record {
+  legal = one.legal;
+  made = one.made;
+  none_of_first = one.none_of_first;
+  few_claims = one.few_claims;
+  kept = λ is. one.kept (inl refl);
+  idle = λ among. absurd (not_idle among);
+}
+
+module _ {F : Type 0} (task : Task) (drawing : Drawing F) (tally : Option Tally) where
+  worked_8 : (calls : List Call) (was now : Worker F) → WorkerDone task drawing.sources 0 calls was now → WorkerDone task drawing.sources 8 calls was now
+  worked_8 calls was now w = record {
+    seat = w.seat;
+    none = w.none;
+    counter = w.counter;
+    spare_pages = w.spare_pages;
+    knows_library = w.knows_library;
+    count = w.count;
+    keys = w.keys;
+    answered = w.answered;
+    last = w.last;
+    kept = λ is. w.kept (inl (inl refl));
+    loaded = w.loaded;
+  }
+
+  pub done_on : (x : Ending) (taken : Bool) → WorkersAreDone task drawing (value_of_ending x) tally → WorkersAreDone task drawing (with_notes (value_of_ending x) taken) tally
+  done_on code.Written true h = h
+  done_on code.Written false h = record {
+    counts = counts_8 tally h.counts;
+    failed = λ page is. absurd cc;
+    one = one_8 task.settings drawing.history h.one;
+    worked = λ k d lt. worked_8 (own (k + 1) drawing.history) (get_or drawing.before k d) (get_or drawing.after k d) (h.worked k d lt);
+    shares = h.shares;
+    rest = h.rest;
+  }
+  done_on code.Usage taken h = h
+  done_on (code.Document fault) taken h = h
+  done_on (code.Page page fault at) taken h = h
+  done_on (code.Source page) taken h = h
+  done_on code.Input taken h = h
+  done_on (code.Output page) taken h = h
+  done_on code.Memory taken h = h
+
+  abbrev Drew : EndingValue → List ℕ → Type 0
+  Drew e bytes = PagesMatchHistory task drawing (status_of e) e tally bytes
+
+  answered_8 : (reading : Reading) (k : ℕ) (w : Worker F) → Answered task reading drawing.history 0 k w → Answered task reading drawing.history 8 k w
+  answered_8 reading k w a = record {
+    keys = a.keys;
+    looked = a.looked;
+    through = λ is. a.through (inl (inl refl));
+    answered = a.answered;
+    one = λ single unbroken. a.one single (λ is. cc, λ is. cc);
+  }
+
+  drew_8 : (bytes : List ℕ) → Drew Written bytes → Drew Notes bytes
+  drew_8 bytes (inl idle) = absurd idle.0
+  drew_8 bytes (inr run) =
+      inr (
+        run.0,
+        run.1,
+        run.2,
+        (
+          run.3.0,
+          tallied_8 task.settings.summary drawing.output.before.bytes drawing.output.after.bytes tally run.1 run.3.1,
+          record { drawn = run.3.2.drawn; few = run.3.2.few; shares = run.3.2.shares; reach = run.3.2.reach; written = run.3.2.written },
+          λ k d lt. answered_8 run.0 k (get_or drawing.after k d) (run.3.3 k d lt),
+        ),
+      )
+
+  pub drew_on : (x : Ending) (taken : Bool) (left : Option (List ℕ)) → HoldsOfInput left (Drew (value_of_ending x)) → HoldsOfInput left (Drew (with_notes (value_of_ending x) taken))
+  drew_on code.Written true left h = h
+  drew_on code.Written false left h = of_each (Drew Written) (Drew Notes) left drew_8 h
+  drew_on code.Usage taken left h = h
+  drew_on (code.Document fault) taken left h = h
+  drew_on (code.Page page fault at) taken left h = h
+  drew_on (code.Source page) taken left h = h
+  drew_on code.Input taken left h = h
+  drew_on (code.Output page) taken left h = h
+  drew_on code.Memory taken left h = h
+
+-- ---- a run of the sample
+
+module _ {F : Type 0} (Kept : Type 0) (before after : List (Worker F)) where
+  abbrev Uses : ℕ → Type 0
+  Uses status = UsesTheSample status Kept before after
+
+  uses_on : (x : Ending) (taken : Bool) → Uses (status_of (value_of_ending x)) → Uses (status_of (with_notes (value_of_ending x) taken))
+  uses_on code.Written true h = h
+  uses_on code.Written false h = record { input = h.input; sources = h.sources; answers = inr (inr (inr (inr (inl refl)))) }
+  uses_on code.Usage taken h = h
+  uses_on (code.Document fault) taken h = h
+  uses_on (code.Page page fault at) taken h = h
+  uses_on (code.Source page) taken h = h
+  uses_on code.Input taken h = h
+  uses_on (code.Output page) taken h = h
+  uses_on code.Memory taken h = h
+
+  pub sample_on : (sample : Option ℕ) (x : Ending) (taken : Bool) → IfSome sample (λ pages. Uses (status_of (value_of_ending x))) → IfSome sample (λ pages. Uses (status_of (with_notes (value_of_ending x) taken)))
+  sample_on None x taken h = h
+  sample_on (Some pages) x taken h = uses_on x taken h

@@ -1,0 +1,175 @@
+-- The results of a round at hand, and how they are written.
+use Rattle.std.proofs.Common.{◌≡◌, ◌⊎◌, inl, inr, ℕ, suc, ◌+◌, ◌*◌, ◌<◌, ◌≤◌, Bool, List, [], ◌∷◌, ◌++◌, length, reverse, get_or, All, Contains, Option, Result, Ok, Err, IfOk, IsOk, IsErr, IsErrOf, refl, sym, ap, subst, ◌∙◌, add-one, arith}
+use Rattle.std.specs.Prelude.{◌^◌}
+use Rattle.std.proofs.lemmas.List.{length-append, reverse-append}
+use Rattle.std.proofs.lemmas.List.Elements.{Contains-get_or, Contains-append_cases, Contains-append_left, Contains-append_right, Contains-push}
+use Rattle.packed_rows.specs.Bitmap.{Bitmap}
+use Rattle.packed_rows.specs.Changes.{black_count}
+use Rattle.page_index.specs.Document.{Reading, pages_begun}
+use Rattle.page_draw.specs.Drawn.{IsWhole}
+use Rattle.page_draw.specs.Sheets.{IsDrawable}
+use Rattle.page_draw.specs.Values.{PageValue}
+use Rattle.page_draw.specs.declared.stop.PageStop.{PageStop}
+use Rattle.page_draw.specs.declared.stop.PageStop.TheVariants as draw
+use Rattle.page_workers.specs.Rounds.{HasBitmap}
+use Rattle.page_workers.specs.declared.worker.PageResult.{PageResult}
+use Rattle.dvi_run.specs.Pages.{AreValues, Setup}
+use Rattle.dvi_run.specs.Endings.{EndingValue, EndsPages, Source, ending_at}
+use Rattle.dvi_run.specs.Looked.{WasNotCutOff}
+use Rattle.dvi_run.specs.Rounds.{IsOutcomeOf, WroteOutcome}
+use Rattle.dvi_run.specs.Stacks.{HasFewDots, WroteEach, WroteUpTo, WroteWhole}
+use Rattle.dvi_run.specs.Tally.{TallyMatches}
+use Rattle.dvi_run.specs.declared.tally.Tally.{Tally}
+use Rattle.dvi_run.specs.declared.pages.WriteStop.{WriteStop}
+use Rattle.dvi_run.specs.declared.pages.WriteStop.TheVariants as stop
+use Rattle.dvi_run.proofs.Dots.{few_on_sheet}
+use Rattle.dvi_run.proofs.WorkersInRounds.{AreWhole, cons_cases, only, source_failed, whole_outcome, why_stops, wrote_it}
+use Rattle.dvi_run.proofs.PagesWritten.{IsWrittenTo, ends_at, written_more}
+
+-- ---- a stack, from its top on
+
+pub reverse_push : {A : Type 0} (xs : List A) (x : A) → reverse (xs ++ x ∷ []) ≡ x ∷ reverse xs
+reverse_push xs x = reverse-append xs (x ∷ [])
+
+pub reverse_cons : {A : Type 0} (x : A) (xs : List A) → reverse (x ∷ xs) ≡ reverse xs ++ x ∷ []
+reverse_cons x xs = reverse-append (x ∷ []) xs
+
+pub in_reverse : {A : Type 0} (xs : List A) (y : A) → Contains (reverse xs) y → Contains xs y
+in_reverse [] y h = h
+in_reverse (x ∷ xs) y h =
+    let there : Contains (reverse xs ++ x ∷ []) y = subst (λ (l : List _). Contains l y) (reverse_cons x xs) h in
+    elim (Contains-append_cases (reverse xs) (x ∷ []) y there) [
+      | inl before ↦ Contains-append_right (x ∷ []) xs y (in_reverse xs y before)
+      | inr last ↦ Contains-append_left (x ∷ []) xs y last
+    ]
+
+pub to_reverse : {A : Type 0} (xs : List A) (y : A) → Contains xs y → Contains (reverse xs) y
+to_reverse [] y h = h
+to_reverse (x ∷ xs) y h =
+    let there : Contains (reverse xs ++ x ∷ []) y = elim (cons_cases x xs y h) [
+      | inl same ↦ subst (λ z. Contains (reverse xs ++ x ∷ []) z) same (Contains-push (reverse xs) x)
+      | inr rest ↦ Contains-append_left (reverse xs) (x ∷ []) y (to_reverse xs y rest)
+    ] in
+    subst (λ (l : List _). Contains l y) (sym (reverse_cons x xs)) there
+
+pub all_of : {A : Type 0} (P : A → Type 0) (xs : List A) → ((x : A) → Contains xs x → P x) → All P xs
+all_of P xs each k d lt = each (get_or xs k d) (Contains-get_or xs k d lt)
+
+is_empty : {A : Type 0} (xs : List A) → length xs ≡ 0 → xs ≡ []
+is_empty [] e = refl
+is_empty (x ∷ xs) e = absurd (omega arith)
+
+-- ---- results by the pages of their document
+
+module _ (g : Setup) (reading : Reading) (SomeFailed : ℕ → Type 0) where
+  -- this is the result of the page with this number, from 0; where a source failed it failed at
+  -- this page, from 1
+  pub record IsHeld (page : ℕ) (r : PageResult) : Type 0 where
+    pub value : IsOutcomeOf g reading page r.outcome
+    pub failed : IsErrOf r.outcome draw.SourceFault → SomeFailed (page + 1)
+
+  abbrev pub AreHeld : ℕ → List PageResult → Type 0
+  AreHeld page [] = Unit {0}
+  AreHeld page (r ∷ results) = IsHeld page r × AreHeld (suc page) results
+
+  held_first : (page : ℕ) (xs ys : List PageResult) → AreHeld page (xs ++ ys) → AreHeld page xs
+  held_first page [] ys h = tt
+  held_first page (r ∷ xs) ys h = (h.0, held_first (suc page) xs ys h.1)
+
+  held_at : (page : ℕ) (xs : List PageResult) (r : PageResult) (ys : List PageResult) → AreHeld page (xs ++ r ∷ ys) → IsHeld (page + length xs) r
+  held_at page [] r ys h = let same : page ≡ page + 0 = omega arith in subst (λ (p : ℕ). IsHeld p r) same h.0
+  held_at page (q ∷ xs) r ys h = let same : suc page + length xs ≡ page + length (q ∷ xs) = omega arith in subst (λ (p : ℕ). IsHeld p r) same (held_at (suc page) xs r ys h.1)
+
+  few_of : (page : ℕ) (outcome : Result Bitmap PageStop) → IsDrawable g.sheet → IsOutcomeOf g reading page outcome → IfOk outcome (λ b. black_count b ≤ 20000 * 20000)
+  few_of page (Ok b) sheet value = few_on_sheet g reading page b sheet value
+  few_of page (Err why) sheet value = tt
+
+  few_held : (page : ℕ) (rs : List PageResult) → IsDrawable g.sheet → AreHeld page rs → (r : PageResult) → Contains rs r → HasFewDots r
+  few_held page [] sheet h r has = let less : has.0 < 0 = has.1 in absurd (omega arith)
+  few_held page (q ∷ rs) sheet h r has = elim (cons_cases q rs r has) [
+    | inl same ↦ subst HasFewDots same (few_of page q.outcome sheet h.0.value)
+    | inr rest ↦ few_held (suc page) rs sheet h.1 r rest
+  ]
+
+  -- no page of a stack has too many
+  pub few_on_stack : (page : ℕ) (stack : List PageResult) → IsDrawable g.sheet → AreHeld page (reverse stack) → All HasFewDots stack
+  few_on_stack page stack sheet h = all_of HasFewDots stack (λ r has. few_held page (reverse stack) sheet h r (to_reverse stack r has))
+
+  -- ---- pages that were written
+
+  module _ (old : Option (List ℕ)) (counted : Bool) where
+    abbrev To : Option (List ℕ) → ℕ → ℕ → Type 0
+    To now done black = IsWrittenTo g reading old now done counted black
+
+    good_one : (now new : Option (List ℕ)) (P : Type 0) (outcome : Result Bitmap PageStop) (more : ℕ) → WroteOutcome counted now new P outcome (Ok more) → IsOk outcome
+    good_one now new P (Ok page) more wrote = refl
+    good_one now new P (Err reason) more wrote = absurd wrote
+
+    to_as : (now new : Option (List ℕ)) (done m black b : ℕ) → new ≡ now → m ≡ done → b ≡ black → To now done black → To new m b
+    to_as now new done m black b same pages dots w =
+        subst (λ (o : Option (List ℕ)). To o m b) (sym same) (subst (λ (i : ℕ). To now i b) (sym pages) (subst (λ (i : ℕ). To now done i) (sym dots) w))
+
+    written_each : (rs : List PageResult) (now new : Option (List ℕ)) (done black more : ℕ) → AreHeld done rs → WroteEach counted now new more rs → To now done black → To new (done + length rs) (black + more)
+    written_each [] now new done black more h wrote w =
+        let none : more ≡ 0 = wrote.1 in to_as now new done (done + 0) black (black + more) wrote.0 (omega arith) (omega arith) w
+    written_each (r ∷ rs) now new done black more h wrote w =
+        let page = wrote_it counted now wrote.0 ⊥ g reading done wrote.1 r.outcome h.0.value wrote.3 in
+        let step = written_more g reading old now done counted black w wrote.0 page.0 page.1 page.2 in
+        let here : To wrote.0 (suc done) (black + wrote.1) = subst (λ (m : ℕ). To wrote.0 (suc done) (black + m)) (sym page.3) step in
+        let rest = written_each rs wrote.0 new (suc done) (black + wrote.1) wrote.2 h.1 wrote.5 here in
+        let sum : more ≡ wrote.1 + wrote.2 = wrote.4 in
+        to_as new new (suc done + length rs) (done + length (r ∷ rs)) (black + wrote.1 + wrote.2) (black + more) refl (omega arith) (omega arith) rest
+
+    pub wrote_whole : (rs : List PageResult) (now new : Option (List ℕ)) (t u : Tally) → AreHeld t.pages rs → WroteWhole counted now new rs t u → To now t.pages t.black → To new u.pages u.black
+    wrote_whole rs now new t u h wrote w =
+        to_as new new (t.pages + length rs) u.pages (t.black + wrote.black) u.black refl wrote.pages_are wrote.black_is (written_each rs now new t.pages t.black wrote.black h wrote.wrote w)
+
+    -- all of these have a bitmap
+    good_each : (rs : List PageResult) (now new : Option (List ℕ)) (more : ℕ) → WroteEach counted now new more rs → (r : PageResult) → Contains rs r → HasBitmap r
+    good_each [] now new more wrote r has = let less : has.0 < 0 = has.1 in absurd (omega arith)
+    good_each (q ∷ rs) now new more wrote r has = elim (cons_cases q rs r has) [
+      | inl same ↦ subst HasBitmap same (good_one now wrote.0 ⊥ q.outcome wrote.1 wrote.3)
+      | inr rest ↦ good_each rs wrote.0 new wrote.2 wrote.5 r rest
+    ]
+
+    pub good_whole : (rs : List PageResult) (now new : Option (List ℕ)) (t u : Tally) → WroteWhole counted now new rs t u → (r : PageResult) → Contains rs r → HasBitmap r
+    good_whole rs now new t u wrote r has = good_each rs now new wrote.black wrote.wrote r has
+
+    -- up to one that wasn't
+    module _ (rs : List PageResult) (now new : Option (List ℕ)) (t u : Tally) (why : WriteStop) (P : Type 0) (h : AreHeld t.pages rs) (up : WroteUpTo counted now new P rs t u why) where
+      held_here : AreHeld t.pages (up.written ++ up.refused ∷ up.rest)
+      held_here = subst (λ (l : List PageResult). AreHeld t.pages l) up.are h
+
+      pub refused_held : IsHeld u.pages up.refused
+      refused_held = subst (λ (p : ℕ). IsHeld p up.refused) (sym up.whole.pages_are) (held_at t.pages up.written up.refused up.rest held_here)
+
+      pub inside_hand : (t.pages ≤ u.pages) × (u.pages < t.pages + length rs)
+      inside_hand =
+          let pages = up.whole.pages_are in
+          let all = ap length up.are in
+          let parts = length-append up.written (up.refused ∷ up.rest) in
+          (omega (arith, pages), omega (arith, pages, all, parts))
+
+      pub ends_up_to : (Fails : Type 0) → (P → Fails) → To now t.pages t.black → u.pages < pages_begun reading → (values : List PageValue) × AreValues g reading values
+          × EndsPages old new Fails (Unit {0}) (ending_at (u.pages + 1) why) reading values × TallyMatches counted old new u (ending_at (u.pages + 1) why) values
+      ends_up_to Fails fails w below =
+          let mid : To up.mid u.pages u.black = wrote_whole up.written now up.mid t u (held_first t.pages up.written (up.refused ∷ up.rest) held_here) up.whole w in
+          ends_at g reading old up.mid u.pages counted u.black mid new (u.pages + 1) (add-one u.pages) below P (Unit {0}) Fails (Unit {0}) fails (λ f. f) why
+          (why_stops counted up.mid new P (Unit {0}) g reading u.pages up.refused.outcome why refused_held.value (λ f. tt) up.cause)
+
+      pub cause_up_to : (page : ℕ) → ending_at (u.pages + 1) why ≡ Source page → SomeFailed page
+      cause_up_to page e =
+          let f = source_failed counted up.mid new P page u.pages up.refused.outcome why up.cause e in
+          subst SomeFailed (sym f.1) (refused_held.failed (subst (λ (o : Result Bitmap PageStop). IsErrOf o draw.SourceFault) (sym f.0) refl))
+
+      -- one page alone, that wasn't broken off
+      pub whole_alone : length rs ≤ 1 → WasNotCutOff (ending_at (u.pages + 1) why) → AreWhole rs
+      whole_alone one unbroken r has =
+          let all = ap length up.are in
+          let parts = length-append up.written (up.refused ∷ up.rest) in
+          let none : length up.written ≡ 0 = omega (arith, all, parts) in
+          let last : length up.rest ≡ 0 = omega (arith, all, parts) in
+          let alone : rs ≡ up.refused ∷ [] = up.are ∙ (ap (λ (l : List PageResult). l ++ up.refused ∷ up.rest) (is_empty up.written none) ∙ ap (λ (l : List PageResult). up.refused ∷ l) (is_empty up.rest last)) in
+          let here : Contains (up.refused ∷ []) r = subst (λ (l : List PageResult). Contains l r) alone has in
+          let whole = whole_outcome counted up.mid new P (u.pages + 1) up.refused.outcome why up.cause unbroken in
+          subst (λ (q : PageResult). IsWhole q.outcome) (only up.refused r here.0 here.1 here.2) whole

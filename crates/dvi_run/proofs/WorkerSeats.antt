@@ -1,0 +1,170 @@
+-- A worker from its seat to the end of the run.
+use Rattle.std.proofs.Common.{◌≡◌, ◌⊎◌, inl, ℕ, ◌*◌, ◌≤◌, List, [], ◌++◌, Option, Some, None, refl, sym, ap, subst, ◌∙◌, arith}
+use Rattle.std.specs.Prelude.{IfSome}
+use Rattle.outside.specs.Library.{FileTable}
+use Rattle.outside.specs.declared.keys.FontKey.{FontKey}
+use Rattle.cache_core.specs.declared.calls.Call.{Call}
+use Rattle.cache_core.specs.declared.common.Common.{Common}
+use Rattle.cache_core.specs.Histories.{own, open_claim, SeatCalls, NoneReleased, looks}
+use Rattle.page_index.specs.Document.{Reading}
+use Rattle.page_index.specs.Pages.{document_units}
+use Rattle.turn_lock.specs.Seats.{SeatView}
+use Rattle.pixel_round.specs.Preamble.{AreUnits}
+use Rattle.font_decode.specs.Desks.{Trail, TrailGrew, SeatAnsweredFor, ReleasedLast, Loaded, misses}
+use Rattle.page_workers.specs.declared.worker.Worker.{Worker}
+use Rattle.page_workers.specs.Seats.{SeatFits, BenchFits, own_calls, asked_at, trail_at, room_at, library_at, units_at}
+use Rattle.page_workers.specs.Seating.{WasSeated, MayLeave}
+use Rattle.page_workers.specs.SparePages.{HasNoSparePages}
+use Rattle.page_workers.specs.Rounds.{trail_of}
+use Rattle.dvi_run.specs.Pages.{Setup, finding}
+use Rattle.dvi_run.specs.Looked.{WholeLooks, BrokenLooks}
+use Rattle.dvi_run.specs.Rounds.{Site, AfterRounds, MayBegin, IsFresh, WorkerRan, keys_of, indexed_of, Trails}
+
+module _ {F : Type 0} (s : Site F) (part : Common) (known : part.library ≡ s.given.library) (same_units : part.units ≡ s.bench.units)
+    (of_document : document_units s.given.res s.reading ≡ Some s.bench.units) (sound : AreUnits s.bench.units) (k : ℕ) (w start : Worker F) (fresh : IsFresh s.library s.given.library w)
+    (seated : WasSeated s.bench.cache part k w start) where
+  at_seat : {A : Type 0} (f : Option SeatView → A) → f start.seat ≡ f (Some seated.seat)
+  at_seat f = ap f seated.is
+
+  no_keys : keys_of (Some seated.seat) ≡ []
+  no_keys = ap looks seated.new.no_call
+
+  knows_library : (common : Option FileTable) → common ≡ s.given.library → IfSome common (λ l. s.library start.source ≡ Some l)
+  knows_library common e = subst (λ (o : Option FileTable). IfSome o (λ l. s.library start.source ≡ Some l)) (sym e)
+      (subst (λ (x : F). IfSome s.given.library (λ l. s.library x ≡ Some l)) (sym seated.same.source) fresh.knows_library)
+
+  is_at : SeatFits (s.library start.source) s.bench seated.seat
+  is_at = record {
+    lock = seated.new.lock;
+    idle = seated.new.idle;
+    free = ap open_claim seated.new.no_call;
+    units = sym (ap (λ (p : Common). p.units) seated.new.part ∙ same_units);
+    sound = sound;
+    knows_library = knows_library seated.seat.view.part.library (ap (λ (p : Common). p.library) seated.new.part ∙ known);
+  }
+
+  pub may_begin : MayBegin s start
+  may_begin = record {
+    fits = subst (λ (o : Option SeatView). BenchFits (s.library start.source) s.bench o) (sym seated.is) is_at;
+    library = at_seat library_at ∙ ap (λ (p : Common). p.library) seated.new.part ∙ known;
+    units = at_seat units_at ∙ ap (λ (p : Common). Some p.units) seated.new.part ∙ ap Some same_units ∙ sym of_document;
+    none = seated.same.results ∙ fresh.none;
+    counter = seated.same.counter ∙ fresh.counter;
+    pages = seated.same.pages ∙ fresh.pages;
+    keys = at_seat keys_of ∙ no_keys;
+    room =
+        let drawn = seated.new.drawn in
+        let loads : start.loads ≡ 0 = seated.same.loads ∙ fresh.loads in
+        let room : room_at start.loads start.seat ≡ room_at 0 (Some seated.seat) = ap (λ (n : ℕ). room_at n start.seat) loads ∙ at_seat (room_at 0) in
+        omega (arith, room, drawn);
+  }
+
+  -- where each page had a bitmap, no claim was given up
+  pub none_released : (now : Worker F) → Trails s (Unit {0}) start now → (t : SeatView) → now.seat ≡ Some t → NoneReleased (own_calls t)
+  none_released now trail t is =
+      let h = subst (λ (o : Option SeatView). TrailGrew (Unit {0}) (asked_at (Some seated.seat)) (asked_at o) (trail_at (s.loads start.source) start.loads (Some seated.seat)) (trail_at (s.loads now.source) now.loads o)) is
+      (subst (λ (o : Option SeatView). TrailGrew (Unit {0}) (asked_at o) (asked_at now.seat) (trail_at (s.loads start.source) start.loads o) (trail_of s.loads now)) seated.is trail) in
+      let known : h.0 ≡ record { seat = t.view.number; capacity = t.view.part.capacity; calls = own_calls t; loads = s.loads now.source; counted = now.loads } = cc h.1 in
+      let grew : own_calls t ≡ h.2.answers.calls = sym (ap (λ (x : Trail). x.calls) known) ∙ h.2.answers.grew ∙ ap (λ (l : List Call). l ++ h.2.answers.calls) seated.new.no_call in
+      subst NoneReleased (sym grew) (h.2.answers.answered tt)
+
+  -- ---- at the end
+
+  module _ (now : Worker F) (ended : AfterRounds s start now) (t : SeatView) (is : now.seat ≡ Some t) where
+    trail_here : TrailGrew ⊥ (asked_at (Some seated.seat)) (asked_at (Some t)) (trail_at (s.loads start.source) start.loads (Some seated.seat)) (trail_at (s.loads now.source) now.loads (Some t))
+    trail_here =
+        subst (λ (o : Option SeatView). TrailGrew ⊥ (asked_at (Some seated.seat)) (asked_at o) (trail_at (s.loads start.source) start.loads (Some seated.seat)) (trail_at (s.loads now.source) now.loads o)) is
+        (subst (λ (o : Option SeatView). TrailGrew ⊥ (asked_at o) (asked_at now.seat) (trail_at (s.loads start.source) start.loads o) (trail_of s.loads now)) seated.is ended.trail)
+
+    abbrev after_of : Trail
+    after_of = record { seat = t.view.number; capacity = t.view.part.capacity; calls = own_calls t; loads = s.loads now.source; counted = now.loads }
+
+    abbrev before_of : Trail
+    before_of = record { seat = seated.seat.view.number; capacity = seated.seat.view.part.capacity; calls = own_calls seated.seat; loads = s.loads start.source; counted = start.loads }
+
+    answers : SeatAnsweredFor ⊥ (asked_at (Some seated.seat)) (asked_at (Some t)) before_of after_of
+    answers = let e : trail_here.0 ≡ after_of = cc trail_here.1 in subst (λ (x : Trail). SeatAnsweredFor ⊥ (asked_at (Some seated.seat)) (asked_at (Some t)) before_of x) e trail_here.2
+
+    pub number : t.view.number ≡ k
+    number = answers.answers.seat ∙ seated.new.number
+
+    calls_are : own_calls t ≡ answers.answers.calls
+    calls_are = answers.answers.grew ∙ ap (λ (l : List Call). l ++ answers.answers.calls) seated.new.no_call
+
+    keys_here : keys_of now.seat ≡ answers.keys
+    keys_here =
+        let there : Some (keys_of (Some t)) ≡ Some ([] ++ answers.keys) = answers.grew ∙ ap (λ (l : List FontKey). Some (l ++ answers.keys)) no_keys in
+        ap keys_of is ∙ cc there
+
+    module _ (history : List Call) (after : Worker F) (left : own k history ≡ own_calls t) (none : after.seat ≡ None) (source : after.source ≡ now.source) (loads : after.loads ≡ now.loads)
+        (pages : after.pages.items ≡ now.pages.items) (results : after.results.items ≡ now.results.items) (counter : after.counter ≡ now.counter) (spare_pages : HasNoSparePages after) where
+      own_here : own k history ≡ answers.answers.calls
+      own_here = left ∙ calls_are
+
+      abbrev Looked : List ℕ → List FontKey → Type 0
+      Looked ps ks = WholeLooks (finding s.given s.reading) (indexed_of s.given s.reading) s.given.sheet ps ks ⊎ BrokenLooks (finding s.given s.reading) (indexed_of s.given s.reading) s.given.sheet ps ks
+
+      told_here : t.view.part.library ≡ s.given.library
+      told_here = sym (ap library_at is) ∙ ended.kept.library ∙ may_begin.library
+
+      still_tells : IfSome s.given.library (λ l. s.library after.source ≡ Some l)
+      still_tells =
+          let fits : SeatFits (s.library now.source) s.bench t = subst (λ (o : Option SeatView). BenchFits (s.library now.source) s.bench o) is ended.kept.fits in
+          subst (λ (x : F). IfSome s.given.library (λ l. s.library x ≡ Some l)) (sym source)
+          (subst (λ (o : Option FileTable). IfSome o (λ l. s.library now.source ≡ Some l)) told_here fits.knows_library)
+
+      pub ran : (Whole : Type 0) → (Whole → NoneReleased (own_calls t))
+          → (Whole → WholeLooks (finding s.given s.reading) (indexed_of s.given s.reading) s.given.sheet now.pages.items (keys_of now.seat)) → WorkerRan Whole s.library s.faults s.loads s.given s.reading history k w after
+      ran Whole settled through = record {
+        seat = none;
+        none = results ∙ ended.none;
+        counter = counter ∙ ended.counter;
+        spare_pages = λ none. spare_pages;
+        knows_library = still_tells;
+        faults_rose = subst (λ (x : F). s.faults x ≤ s.faults after.source) seated.same.source (subst (λ (x : F). s.faults start.source ≤ s.faults x) (sym source) ended.kept.faults);
+        keys = answers.keys;
+        looked = subst (λ (ps : List ℕ). Looked ps answers.keys) (sym pages) (subst (λ (ks : List FontKey). Looked now.pages.items ks) keys_here ended.looked);
+        answered = subst (λ (l : List Call). SeatCalls answers.keys l) (sym own_here) answers.answers.for_keys;
+        last = subst ReleasedLast (sym own_here) answers.answers.last;
+        whole = λ e. subst NoneReleased (sym left) (settled e);
+        drawn_out = λ e.
+            subst (λ (ps : List ℕ). WholeLooks (finding s.given s.reading) (indexed_of s.given s.reading) s.given.sheet ps answers.keys) (sym pages)
+            (subst (λ (ks : List FontKey). WholeLooks (finding s.given s.reading) (indexed_of s.given s.reading) s.given.sheet now.pages.items ks) keys_here (through e));
+        loaded =
+            subst (λ (l : List Call). Loaded (5 * misses l) (s.loads w.source) (s.loads after.source) w.loads after.loads) (sym own_here)
+            (subst (λ (x : F). Loaded (5 * misses answers.answers.calls) (s.loads w.source) (s.loads x) w.loads after.loads) (sym source)
+            (subst (λ (x : F). Loaded (5 * misses answers.answers.calls) (s.loads x) (s.loads now.source) w.loads after.loads) seated.same.source
+            (subst (λ (n : ℕ). Loaded (5 * misses answers.answers.calls) (s.loads start.source) (s.loads now.source) w.loads n) (sym loads)
+            (subst (λ (n : ℕ). Loaded (5 * misses answers.answers.calls) (s.loads start.source) (s.loads now.source) n now.loads) seated.same.loads answers.answers.loaded))));
+      }
+
+  leaves : (now : Worker F) (ended : AfterRounds s start now) (o : Option SeatView) → now.seat ≡ o → BenchFits (s.library now.source) s.bench o → MayLeave s.bench.cache k now
+  leaves now ended None is fits = absurd fits
+  leaves now ended (Some t) is fits = record { seat = t; is = is; lock = fits.lock; number = number now ended t is; idle = fits.idle }
+
+  -- a seat that the bench fits is one that may be taken in
+  pub may_leave : (now : Worker F) → AfterRounds s start now → MayLeave s.bench.cache k now
+  may_leave now ended = leaves now ended now.seat refl ended.kept.fits
+
+-- a worker of a run in which no cache was made
+pub unused : {F : Type 0} (library : F → Option FileTable) (faults loads : F → ℕ) (g : Setup) (reading : Reading) (number : ℕ) (w : Worker F) → IsFresh library g.library w → w.seat ≡ None
+    → (Whole : Type 0) → WorkerRan Whole library faults loads g reading [] number w w
+unused library faults loads g reading number w fresh none Whole = record {
+  seat = none;
+  none = fresh.none;
+  counter = fresh.counter;
+  spare_pages = λ none. none;
+  knows_library = fresh.knows_library;
+  faults_rose = omega arith;
+  keys = [];
+  looked = inl (subst (λ (ps : List ℕ). WholeLooks (finding g reading) (indexed_of g reading) g.sheet ps []) (sym fresh.pages) refl);
+  answered = refl;
+  last = tt;
+  whole = λ e. tt;
+  drawn_out = λ e. subst (λ (ps : List ℕ). WholeLooks (finding g reading) (indexed_of g reading) g.sheet ps []) (sym fresh.pages) refl;
+  loaded = record {
+    loads = record { most = omega arith; never_falls = omega arith };
+    counted = record { most = omega arith; never_falls = omega arith };
+    same = λ low. omega arith;
+  };
+}

@@ -1,0 +1,404 @@
+-- Workers through the rounds.
+use Rattle.std.proofs.Common.{length, get_or, set, ◌≡◌, ◌≢◌, ◌⊎◌, inl, inr, ℕ, zero, suc, ◌+◌, ◌-◌, ◌<◌, ◌≤◌, Bool, List, [], ◌∷◌, ◌++◌, Option, Some, Result, Ok, Err, refl, sym, ap, subst, ◌∙◌, arith}
+use Rattle.std.specs.Prelude.{◌^◌, ◌*◌, Contains, IsErrOf, IsOk, None}
+use Rattle.std.proofs.lemmas.List.Elements.{Contains-append_cases, Contains-append_right}
+use mathlib.Core.Logic.{dite}
+use Rattle.std.proofs.lemmas.Bool.{cases_lt}
+use Rattle.std.proofs.lemmas.List.{get_or-set_same, get_or-set_other}
+use native.Mathlib.Decide.{ℕ_discrete}
+use Rattle.std.specs.Io.KnownBytes.{Appends}
+use Rattle.pbm_output.specs.Pbm.{page_text}
+use Rattle.page_workers.proofs.Lists.{same_default}
+use Rattle.outside.specs.Counts.{Rose}
+use Rattle.outside.specs.Library.{FileTable}
+use Rattle.outside.proofs.Growth.{rose_later}
+use Rattle.outside.specs.declared.keys.FontKey.{FontKey}
+use Rattle.pixel_round.specs.declared.units.Units.{Units}
+use Rattle.packed_rows.specs.Bitmap.{Bitmap}
+use Rattle.page_index.specs.Document.{Reading, pages_begun}
+use Rattle.turn_lock.specs.Seats.{SeatView}
+use Rattle.page_index.specs.Pages.{Indexed}
+use Rattle.font_decode.specs.Decoding.{IsFontOf}
+use Rattle.page_draw.specs.Members.{Finding}
+use Rattle.font_decode.specs.Desks.{TrailGrew}
+use Rattle.font_decode.proofs.Trails.{trail_none, trail_more, trail_as}
+use Rattle.page_draw.specs.Drawn.{IsWhole}
+use Rattle.page_draw.specs.declared.stop.PageStop.{PageStop}
+use Rattle.page_draw.specs.declared.stop.PageStop.TheVariants as draw
+use Rattle.page_workers.specs.declared.worker.PageResult.{PageResult}
+use Rattle.page_workers.specs.declared.worker.Worker.{Worker}
+use Rattle.page_workers.specs.Seats.{BenchFits, asked_at, library_at, units_at, room_at, trail_at}
+use Rattle.page_workers.specs.Rounds.{BitmapsToLast, Drew, DrewPage, HasBitmap, IsOutcome, DrewNothing, trail_of}
+use Rattle.page_workers.proofs.Drawn.{drew_pages, drew_results}
+use Rattle.dvi_run.specs.Pages.{Setup, IsValueOf, finding}
+use Rattle.dvi_run.specs.Endings.{IsWriteStop, Source, ending_at}
+use Rattle.dvi_run.specs.Looked.{WholeLooks, BrokenLooks, IsAllWritten, WasNotCutOff}
+use Rattle.dvi_run.specs.Rounds.{Site, IsSteady, Trails, BetweenRounds, AfterRounds, MayBegin, SameBut, WasCleared, FailedAt, IsOutcomeOf, WroteOutcome, black_of, keys_of, indexed_of}
+use Rattle.dvi_run.specs.declared.pages.WriteStop.{WriteStop}
+use Rattle.dvi_run.specs.declared.pages.WriteStop.TheVariants as stop
+use Rattle.dvi_run.proofs.Looks.{whole_more, broken_more, keys_are, keys_grew, broken_keys}
+
+-- ---- one page that was drawn
+
+value_of : (g : Setup) (reading : Reading) (i : ℕ) (outcome : Result Bitmap PageStop) (old new : Option (List FontKey))
+    → IsOutcome (finding g reading) (indexed_of g reading) g.sheet i outcome old new → IsOutcomeOf g reading i outcome
+value_of g reading i (Ok page) old new o = (o.0, o.1)
+value_of g reading i (Err (draw.Fault fault at)) old new o = (o.0, o.1)
+value_of g reading i (Err draw.SourceFault) old new o = tt
+value_of g reading i (Err draw.NoMemory) old new o = tt
+
+-- the keys that were looked up for these pages, of which the last had this outcome
+abbrev LooksTo : Result Bitmap PageStop → Finding → Indexed → Setup → List ℕ → List FontKey → Type 0
+LooksTo (Ok page) Finds indexed g pages keys = WholeLooks Finds indexed g.sheet pages keys
+LooksTo (Err (draw.Fault fault at)) Finds indexed g pages keys = WholeLooks Finds indexed g.sheet pages keys
+LooksTo (Err draw.SourceFault) Finds indexed g pages keys = BrokenLooks Finds indexed g.sheet pages keys
+LooksTo (Err draw.NoMemory) Finds indexed g pages keys = BrokenLooks Finds indexed g.sheet pages keys
+
+looks_to : (g : Setup) (reading : Reading) (i : ℕ) (outcome : Result Bitmap PageStop) (old new : Option SeatView) (before after : List ℕ) → asked_at old ≡ Some (keys_of old)
+    → asked_at new ≡ Some (keys_of new) → IsOutcome (finding g reading) (indexed_of g reading) g.sheet i outcome (asked_at old) (asked_at new)
+    → WholeLooks (finding g reading) (indexed_of g reading) g.sheet before (keys_of old) → after ≡ before ++ i ∷ []
+    → LooksTo outcome (finding g reading) (indexed_of g reading) g after (keys_of new)
+looks_to g reading i (Ok page) old new before after e h o w is =
+    let Finds = finding g reading in
+    let ix = indexed_of g reading in
+    subst (λ (ps : List ℕ). WholeLooks Finds ix g.sheet ps (keys_of new)) (sym is)
+    (subst (λ (ks : List FontKey). WholeLooks Finds ix g.sheet (before ++ i ∷ []) ks) (sym (keys_grew old new o.0 e h o.2)) (whole_more Finds ix g.sheet before (keys_of old) i o.0 w (Ok page, o.1)))
+looks_to g reading i (Err (draw.Fault fault at)) old new before after e h o w is =
+    let Finds = finding g reading in
+    let ix = indexed_of g reading in
+    subst (λ (ps : List ℕ). WholeLooks Finds ix g.sheet ps (keys_of new)) (sym is)
+    (subst (λ (ks : List FontKey). WholeLooks Finds ix g.sheet (before ++ i ∷ []) ks) (sym (keys_grew old new o.0 e h o.2)) (whole_more Finds ix g.sheet before (keys_of old) i o.0 w (_, o.1)))
+looks_to g reading i (Err draw.SourceFault) old new before after e h o w is =
+    let Finds = finding g reading in
+    let ix = indexed_of g reading in
+    let b = broken_keys Finds ix i old new e h o in
+    subst (λ (ps : List ℕ). BrokenLooks Finds ix g.sheet ps (keys_of new)) (sym is)
+    (subst (λ (ks : List FontKey). BrokenLooks Finds ix g.sheet (before ++ i ∷ []) ks) (sym b.1) (broken_more Finds ix g.sheet before (keys_of old) i b.0 w b.2))
+looks_to g reading i (Err draw.NoMemory) old new before after e h o w is =
+    let Finds = finding g reading in
+    let ix = indexed_of g reading in
+    let b = broken_keys Finds ix i old new e h o in
+    subst (λ (ps : List ℕ). BrokenLooks Finds ix g.sheet ps (keys_of new)) (sym is)
+    (subst (λ (ks : List FontKey). BrokenLooks Finds ix g.sheet (before ++ i ∷ []) ks) (sym b.1) (broken_more Finds ix g.sheet before (keys_of old) i b.0 w b.2))
+
+-- why a page isn't written, by what came of it
+module _ (counted : Bool) (before after : Option (List ℕ)) (OutputFails SourceFails : Type 0) (g : Setup) (reading : Reading) (i : ℕ) where
+  abbrev pub Why : WriteStop → Type 0
+  Why why = IsWriteStop before after OutputFails SourceFails (IsValueOf g reading i) (Unit {0}) why
+
+  pub why_stops : (outcome : Result Bitmap PageStop) (why : WriteStop) → IsOutcomeOf g reading i outcome → (IsErrOf outcome draw.SourceFault → SourceFails)
+      → WroteOutcome counted before after OutputFails outcome (Err why) → Why why
+  why_stops (Ok page) (stop.Draw reason) value rose wrote = absurd wrote
+  why_stops (Ok page) stop.Output value rose wrote = (page, value, wrote.0, wrote.1)
+  why_stops (Err (draw.Fault fault at)) (stop.Draw cause) value rose wrote = subst (λ (t : PageStop). Why (stop.Draw t)) (sym wrote.0) (value, wrote.1)
+  why_stops (Err draw.SourceFault) (stop.Draw cause) value rose wrote = subst (λ (t : PageStop). Why (stop.Draw t)) (sym wrote.0) (rose refl, tt, wrote.1)
+  why_stops (Err draw.NoMemory) (stop.Draw cause) value rose wrote = subst (λ (t : PageStop). Why (stop.Draw t)) (sym wrote.0) (tt, wrote.1)
+  why_stops (Err (draw.Fault fault at)) stop.Output value rose wrote = absurd wrote
+  why_stops (Err draw.SourceFault) stop.Output value rose wrote = absurd wrote
+  why_stops (Err draw.NoMemory) stop.Output value rose wrote = absurd wrote
+
+-- a run that ends with a failed source ends at a page of which a source failed
+pub source_failed : (counted : Bool) (before after : Option (List ℕ)) (OutputFails : Type 0) (page i : ℕ) (outcome : Result Bitmap PageStop) (why : WriteStop) → WroteOutcome counted before after OutputFails outcome (Err why)
+    → ending_at (i + 1) why ≡ Source page → (outcome ≡ Err draw.SourceFault) × (page ≡ i + 1)
+source_failed counted before after OutputFails page i (Ok p) (stop.Draw reason) wrote e = absurd wrote
+source_failed counted before after OutputFails page i (Ok p) stop.Output wrote e = absurd cc
+source_failed counted before after OutputFails page i (Err reason) (stop.Draw (draw.Fault fault at)) wrote e = absurd cc
+source_failed counted before after OutputFails page i (Err reason) (stop.Draw draw.SourceFault) wrote e = (ap Err (sym wrote.0), cc)
+source_failed counted before after OutputFails page i (Err reason) (stop.Draw draw.NoMemory) wrote e = absurd cc
+source_failed counted before after OutputFails page i (Err reason) stop.Output wrote e = absurd wrote
+
+-- a page that isn't written doesn't end a run well
+pub never_written : (page : ℕ) (why : WriteStop) → IsAllWritten (ending_at page why) → ⊥
+never_written page (stop.Draw (draw.Fault fault at)) all = all
+never_written page (stop.Draw draw.SourceFault) all = all
+never_written page (stop.Draw draw.NoMemory) all = all
+never_written page stop.Output all = all
+
+-- nothing was broken off for a page that isn't written, where the run wasn't
+pub whole_outcome : (counted : Bool) (before after : Option (List ℕ)) (OutputFails : Type 0) (page : ℕ) (outcome : Result Bitmap PageStop) (why : WriteStop) → WroteOutcome counted before after OutputFails outcome (Err why)
+    → WasNotCutOff (ending_at page why) → IsWhole outcome
+whole_outcome counted before after OutputFails page (Ok p) why wrote u = tt
+whole_outcome counted before after OutputFails page (Err (draw.Fault fault at)) why wrote u = tt
+whole_outcome counted before after OutputFails page (Err draw.SourceFault) (stop.Draw (draw.Fault fault at)) wrote u = absurd (let e = wrote.0 in cc)
+whole_outcome counted before after OutputFails page (Err draw.SourceFault) (stop.Draw draw.SourceFault) wrote u = absurd u
+whole_outcome counted before after OutputFails page (Err draw.SourceFault) (stop.Draw draw.NoMemory) wrote u = absurd u
+whole_outcome counted before after OutputFails page (Err draw.SourceFault) stop.Output wrote u = absurd wrote
+whole_outcome counted before after OutputFails page (Err draw.NoMemory) (stop.Draw (draw.Fault fault at)) wrote u = absurd (let e = wrote.0 in cc)
+whole_outcome counted before after OutputFails page (Err draw.NoMemory) (stop.Draw draw.SourceFault) wrote u = absurd u
+whole_outcome counted before after OutputFails page (Err draw.NoMemory) (stop.Draw draw.NoMemory) wrote u = absurd u
+whole_outcome counted before after OutputFails page (Err draw.NoMemory) stop.Output wrote u = absurd wrote
+
+-- a page that was written
+pub wrote_it : (counted : Bool) (before after : Option (List ℕ)) (OutputFails : Type 0) (g : Setup) (reading : Reading) (i : ℕ) (done : ℕ) (outcome : Result Bitmap PageStop) → IsOutcomeOf g reading i outcome
+    → WroteOutcome counted before after OutputFails outcome (Ok done) → (page : Bitmap) × IsValueOf g reading i (Ok page) × Appends before after (page_text page) × (done ≡ black_of counted page)
+wrote_it counted before after OutputFails g reading i done (Ok page) value wrote = (page, value, wrote.0, wrote.1)
+wrote_it counted before after OutputFails g reading i done (Err reason) value wrote = absurd wrote
+
+-- one member is replaced
+pub set_each : {A : Type 0} (P : ℕ → A → A → Type 0) (xs ws : List A) (n j : ℕ) (v : A) → j < length ws → ((d : A) → P j (get_or xs j d) v)
+    → ((k : ℕ) (d : A) → k ≢ j → k < n → P k (get_or xs k d) (get_or ws k d)) → (k : ℕ) (d : A) → k < n → P k (get_or xs k d) (get_or (set ws j v) k d)
+set_each P xs ws n j v inside new others k d lt = dite (ℕ_discrete k j)
+    (λ e. subst (λ (m : ℕ). P m (get_or xs m d) (get_or (set ws j v) m d)) (sym e) (subst (λ x. P j (get_or xs j d) x) (sym (get_or-set_same ws j v d inside)) (new d)))
+    (λ other. subst (λ x. P k (get_or xs k d) x) (sym (get_or-set_other ws j k v d other)) (others k d other lt))
+
+pub only : {A : Type 0} (x y : A) (k : ℕ) → k < length (x ∷ []) → get_or (x ∷ []) k y ≡ y → x ≡ y
+only x y zero lt e = e
+only x y (suc k) lt e = absurd (omega arith)
+
+-- of a list with a first member
+pub cons_cases : {A : Type 0} (x : A) (xs : List A) (y : A) → Contains (x ∷ xs) y → (x ≡ y) ⊎ Contains xs y
+cons_cases x xs y h = elim (Contains-append_cases (x ∷ []) xs y h) [
+  | inl one ↦ inl (only x y one.0 one.1 one.2)
+  | inr rest ↦ inr rest
+]
+
+-- none of these was broken off
+abbrev pub AreWhole : List PageResult → Type 0
+AreWhole results = (r : PageResult) → Contains results r → IsWhole r.outcome
+
+pub bitmap_whole : (outcome : Result Bitmap PageStop) → IsOk outcome → IsWhole outcome
+bitmap_whole (Ok page) ok = tt
+bitmap_whole (Err stop) ok = absurd cc
+
+bitmap_sound : (outcome : Result Bitmap PageStop) → IsOk outcome → IsErrOf outcome draw.SourceFault → ⊥
+bitmap_sound (Ok page) ok failed = cc
+bitmap_sound (Err stop) ok failed = absurd cc
+
+module _ {F : Type 0} (s : Site F) where
+  -- ---- a worker whose results alone change
+
+  kept_on : (start a b : Worker F) → b.source ≡ a.source → b.seat ≡ a.seat → IsSteady s start a → IsSteady s start b
+  kept_on start a b source seat k = record {
+    fits = subst (λ (x : F). BenchFits (s.library x) s.bench b.seat) (sym source)
+        (subst (λ (o : Option SeatView). BenchFits (s.library a.source) s.bench o) (sym seat) k.fits);
+    library = ap library_at seat ∙ k.library;
+    units = ap units_at seat ∙ k.units;
+    faults = subst (λ (x : F). s.faults start.source ≤ s.faults x) (sym source) k.faults;
+  }
+
+  trails_on : (W : Type 0) (start a b : Worker F) → b.source ≡ a.source → b.seat ≡ a.seat → b.loads ≡ a.loads → Trails s W start a → Trails s W start b
+  trails_on W start a b source seat loads t =
+      subst (λ (x : F). TrailGrew W (asked_at start.seat) (asked_at b.seat) (trail_of s.loads start) (trail_at (s.loads x) b.loads b.seat)) (sym source)
+      (subst (λ (n : ℕ). TrailGrew W (asked_at start.seat) (asked_at b.seat) (trail_of s.loads start) (trail_at (s.loads a.source) n b.seat)) (sym loads)
+      (subst (λ (o : Option SeatView). TrailGrew W (asked_at start.seat) (asked_at o) (trail_of s.loads start) (trail_at (s.loads a.source) a.loads o)) (sym seat) t))
+
+  abbrev Whole : Worker F → Type 0
+  Whole w = WholeLooks (finding s.given s.reading) (indexed_of s.given s.reading) s.given.sheet w.pages.items (keys_of w.seat)
+
+  abbrev EndsLooked : Worker F → Type 0
+  EndsLooked w = Whole w ⊎ BrokenLooks (finding s.given s.reading) (indexed_of s.given s.reading) s.given.sheet w.pages.items (keys_of w.seat)
+
+  whole_on : (a b : Worker F) → b.seat ≡ a.seat → b.pages.items ≡ a.pages.items → Whole a → Whole b
+  whole_on a b seat pages w = subst (λ (ps : List ℕ). WholeLooks (finding s.given s.reading) (indexed_of s.given s.reading) s.given.sheet ps (keys_of b.seat)) (sym pages)
+      (subst (λ (o : Option SeatView). WholeLooks (finding s.given s.reading) (indexed_of s.given s.reading) s.given.sheet a.pages.items (keys_of o)) (sym seat) w)
+
+  looked_on : (a b : Worker F) → b.seat ≡ a.seat → b.pages.items ≡ a.pages.items → EndsLooked a → EndsLooked b
+  looked_on a b seat pages looked = elim looked [
+    | inl w ↦ inl (whole_on a b seat pages w)
+    | inr w ↦ inr (subst (λ (ps : List ℕ). BrokenLooks (finding s.given s.reading) (indexed_of s.given s.reading) s.given.sheet ps (keys_of b.seat)) (sym pages)
+        (subst (λ (o : Option SeatView). BrokenLooks (finding s.given s.reading) (indexed_of s.given s.reading) s.given.sheet a.pages.items (keys_of o)) (sym seat) w))
+  ]
+
+  -- ---- a worker that drew some pages, none of which was broken off if W
+
+  pub record Drawn (W : Type 0) (start now : Worker F) : Type 0 where
+    pub kept : IsSteady s start now
+    pub trail : Trails s W start now
+    pub looked : EndsLooked now
+    pub through : W → Whole now
+
+  drawn_on : (W : Type 0) (start a b : Worker F) → b.source ≡ a.source → b.seat ≡ a.seat → b.loads ≡ a.loads → b.pages.items ≡ a.pages.items → Drawn W start a → Drawn W start b
+  drawn_on W start a b source seat loads pages d = record {
+    kept = kept_on start a b source seat d.kept;
+    trail = trails_on W start a b source seat loads d.trail;
+    looked = looked_on a b seat pages d.looked;
+    through = λ w. whole_on a b seat pages (d.through w);
+  }
+
+  drawn_as : (V W : Type 0) (start now : Worker F) → (V → W) → Drawn W start now → Drawn V start now
+  drawn_as V W start now f d = record {
+    kept = d.kept;
+    trail = trail_as V W (asked_at start.seat) (asked_at now.seat) (trail_of s.loads start) (trail_of s.loads now) f d.trail;
+    looked = d.looked;
+    through = λ v. d.through (f v);
+  }
+
+  -- what holds of a result of the worker
+  pub record Came (start now : Worker F) (r : PageResult) : Type 0 where
+    pub value : IsOutcomeOf s.given s.reading r.page r.outcome
+    pub failed : IsErrOf r.outcome draw.SourceFault → FailedAt s.faults (r.page + 1) start now
+
+  failed_on : (page : ℕ) (start a b : Worker F) → b.source ≡ a.source → b.pages.items ≡ a.pages.items → FailedAt s.faults page start a → FailedAt s.faults page start b
+  failed_on page start a b source pages f = record {
+    rose = subst (λ (x : F). Rose (s.faults start.source) (s.faults x)) (sym source) f.rose;
+    number = f.number;
+    is = f.is;
+    drew = (f.drew.0, pages ∙ f.drew.1);
+  }
+
+  came_on : (start a b : Worker F) (r : PageResult) → b.source ≡ a.source → b.pages.items ≡ a.pages.items → Came start a r → Came start b r
+  came_on start a b r source pages c = record { value = c.value; failed = λ f. failed_on (r.page + 1) start a b source pages (c.failed f) }
+
+  -- ---- one page
+
+  whole_looked : (outcome : Result Bitmap PageStop) (w : Worker F) → IsWhole outcome → LooksTo outcome (finding s.given s.reading) (indexed_of s.given s.reading) s.given w.pages.items (keys_of w.seat) → Whole w
+  whole_looked (Ok page) w whole l = l
+  whole_looked (Err (draw.Fault fault at)) w whole l = l
+  whole_looked (Err draw.SourceFault) w whole l = absurd whole
+  whole_looked (Err draw.NoMemory) w whole l = absurd whole
+
+  either_looked : (outcome : Result Bitmap PageStop) (w : Worker F) → LooksTo outcome (finding s.given s.reading) (indexed_of s.given s.reading) s.given w.pages.items (keys_of w.seat) → EndsLooked w
+  either_looked (Ok page) w l = inl l
+  either_looked (Err (draw.Fault fault at)) w l = inl l
+  either_looked (Err draw.SourceFault) w l = inr l
+  either_looked (Err draw.NoMemory) w l = inr l
+
+  module _ (start : Worker F) (m : MayBegin s start) where
+    module _ (old new : Worker F) (r : PageResult) (st : Drawn (Unit {0}) start old) (d : DrewPage s.library s.faults s.loads s.bench (indexed_of s.given s.reading) s.given.sheet r old new) where
+      finds : IsOutcome (finding s.given s.reading) (indexed_of s.given s.reading) s.given.sheet r.page r.outcome (asked_at old.seat) (asked_at new.seat)
+      finds =
+          subst (λ (u : Option Units). IsOutcome (IsFontOf s.given.library u) (indexed_of s.given s.reading) s.given.sheet r.page r.outcome (asked_at old.seat) (asked_at new.seat)) (st.kept.units ∙ m.units)
+          (subst (λ (l : Option FileTable). IsOutcome (IsFontOf l (units_at old.seat)) (indexed_of s.given s.reading) s.given.sheet r.page r.outcome (asked_at old.seat) (asked_at new.seat))
+          (st.kept.library ∙ m.library) d.value)
+
+      looked_so : LooksTo r.outcome (finding s.given s.reading) (indexed_of s.given s.reading) s.given new.pages.items (keys_of new.seat)
+      looked_so =
+          let e = keys_are (s.library old.source) s.bench old.seat st.kept.fits in
+          let h = keys_are (s.library new.source) s.bench new.seat d.fits in
+          looks_to s.given s.reading r.page r.outcome old.seat new.seat old.pages.items new.pages.items e h finds (st.through tt) d.pages
+
+      page_drawn : Drawn (IsWhole r.outcome) start new
+      page_drawn = record {
+        kept = record {
+          fits = d.fits;
+          library = d.same_library ∙ st.kept.library;
+          units = d.same_units ∙ st.kept.units;
+          faults = omega (arith, st.kept.faults, d.cause.never_falls);
+        };
+        trail = trail_more (IsWhole r.outcome) (asked_at start.seat) (asked_at old.seat) (asked_at new.seat) (trail_of s.loads start) (trail_of s.loads old) (trail_of s.loads new) st.trail d.trail;
+        looked = either_looked r.outcome new looked_so;
+        through = λ whole. whole_looked r.outcome new whole looked_so;
+      }
+
+      page_came : Came start new r
+      page_came = record {
+        value = value_of s.given s.reading r.page r.outcome (asked_at old.seat) (asked_at new.seat) finds;
+        failed = λ failed. record {
+          rose = rose_later (s.faults start.source) (s.faults old.source) (s.faults new.source) st.kept.faults (d.cause.rose failed) d.cause.never_falls;
+          number = r.page;
+          is = refl;
+          drew = (old.pages.items, d.pages);
+        };
+      }
+
+    -- ---- some pages, one after another
+
+    abbrev Goes : List PageResult → Worker F → Worker F → Type 0
+    Goes rs old new = Drew s.library s.faults s.loads s.bench (indexed_of s.given s.reading) s.given.sheet rs old new
+
+    pub drawn_through : (rs : List PageResult) (old new : Worker F) → Drawn (Unit {0}) start old → Goes rs old new → BitmapsToLast rs
+        → Drawn (AreWhole rs) start new × ((r : PageResult) → Contains rs r → Came start new r)
+    drawn_through [] old new st d stopped = (
+      drawn_as (AreWhole []) (Unit {0}) start new (λ all. tt) (drawn_on (Unit {0}) start old new d.source d.seat d.loads d.pages st),
+      λ r h. let less : h.0 < 0 = h.1 in absurd (omega arith),
+    )
+    drawn_through (r ∷ rs) old new st d (inl last) =
+        let between = d.0 in
+        let rest : DrewNothing between new = subst (λ (l : List PageResult). Goes l between new) last d.2 in
+        let here = page_drawn old between r st d.1 in (
+          drawn_as (AreWhole (r ∷ rs)) (IsWhole r.outcome) start new (λ all. all r (0, omega arith, refl)) (drawn_on (IsWhole r.outcome) start between new rest.source rest.seat rest.loads rest.pages here),
+          λ q h. elim (cons_cases r rs q h) [
+            | inl same ↦ subst (λ (x : PageResult). Came start new x) same (came_on start between new r rest.source rest.pages (page_came old between r st d.1))
+            | inr other ↦ let has : Contains [] q = subst (λ (l : List PageResult). Contains l q) last other in let less : has.0 < 0 = has.1 in absurd (omega arith)
+          ],
+        )
+    drawn_through (r ∷ rs) old new st d (inr more) =
+        let between = d.0 in
+        let whole = bitmap_whole r.outcome more.0 in
+        let here = drawn_as (Unit {0}) (IsWhole r.outcome) start between (λ u. whole) (page_drawn old between r st d.1) in
+        let rest = drawn_through rs between new here d.2 more.1 in (
+          drawn_as (AreWhole (r ∷ rs)) (AreWhole rs) start new (λ all q h. all q (Contains-append_right (r ∷ []) rs q h)) rest.0,
+          λ q h. elim (cons_cases r rs q h) [
+            | inl same ↦ subst (λ (x : PageResult). Came start new x) same (record { value = (page_came old between r st d.1).value; failed = λ failed. absurd (bitmap_sound r.outcome more.0 failed) })
+            | inr other ↦ rest.1 q other
+          ],
+        )
+
+    pub room_through : (rs : List PageResult) (old new : Worker F) → Goes rs old new → room_at old.loads old.seat ≤ room_at new.loads new.seat + length rs * 2 ^ 24
+    room_through [] old new d =
+        let same : room_at new.loads new.seat ≡ room_at old.loads old.seat = ap (λ (c : ℕ). room_at c new.seat) d.loads ∙ ap (room_at old.loads) d.seat in omega (arith, same)
+    room_through (r ∷ rs) old new d = let here = d.1.room in let rest = room_through rs d.0 new d.2 in omega (arith, here, rest)
+
+  -- ---- between rounds
+
+  -- none of the worker's pages was broken off if W; it has no result any more
+  pub record Stood (W : Type 0) (start now : Worker F) : Type 0 where
+    pub drawn : Drawn W start now
+    pub none : now.results.items ≡ []
+    pub counter : now.counter ≡ None
+
+  pub begins : (w : Worker F) → MayBegin s w → Stood (Unit {0}) w w
+  begins w m =
+      let whole : Whole w = subst (λ (ps : List ℕ). WholeLooks (finding s.given s.reading) (indexed_of s.given s.reading) s.given.sheet ps (keys_of w.seat)) (sym m.pages) m.keys in
+      record {
+        drawn = record {
+          kept = record { fits = m.fits; library = refl; units = refl; faults = omega arith };
+          trail = trail_none (Unit {0}) (asked_at w.seat) (trail_of s.loads w);
+          looked = inl whole;
+          through = λ u. whole;
+        };
+        none = m.none;
+        counter = m.counter;
+      }
+
+  pub stood_as : (V W : Type 0) (start now : Worker F) → (V → W) → Stood W start now → Stood V start now
+  stood_as V W start now f st = record { drawn = drawn_as V W start now f st.drawn; none = st.none; counter = st.counter }
+
+  pub stood_rest : (W : Type 0) (start old new : Worker F) → DrewNothing old new → new.counter ≡ None → Stood W start old → Stood W start new
+  stood_rest W start old new r counter st = record {
+    drawn = drawn_on W start old new r.source r.seat r.loads r.pages st.drawn;
+    none = r.results ∙ st.none;
+    counter = counter;
+  }
+
+  pub settles : (W : Type 0) (start now : Worker F) → W → Stood W start now → BetweenRounds s start now
+  settles W start now w st = record {
+    kept = st.drawn.kept;
+    none = st.none;
+    counter = st.counter;
+    trail = trail_as (Unit {0}) W (asked_at start.seat) (asked_at now.seat) (trail_of s.loads start) (trail_of s.loads now) (λ u. w) st.drawn.trail;
+    looked = st.drawn.through w;
+  }
+
+  pub ends : (W : Type 0) (start now : Worker F) → Stood W start now → AfterRounds s start now
+  ends W start now st = record {
+    kept = st.drawn.kept;
+    none = st.none;
+    counter = st.counter;
+    trail = trail_as ⊥ W (asked_at start.seat) (asked_at now.seat) (trail_of s.loads start) (trail_of s.loads now) (λ w. absurd w) st.drawn.trail;
+    looked = st.drawn.looked;
+  }
+
+  -- a round more, whose results were taken out
+  module _ (start old mid new : Worker F) (m : MayBegin s start) (rs : List PageResult) (answers : Goes start m rs old mid) (stopped : BitmapsToLast rs) (cleared : WasCleared mid new) where
+    pub stood_on : (W : Type 0) → W → new.counter ≡ None → Stood W start old → Stood (AreWhole rs) start new
+    stood_on W w counter st =
+        let before = drawn_as (Unit {0}) W start old (λ u. w) st.drawn in
+        let through = drawn_through start m rs old mid before answers stopped in
+        record {
+          drawn = drawn_on (AreWhole rs) start mid new cleared.same.source cleared.same.seat cleared.same.loads cleared.same.pages through.0;
+          none = cleared.none;
+          counter = counter;
+        }
+
+    pub came_so : (W : Type 0) → W → Stood W start old → (r : PageResult) → Contains rs r → Came start new r
+    came_so W w st r h =
+        let before = drawn_as (Unit {0}) W start old (λ u. w) st.drawn in
+        let through = drawn_through start m rs old mid before answers stopped in
+        came_on start mid new r cleared.same.source cleared.same.pages (through.1 r h)
+
+    pub room_so : room_at old.loads old.seat ≤ room_at new.loads new.seat + length rs * 2 ^ 24
+    room_so =
+        let mid_room = room_through start m rs old mid answers in
+        let same : room_at new.loads new.seat ≡ room_at mid.loads mid.seat = ap (λ (c : ℕ). room_at c new.seat) cleared.same.loads ∙ ap (room_at mid.loads) cleared.same.seat in
+        omega (arith, mid_room, same)

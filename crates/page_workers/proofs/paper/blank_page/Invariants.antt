@@ -1,4 +1,0 @@
-use Rattle.page_workers.proofs.paper.blank_page.Given as goal
-
-abbrev pub decreases-loop-page : goal.decreases-loop-page
-decreases-loop-page l = goal.left-loop-page l

@@ -1,0 +1,23 @@
+-- A worker's spare pages, on which nothing else may depend.
+use Rattle.std.specs.Prelude.{◌≡◌, ◌⊎◌, [], ◌∷◌, ◌++◌}
+use Rattle.packed_rows.specs.Bitmap.{Bitmap}
+use Rattle.page_workers.specs.declared.worker.Worker.{Worker}
+
+-- a worker but for its spare pages
+pub record SameButSparePages {F : Type 0} (before after : Worker F) : Type 0 where
+  pub source : after.source ≡ before.source
+  pub seat : after.seat ≡ before.seat
+  pub results : after.results ≡ before.results
+  pub loads : after.loads ≡ before.loads
+  pub pages : after.pages ≡ before.pages
+  pub counter : after.counter ≡ before.counter
+
+-- a worker has no spare page
+abbrev pub HasNoSparePages : {F : Type 0} → Worker F → Type 0
+HasNoSparePages w = w.spare_pages.items ≡ []
+
+-- a page became a spare one, or was dropped, as there was no memory to note it
+abbrev pub MayKeepPage : {F : Type 0} → Bitmap → (before after : Worker F) → Type 0
+MayKeepPage page before after =
+    (after.spare_pages.items ≡ before.spare_pages.items ++ page ∷ [])
+    ⊎ (after.spare_pages.items ≡ before.spare_pages.items)
