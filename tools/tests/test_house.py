@@ -14,14 +14,37 @@ GIVEN = {'crates/dvi_run/src/run.rt: run_with', 'crates/dvi_run/src/run.rt: dvip
 # The definitions that a reader of the promise begins with.
 PROMISE = ('crates/dvi_run/specs/Promises.antt', 'crates/dvi_run/specs/Together.antt')
 
-# Neighbours of one type that stand in one order everywhere: two that are compared, and across before down.
-ORDERED = {('a', 'b'), ('column', 'row'), ('columns', 'rows'), ('across', 'down')}
+# Neighbours of one type that stand in one order everywhere (docs/DECISIONS.md, "Names").
+ORDERED = {
+    ('a', 'b'), ('y', 'z'),                                                                         # two that are compared
+    ('x', 'y'), ('w', 'h'), ('width', 'height'), ('column', 'row'), ('columns', 'rows'), ('across', 'down'),  # across before down
+    ('height', 'width'),                                                                            # a rule's sides, as DVI's set_rule has them
+    ('from', 'until'), ('least', 'most'), ('least', 'greatest'),                                    # two ends
+    ('first', 'count'), ('at', 'n'), ('at', 'len'),                                                 # a place and how many from there on
+    ('by', 'space'),                                                                                # a motion and the space that it is compared with
+}
 NEIGHBOURS = {
     'crates/fix_word/src/sizes.rt: tex_units',          # a given signature, DVItype's d, num and den
     'crates/raster_page/src/page.rt: rule',             # a given signature, a place and two sides
     'crates/raster_page/src/span.rt: cut_end',          # the numbers of one stretch, for one caller
     'crates/drift_rules/src/motions.rt: column_right',  # h, a motion and a space, for one caller
     'crates/drift_rules/src/motions.rt: row_down',      # v, a motion and a space, for one caller
+    'crates/drift_rules/src/motions.rt: advance_over',  # a width in DVI units, and the same in dots
+    'crates/drift_rules/src/motions.rt: at_column',     # h and hh as they are to be
+    'crates/drift_rules/src/motions.rt: at_row',        # v and vv as they are to be
+    'crates/drift_rules/src/motions.rt: drift',         # a place in dots, and the rounded one
+    'crates/dvi_commands/src/writer/fields.rt: append_post',  # the depth and the pages, as in the command
+    'crates/pixel_round/src/quotients.rt: quotient_by',  # a number and its reciprocal, which a clause ties
+    'crates/packed_rows/src/packed.rt: copy_down',      # a row, and how often
+    'crates/gf_reader/src/drawing.rt: move_to',         # rows down, and a column
+    'crates/gf_reader/src/head.rt: raster_side',        # a side and the other one
+    'crates/pk_packer/src/lengths.rt: add',             # how many runs, and of which length
+    'crates/pk_packer/src/writer.rt: write_run',        # the same
+    'crates/pk_packer/src/row.rt: run_end',             # a column, and the columns of the row
+    'crates/pk_runs/src/given.rt: paint_given',         # the columns of a row, and a place
+    'crates/pk_runs/src/numbers.rt: number',            # dyn_f, and a nybble
+    'crates/cache_seats/src/pace.rt: steps_from',       # a number, and how many steps from it
+    'crates/cache_seats/src/pace.rt: note',             # look-ups, and a number that is kept
     'crates/run_report/src/trace.rt: put_eviction',     # two keys, in the order in which they are printed
     'crates/turn_lock/src/example.rt: finish',          # two seats that are joined one after the other
 }
@@ -79,18 +102,11 @@ def functions(text):
 
 
 def neighbours(arguments):
-    """Two neighbouring arguments of one type that a caller can swap, or three where it is a number."""
+    """Two neighbouring arguments of one type that a caller can swap."""
     named = [tuple(part.strip() for part in re.split(r':(?!:)', re.sub(r'^mut ', '', argument), maxsplit=1)) for argument in arguments]
     named = [one if len(one) == 2 else (one[0], None) for one in named]
-    found = []
-    for here, (name, kind) in enumerate(named):
-        alike = [other for other, its in named[here:here + 3] if its == kind and kind is not None]
-        if re.fullmatch(r'[iu](?:8|16|32|64|128|size)', kind or ''):
-            if len(alike) == 3:
-                found.append(f'{", ".join(alike)}: {kind}')
-        elif len(alike) > 1 and named[here + 1][1] == kind and (name, named[here + 1][0]) not in ORDERED:
-            found.append(f'{name}, {named[here + 1][0]}: {kind}')
-    return found
+    return [f'{name}, {other}: {kind}' for (name, kind), (other, its) in zip(named, named[1:])
+            if kind is not None and its == kind and (name, other) not in ORDERED]
 
 
 def explicit(text):
@@ -219,7 +235,8 @@ class Findings(unittest.TestCase):
         for arguments, wanted in (
                 ('&mut self, paper: &mut Vec<Page>, spare: &mut Vec<Page>', ['paper, spare: &mut Vec<Page>']),
                 ('mut old: Seat<T>, new: Seat<T>, last: Seat<T>', ['old, new: Seat<T>', 'new, last: Seat<T>']),
-                ('first: usize, count: usize, page: &Page', []), ('first: usize, count: usize, most: usize', ['first, count, most: usize']),
+                ('first: usize, count: usize, page: &Page', []), ('first: usize, count: usize, most: usize', ['count, most: usize']),
+                ('count: usize, first: usize', ['count, first: usize']), ('n: u32, of: u64', []),
                 ('a: &Key, b: &Key', []), ('across: Offset, down: Offset', []), ('down: Offset, across: Offset', ['down, across: Offset']),
                 ('first: &Page, n: usize, second: &Page', []), ('f: &dyn Fn(u8) -> u8, g: &dyn Fn(u8) -> i8', [])):
             with self.subTest(arguments):
