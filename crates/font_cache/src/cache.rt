@@ -136,7 +136,7 @@ impl<T: Stands> FontCache<T> {
             seat.old.view.part) }
         ensures refused { OnErr result (NotedNothing seat.old.view seat.new.view) }
     {
-        // For the proof: what a seat's own calls tell of its claim.
+        // For the proof: what a seat's own calls say about its claim.
         histories();
         own_calls();
         let mut state = self.lock.take(rt, seat);
@@ -171,7 +171,7 @@ impl<T: Stands> FontCache<T> {
         ensures back { IfErr result (λ handed. handed ≡ value) }
         ensures refused { OnErr result (NotedNothing seat.old.view seat.new.view) }
     {
-        // For the proof: what a seat's own calls tell of its claim.
+        // For the proof: what a seat's own calls say about its claim.
         histories();
         own_calls();
         let mut state = self.lock.take(rt, seat);
@@ -193,7 +193,7 @@ impl<T: Stands> FontCache<T> {
         ensures seen { SawMore seat.old.view seat.new.view }
         ensures noted { NotedCall (arc_value key.now) Released seat.old.view seat.new.view }
     {
-        // For the proof: what a seat's own calls tell of its claim.
+        // For the proof: what a seat's own calls say about its claim.
         histories();
         own_calls();
         let mut state = self.lock.take(rt, seat);

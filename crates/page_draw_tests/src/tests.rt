@@ -20,7 +20,7 @@ const NONE: [u8; 10] = [b' '; 10];
 const FIVE: [u8; 9] = [0xab, 0x41, 0x41, 0xab, 0x85, 0x41, 0x41, 0xac, 0x41];
 
 // The commands of a page, the loads that fail where its desk keeps one font in a cache, `None` for
-// a desk without a cache, and what is told.
+// a desk without a cache, and what is expected.
 static ROWS: [(&'static [u8], Option<&'static [u64]>, Told); 6] = [
     // Each change to a font is followed by a look-up, a change to the font that is current too.
     (&FIVE, None, ("drawn", 0, 0, 0xcccc_cccc, 9, NONE, 0)),

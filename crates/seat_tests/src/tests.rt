@@ -14,7 +14,7 @@ use std::sync::Arc;
 use std::sync::atomic::{AtomicU32, Ordering};
 use std::thread;
 
-// A font that stands for keys of its size. Its number tells it from other fonts of that size.
+// A font that stands for keys of its size. Its number says which one of them it is.
 #[derive(Drop)]
 struct Sized {
     size: u32,

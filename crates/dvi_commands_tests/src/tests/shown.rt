@@ -155,8 +155,8 @@ pub fn read(
     }
 }
 
-/// The first cut of the bytes that isn't told as too short: how many bytes are left, and the fault
-/// that is told, if any.
+/// The first cut of the bytes that isn't refused as too short: how many bytes are left, and the
+/// fault there, if any.
 pub fn cut_not_short(bytes: &[u8], context: Context) -> Option<(usize, Option<CommandFault>)> {
     for left in 0..bytes.len() {
         let fault = read_command(&bytes[..left], 0, context).err();

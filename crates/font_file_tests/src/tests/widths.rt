@@ -69,7 +69,7 @@ static ROWS: [(
     (&DOT, 56, [(1, 15), SAME], 65, Err(TfmFault::Counts)),
     (&DOT, 55, [SAME, SAME], 65, Err(TfmFault::Short)),
     (&GAPS, 79, [(48, 1), SAME], 3, Err(TfmFault::WidthByte(0))),
-    // Two at once, next to each other in their order: the first one is told.
+    // Two at once, next to each other in their order: the first one is reported.
     (&DOT, 23, [(1, 15), SAME], 65, Err(TfmFault::Short)),
     (&DOT, 55, [(1, 15), SAME], 65, Err(TfmFault::Counts)),
     (&DOT, 55, [(32, 2), SAME], 65, Err(TfmFault::Short)),

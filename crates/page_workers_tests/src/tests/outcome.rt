@@ -35,7 +35,7 @@ fn outcome_of(drawn: &PageResult) -> (u8, u64, char) {
     }
 }
 
-// What came of a page. Where chance decides who draws, nothing is told of its worker.
+// What came of a page. Where chance decides who draws, its worker isn't shown.
 fn page_told(workers: &[Worker<Planned>], page: usize, by_chance: bool) -> OfPage {
     let mut told = (0u32, 0, 0, '-', 0, 0);
     for worker in workers {
@@ -89,7 +89,7 @@ fn counts_of(history: &[Entry]) -> [u32; 6] {
 }
 
 /// What a round came to. Where it is `by_chance` whether a look hits or finds a font busy, which
-/// the worker then loads for itself in three loads, busy looks are told as hits, without their
+/// the worker then loads for itself in three loads, busy looks are shown as hits, without their
 /// loads.
 pub fn round_told(workers: &[Worker<Planned>], history: &[Entry], by_chance: bool) -> OfRound {
     let mut counts = counts_of(history);

@@ -51,9 +51,9 @@ fn two_seats<R: Wait>(rt: &R, alloc: Global) -> Result<(bool, u32, Vec<Entry>), 
     Ok((gone.is_none(), found.number, cache.close(first)))
 }
 
-// Seat 0 claims the key, as for a load that fails, while seat 1 is told that it is busy. When seat
-// 0 has released it, seat 1 claims it and fills it with font 8, which seat 0 finds. Tells how many
-// turns seat 0 drew, and the number of the font.
+// Seat 0 claims the key, as for a load that fails, while seat 1 is answered that it is busy. When
+// seat 0 has released it, seat 1 claims it and fills it with font 8, which seat 0 finds. Gives how
+// many turns seat 0 drew, and the number of the font.
 fn released<R: Wait>(rt: &R, alloc: Global) -> Result<(u64, u32, Vec<Entry>), NoMemory> {
     let key = key_of(alloc, b"dot", 128)?;
     let font = Arc::new(

@@ -1,5 +1,5 @@
 //! Eight threads over a cache of three fonts and ten keys that differ in size alone. Each notes
-//! what it was told.
+//! what it was answered.
 ghost use Rattle.std.specs.Prelude.{◌≡◌, ◌+◌, ◌^◌, ◌<◌, ◌≤◌, All, IfOk, IfSome, None};
 ghost use Rattle.std.specs.Option.{option_map};
 ghost use Rattle.std.specs.Arc.{arc_value};
@@ -23,7 +23,7 @@ const SEATS: u32 = 8;
 
 const KEYS: u32 = 10;
 
-// A seat, and what it was told; None where memory ran out or the threads did not meet.
+// A seat, and what it was answered; None where memory ran out or the threads did not meet.
 #[derive(Drop)]
 struct Caller {
     seat: CacheSeat<Sized>,
@@ -207,7 +207,7 @@ fn all_calls<R: Threads + Wait + Sync>(
     );
 }
 
-// Joins the eight seats, the last first, and gives what they were told, in that order.
+// Joins the eight seats, the last first, and gives what they were answered, in that order.
 fn join_all(
     alloc: Global,
     cache: &FontCache<Sized>,
@@ -235,7 +235,7 @@ fn join_all(
     Some(all)
 }
 
-// The closed history, and what each seat was told, of the last seat first.
+// The closed history, and what each seat was answered, of the last seat first.
 fn eight<R: Threads + Wait + Sync>(
     rt: &R,
     alloc: Global,
@@ -249,14 +249,14 @@ fn eight<R: Threads + Wait + Sync>(
     Some((cache.close(first), notes))
 }
 
-// The next thing that the seat was told. The lists are of the last seat first, and each of its last
+// The next answer that the seat had. The lists are of the last seat first, and each of its last
 // call first.
 fn next_note(left: &mut [Vec<Note>], seat: u32) -> Option<Note> {
     let place = SEATS.checked_sub(seat)?;
     left.get_mut(place as usize)?.pop()
 }
 
-// Whether the entry is what its seat was told next, and the machine takes it.
+// Whether the entry is what its seat was answered next, and the machine takes it.
 fn follows(walk: &mut Walk, left: &mut [Vec<Note>], entry: &Entry) -> bool {
     let Some(note) = next_note(left, entry.seat) else {
         return false;
@@ -274,7 +274,7 @@ fn turned(left: &mut [Vec<Note>], count: usize) -> bool {
     all
 }
 
-// Whether each entry follows, and nothing else was told.
+// Whether each entry follows, and there was no other answer.
 fn all_follow(alloc: Global, left: &mut [Vec<Note>], entries: &[Entry]) -> bool {
     let mut walk = Walk::new(alloc);
     let mut all = true;

@@ -6,7 +6,7 @@ use std::alloc::Global;
 // How many fonts are kept.
 const ROOM: usize = 3;
 
-// What a caller was told at one call.
+// What a caller was answered at one call.
 #[derive(Clone, Copy)]
 pub(crate) struct Note {
     // The key by its size, a letter for what was done, and the key that left, or 0.
@@ -172,7 +172,7 @@ fn calls_that_the_walk_refuses(rt: HostRuntime) {
     }
 }
 
-// What the entry says that its seat was told.
+// What its seat was answered, by the entry.
 pub(crate) fn told(entry: &Entry) -> (u32, char, u32) {
     match &entry.act {
         Act::Hit => (entry.key.size, 'h', 0),
