@@ -2,21 +2,21 @@
 use Rattle.std.proofs.Common.{◌≡◌, ℕ, zero, suc, ◌/◌, ℤ, pos, negsuc, Bool, true, false, List, [], ◌∷◌, ◌++◌, refl, ap, ◌∙◌, Option, Some, None}
 use Rattle.outside.specs.declared.keys.FontKey.{FontKey}
 use Rattle.fix_word.specs.Scale.{scale}
-use Rattle.dvi_commands.specs.Spelling.{DviCommand, Font, Pop, Push, Put, Right, Set}
+use Rattle.dvi_commands.specs.Spelling.{DviCommand, Font, Pop, Push, Put, Right, Set, SetRule}
 use Rattle.dvi_commands.specs.Reading.{Placed, placed, commands_of}
 use Rattle.drift_rules.specs.Position as flat
 use Rattle.page_index.specs.Document.{Reading, font_table}
 use Rattle.pk_runs.specs.declared.glyph.Glyph.{Glyph}
-use Rattle.font_decode.specs.Fonts.{FontValue, scaled_width_of, glyph_at}
+use Rattle.font_decode.specs.Fonts.{FontValue, first_local_of, local_of}
 use Rattle.font_decode.specs.declared.font_or_fault.Decoded.{Decoded}
 use Rattle.font_decode.specs.declared.font_or_fault.Decoded.TheVariants as decoded
 use Rattle.vf_expand.specs.Faults.{Depth}
 use Rattle.vf_expand.specs.Faults as fault
-use Rattle.vf_expand.specs.Course.{Current, Known, NoFont, Chosen, InPacket, current_of, first_font, advance_of, local_key}
+use Rattle.vf_expand.specs.Course.{Current, Known, NoFont, Chosen, InPacket, current_of, first_font, advance_of, local_key, no_local}
 use Rattle.vf_expand.specs.Limits.{MAX_DEPTH}
 use Rattle.vf_expand.specs.Members.{Member, Flat, LookUp}
 use Rattle.vf_expand.specs.PageLists.{AtFault, Fonts, Outcome, Goes, Faults, Packets, outcome_after, go_on, in_packet_level, full_list, list_of_outcome, of_change, of_command, of_decoded, of_kind, of_list, of_packet, of_virtual, of_width, packets_in}
-use Rattle.vf_expand.specs.Laws.{HasPacket, LoopsAreTooDeep, ThePacketIsWorked, a_packet, nested_entries, packet_members}
+use Rattle.vf_expand.specs.Laws.{HasGlyph, HasPacket, LoopsAreTooDeep, ThePacketIsWorked, a_packet, nested_entries, packet_members}
 use Rattle.vf_expand.proofs.WorkedPage.{gives_glyph, goes}
 
 -- a virtual character of the font that was found
@@ -29,7 +29,13 @@ virtual_found packets at k local f wide text put has =
 begins : (k local : FontKey) (f : FontValue) (wide : ℤ) (text : List ℕ) → HasPacket f wide text local → first_font f ≡ Chosen local
 begins k local f wide text has = ap (λ (o : Option ℤ). current_of (local_key f o)) has.first ∙ ap current_of has.key
 
-the_commands : commands_of a_packet ≡ Set (pos 65) ∷ Right (negsuc 0) ∷ Push ∷ Pop ∷ []
+abbrev at_the_end : List DviCommand
+at_the_end = Set (pos 65) ∷ Push ∷ Pop ∷ []
+
+abbrev after_the_first : List DviCommand
+after_the_first = Right (negsuc 0) ∷ Right (pos 524288) ∷ SetRule (pos 262144) (pos 393216) ∷ Font (pos 1) ∷ at_the_end
+
+the_commands : commands_of a_packet ≡ Set (pos 65) ∷ after_the_first
 unfolding commands_of
 the_commands = refl
 
@@ -48,26 +54,55 @@ module _ (fonts : Fonts) (reading : Reading) (k local : FontKey) (f : FontValue)
       ap (of_packet (λ l g commands. of_list (of_command fonts (packets_in fonts n at) (InPacket l g) at) (first_font g) commands) at k f (pos 65) advance) has.packet
       ∙ ap (λ (c : Current). in_packet_level at (Known k (decoded.Font f)) advance (of_list one c (commands_of text))) (begins k local f wide text has)
 
-  module _ (l : FontValue) (g : Glyph) (sized : f.size ≡ 128) (has : HasPacket f (pos 6) a_packet local) (inside : fonts local ≡ decoded.Font l)
-      (width : scaled_width_of l (pos 65) ≡ Some (pos 3)) (glyph : glyph_at l 65 ≡ Some g) where
-    abbrev known : Current
-    known = Known local (decoded.Font l)
+  module _ (other : FontKey) (l m : FontValue) (g h : Glyph) (sized : f.size ≡ 128) (has : HasPacket f (pos 6) a_packet local) (second : local_of f (pos 1) ≡ Some other)
+      (first_has : HasGlyph fonts local l (pos 3) g) (second_has : HasGlyph fonts other m (pos 5) h) where
+    abbrev first_known : Current
+    first_known = Known local (decoded.Font l)
 
-    abbrev members_at : ℕ → ℤ → List Member
-    members_at at by = LookUp local at ∷ Flat (flat.Char local 65 (pos 3) false) (Some g) at ∷ Flat (flat.Right by (pos (local.size / 6))) None at
-        ∷ Flat flat.Push None at ∷ Flat flat.Pop None at ∷ []
+    abbrev second_known : Current
+    second_known = Known other (decoded.Font m)
 
-    in_the_packet : (packets : Packets) (at : ℕ) → of_list (of_command fonts packets (InPacket k f) at) (Chosen local) (commands_of a_packet) ≡ Goes (members_at at (negsuc 0)) known
+    abbrev last_members : ℕ → List Member
+    last_members at = LookUp other at ∷ Flat (flat.Char other 65 (pos 5) false) (Some h) at ∷ Flat flat.Push None at ∷ Flat flat.Pop None at ∷ []
+
+    -- what stands between the two characters, at a size
+    abbrev scaled_members : ℕ → ℕ → List Member
+    scaled_members at size = Flat (flat.Right (scale (negsuc 0) size) (pos (local.size / 6))) None at ∷ Flat (flat.Right (scale (pos 524288) size) (pos (local.size / 6))) None at
+        ∷ Flat (flat.Rule (scale (pos 262144) size) (scale (pos 393216) size) false) None at ∷ []
+
+    abbrev moved_after : ℕ → ℕ → Outcome → Outcome
+    moved_after at size o =
+        outcome_after (Flat (flat.Right (scale (negsuc 0) size) (pos (local.size / 6))) None at ∷ [])
+        (outcome_after (Flat (flat.Right (scale (pos 524288) size) (pos (local.size / 6))) None at ∷ [])
+        (outcome_after (Flat (flat.Rule (scale (pos 262144) size) (scale (pos 393216) size) false) None at ∷ []) o))
+
+    abbrev members_at : ℕ → ℕ → List Member
+    members_at at size = LookUp local at ∷ Flat (flat.Char local 65 (pos 3) false) (Some g) at ∷ scaled_members at size ++ (Flat flat.Skip None at ∷ last_members at)
+
+    the_second : (packets : Packets) (at : ℕ) → of_list (of_command fonts packets (InPacket k f) at) (Chosen other) at_the_end ≡ Goes (last_members at) second_known
+    the_second packets at =
+        let one = of_command fonts packets (InPacket k f) at in
+        ap (λ (d : Decoded). go_on (outcome_after (LookUp other at ∷ []) (of_decoded packets at other d (pos 65) false)) (λ next. of_list one next (Push ∷ Pop ∷ []))) second_has.found
+        ∙ ap (λ (o : Outcome). go_on (outcome_after (LookUp other at ∷ []) o) (λ next. of_list one next (Push ∷ Pop ∷ []))) (gives_glyph packets at other m h (pos 5) false second_has.width second_has.glyph)
+
+    the_change : (packets : Packets) (at : ℕ) → of_list (of_command fonts packets (InPacket k f) at) first_known (Font (pos 1) ∷ at_the_end)
+        ≡ Goes (Flat flat.Skip None at ∷ last_members at) second_known
+    the_change packets at =
+        let one = of_command fonts packets (InPacket k f) at in
+        ap (λ (o : Option FontKey). go_on (of_change at (no_local k (first_local_of f) (pos 1)) o) (λ next. of_list one next at_the_end)) second
+        ∙ ap (outcome_after (Flat flat.Skip None at ∷ [])) (the_second packets at)
+
+    in_the_packet : (packets : Packets) (at : ℕ) → of_list (of_command fonts packets (InPacket k f) at) (Chosen local) (commands_of a_packet) ≡ Goes (members_at at 128) second_known
     in_the_packet packets at =
         let one = of_command fonts packets (InPacket k f) at in
-        let rest : List DviCommand = Right (negsuc 0) ∷ Push ∷ Pop ∷ [] in
         ap (of_list one (Chosen local)) the_commands
-        ∙ ap (λ (d : Decoded). go_on (outcome_after (LookUp local at ∷ []) (of_decoded packets at local d (pos 65) false)) (λ next. of_list one next rest)) inside
-        ∙ ap (λ (o : Outcome). go_on (outcome_after (LookUp local at ∷ []) o) (λ next. of_list one next rest)) (gives_glyph packets at local l g (pos 3) false width glyph)
-        ∙ ap (λ (n : ℕ). Goes (members_at at (scale (negsuc 0) n)) known) sized
+        ∙ ap (λ (d : Decoded). go_on (outcome_after (LookUp local at ∷ []) (of_decoded packets at local d (pos 65) false)) (λ next. of_list one next after_the_first)) first_has.found
+        ∙ ap (λ (o : Outcome). go_on (outcome_after (LookUp local at ∷ []) o) (λ next. of_list one next after_the_first)) (gives_glyph packets at local l g (pos 3) false first_has.width first_has.glyph)
+        ∙ ap (λ (o : Outcome). outcome_after (LookUp local at ∷ Flat (flat.Char local 65 (pos 3) false) (Some g) at ∷ []) (moved_after at f.size o)) (the_change packets at)
+        ∙ ap (λ (n : ℕ). Goes (members_at at n) second_known) sized
 
     whole : (at : ℕ) (put : Bool) → of_decoded (packets_in fonts MAX_DEPTH at) at k (decoded.Font f) (pos 65) put
-        ≡ in_packet_level at (Known k (decoded.Font f)) (advance_of (pos 6) put) (Goes (members_at at (negsuc 0)) known)
+        ≡ in_packet_level at (Known k (decoded.Font f)) (advance_of (pos 6) put) (Goes (members_at at 128) second_known)
     whole at put =
         virtual_found (packets_in fonts MAX_DEPTH at) at k local f (pos 6) a_packet put has ∙ packet_is 9 at (pos 6) a_packet (advance_of (pos 6) put) has
         ∙ ap (in_packet_level at (Known k (decoded.Font f)) (advance_of (pos 6) put)) (in_the_packet (packets_in fonts 9 at) at)
@@ -113,14 +148,15 @@ changes : (reading : Reading) (k : FontKey) (at : ℕ) → font_table reading (p
 changes reading k at table = ap (of_change at (fault.NoFont (pos 0))) table
 
 pub the_packet_is_worked : ThePacketIsWorked
-the_packet_is_worked fonts reading k local f l g table sized found has inside width glyph =
+the_packet_is_worked fonts reading k local other f l m g h table sized found has second first_has second_has =
     let known = Known k (decoded.Font f) in
+    let packet = packet_members local g other h in
     let set = ap (λ (d : Decoded). outcome_after (LookUp k 81 ∷ []) (of_decoded (packets_in fonts MAX_DEPTH 81) 81 k d (pos 65) false)) found
-    ∙ ap (outcome_after (LookUp k 81 ∷ [])) (whole fonts reading k local f l g sized has inside width glyph 81 false) in
-    let put = whole fonts reading k local f l g sized has inside width glyph 82 true in
+    ∙ ap (outcome_after (LookUp k 81 ∷ [])) (whole fonts reading k local f other l m g h sized has second first_has second_has 81 false) in
+    let put = whole fonts reading k local f other l m g h sized has second first_has second_has 82 true in
     goes fonts reading 85 (placed 80 (Font (pos 0)) (171 ∷ [])) from_81 NoFont (Chosen k) (Flat flat.Skip None 80 ∷ []) _ (changes reading k 80 table)
-    (goes fonts reading 85 (placed 81 (Set (pos 65)) (65 ∷ [])) from_82 (Chosen k) known (LookUp k 81 ∷ packet_members local g 81 ++ (Flat (flat.Advance (pos 6)) None 81 ∷ [])) _ set
-    (goes fonts reading 85 (placed 82 (Put (pos 65)) (133 ∷ 65 ∷ [])) last known known (packet_members local g 82) _ put
+    (goes fonts reading 85 (placed 81 (Set (pos 65)) (65 ∷ [])) from_82 (Chosen k) known (LookUp k 81 ∷ packet 81 ++ (Flat (flat.Advance (pos 6)) None 81 ∷ [])) _ set
+    (goes fonts reading 85 (placed 82 (Put (pos 65)) (133 ∷ 65 ∷ [])) last known known (packet 82) _ put
     (goes fonts reading 85 (placed 83 (Right (pos 9)) (143 ∷ 9 ∷ [])) [] known known (Flat (flat.Right (pos 9) (pos (k.size / 6))) None 83 ∷ []) _ refl refl)))
 
 pub loops_are_too_deep : LoopsAreTooDeep

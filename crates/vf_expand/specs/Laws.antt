@@ -113,42 +113,54 @@ characters =
     (65 ∷ []) ∷ placed 82 (Put (pos 65)) (133 ∷ 65 ∷ []) ∷ placed 83 (Right (pos 9))
     (143 ∷ 9 ∷ []) ∷ []
 
--- its packet: the character 65 of the first local font, a motion right by a factor of -1/2^20 of
--- the font's size, and a push and a pop
+-- its packet: the character 65 of the first local font; motions right by factors of -1/2^20 and of
+-- a half of the font's size; a rule whose height is a quarter of that size, and whose width is
+-- three eighths of it; the character 65 of the local font 1; a push and a pop
 abbrev pub a_packet : List ℕ
-a_packet = 65 ∷ 143 ∷ 255 ∷ 141 ∷ 142 ∷ []
+a_packet =
+    65 ∷ 143 ∷ 255 ∷ 146 ∷ 0 ∷ 8 ∷ 0 ∷ 0 ∷ 132 ∷ 0 ∷ 4 ∷ 0 ∷ 0 ∷ 0 ∷ 6 ∷ 0 ∷ 0
+    ∷ 172 ∷ 65 ∷ 141 ∷ 142 ∷ []
 
--- what the packet gives, at a position: the local font is looked up once, and the motion is rounded
--- down
-abbrev pub packet_members : FontKey → Glyph → ℕ → List Member
-packet_members local g at =
+-- a packed font of a key, whose character 65 is so wide and has this glyph
+pub record HasGlyph (fonts : Fonts) (k : FontKey) (f : FontValue) (wide : ℤ) (g : Glyph)
+    : Type 0 where
+  pub found : fonts k ≡ decoded.Font f
+  pub width : scaled_width_of f (pos 65) ≡ Some wide
+  pub glyph : glyph_at f 65 ≡ Some g
+
+-- what the packet gives at a size of 128, at a position: each local font is looked up once, and the
+-- first motion is rounded down. The space is a sixth of the local font's size
+abbrev pub packet_members : FontKey → Glyph → FontKey → Glyph → ℕ → List Member
+packet_members local g other h at =
     Flat flat.Enter None at ∷ LookUp local at ∷ Flat (flat.Char local 65 (pos 3) false)
     (Some g) at ∷ Flat (flat.Right (negsuc 0) (pos (local.size / 6))) None at
+    ∷ Flat (flat.Right (pos 64) (pos (local.size / 6))) None at
+    ∷ Flat (flat.Rule (pos 32) (pos 48) false) None at ∷ Flat flat.Skip None at
+    ∷ LookUp other at ∷ Flat (flat.Char other 65 (pos 5) false) (Some h) at
     ∷ Flat flat.Push None at ∷ Flat flat.Pop None at ∷ Flat flat.Leave None at ∷ []
 
 -- the page's font is looked up once, and is current again after each packet; the character that is
 -- set moves by its own width after it
 abbrev pub ThePacketIsWorked : Type 0
 ThePacketIsWorked =
-    (fonts : Fonts) (reading : Reading) (k local : FontKey) (f l : FontValue) (g : Glyph)
+    (fonts : Fonts) (reading : Reading) (k local other : FontKey) (f l m : FontValue) (g h : Glyph)
     → font_table reading (pos 0) ≡ Some k → f.size ≡ 128
     → fonts k ≡ decoded.Font f → HasPacket f (pos 6) a_packet local
-    → fonts local ≡ decoded.Font l → scaled_width_of l (pos 65) ≡ Some (pos 3)
-    → glyph_at l 65 ≡ Some g
+    → local_of f (pos 1) ≡ Some other → HasGlyph fonts local l (pos 3) g
+    → HasGlyph fonts other m (pos 5) h
     → full_list fonts reading 85 NoFont characters ≡ record {
-      members = (Flat flat.Skip None 80 ∷ LookUp k 81 ∷ packet_members local g 81)
-          ++ (Flat (flat.Advance (pos 6)) None 81 ∷ packet_members local g 82)
+      members = (Flat flat.Skip None 80 ∷ LookUp k 81 ∷ packet_members local g other h 81)
+          ++ (Flat (flat.Advance (pos 6)) None 81 ∷ packet_members local g other h 82)
           ++ (Flat (flat.Right (pos 9) (pos (k.size / 6))) None 83 ∷ []);
       ending = AtEnd 85;
     }
 
--- n packets, each of which stands in the one before it, look their font up and begin
+-- n packets, each inside the one before it, look their font up and begin
 abbrev pub nested_entries : FontKey → ℕ → ℕ → List Member
 nested_entries k at zero = []
 nested_entries k at (suc n) = LookUp k at ∷ Flat flat.Enter None at ∷ nested_entries k at n
 
--- a font whose character sets itself: ten packets stand inside one another, and the next one is too
--- deep
+-- a font whose character sets itself: ten packets are nested, and the next one is too deep
 abbrev pub LoopsAreTooDeep : Type 0
 LoopsAreTooDeep =
     (fonts : Fonts) (reading : Reading) (k : FontKey) (f : FontValue)

@@ -3,7 +3,6 @@ ghost use Rattle.std.specs.Prelude.{◌≡◌, ℕ, IfOk};
 ghost use Rattle.std.specs.Arc.{arc_value};
 ghost use Rattle.dvi_commands.specs.Spelling.{value_of_command};
 ghost use Rattle.font_decode.specs.Fonts.{first_local_of};
-ghost use Rattle.drift_rules.specs.Position.{Rule, value_of_flat};
 ghost use Rattle.drift_rules.specs.Bounds.{IsNumber};
 ghost use Rattle.vf_expand.specs.Course.{dimension, no_local};
 ghost use Rattle.vf_expand.specs.Faults.{value_of_fault};
@@ -93,14 +92,6 @@ fn change(
     }
 }
 
-// A rule, whose sides are in DVI units.
-#[inline(always)]
-fn rule(height: i64, width: i64, put: bool) -> Flat
-    ensures { value_of_flat result ≡ Rule height width put }
-{
-    Flat::Rule { height, width, put }
-}
-
 /// What a command gives, where n packets may be nested.
 #[inline(always)]
 pub fn effect_of(
@@ -121,16 +112,16 @@ pub fn effect_of(
         Command::Set(code) => return character(keys, place, room, current, *code, false),
         Command::Put(code) => return character(keys, place, room, current, *code, true),
         Command::Font(number) => return change(keys, place, current, *number),
-        Command::SetRule { height, width } => rule(
-            dimension_of(place, *height),
-            dimension_of(place, *width),
-            false,
-        ),
-        Command::PutRule { height, width } => rule(
-            dimension_of(place, *height),
-            dimension_of(place, *width),
-            true,
-        ),
+        Command::SetRule { height, width } => Flat::Rule {
+            height: dimension_of(place, *height),
+            width: dimension_of(place, *width),
+            put: false,
+        },
+        Command::PutRule { height, width } => Flat::Rule {
+            height: dimension_of(place, *height),
+            width: dimension_of(place, *width),
+            put: true,
+        },
         Command::Right(by) => Flat::Right {
             by: dimension_of(place, *by),
             space,
