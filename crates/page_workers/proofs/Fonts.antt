@@ -1,4 +1,4 @@
--- The font of a key's files is the key's font.
+-- What a font is by the library that a source knows, and by the one that the common part knows.
 use Rattle.std.proofs.Common.{◌≡◌, List, [], Bool, true, false, Option, Some, None, Result, Ok, Err, IfOk, refl, ap, subst, ◌∙◌}
 use Rattle.std.specs.Prelude.{IfSome, IsNone, IsSome, ◌&&◌, is_some, is_none, if◌then◌else◌, ℕ}
 use Rattle.std.specs.FinMap.{get}
@@ -7,13 +7,8 @@ use Rattle.outside.specs.declared.keys.FontKey.{FontKey}
 use Rattle.pixel_round.specs.declared.units.Units.{Units}
 use Rattle.font_decode.specs.Names.{is_valid_name, dpi, is_resolution, tfm_name, vf_name, pk_names}
 use Rattle.font_decode.specs.Files.{FontFiles, IsFound, IsInOrder, first_there, pk_choices}
-use Rattle.font_decode.specs.Decoding.{IsDecodingOf, IsFontOf, IsFontBySome}
+use Rattle.font_decode.specs.Decoding.{IsFontOf, IsFontBySome}
 use Rattle.font_decode.specs.declared.font_or_fault.Decoded.{Decoded}
-
-pub found_in : (known : Option library.FileTable) (u : Units) (k : FontKey) (files : FontFiles) (d : Decoded) → IfSome known (λ l. IsFound l u k files) → IsInOrder u k files → IsDecodingOf u k files d
-    → IsFontOf known (Some u) k d
-found_in None u k files d found order decoding = record { files = files; order = order; decoding = decoding }
-found_in (Some l) u k files d found order decoding = record { files = files; found = found; decoding = decoding }
 
 -- ---- files that are found in a library are found in their order
 

@@ -1,16 +1,19 @@
-//! A source of font files that counts the loads asked of another one.
-ghost use Rattle.std.specs.Prelude.{◌≡◌, ◌<◌, ◌≤◌, ◌^◌, ℕ, IfOk, IfSome, IsErrOf, OnOk};
+//! Fonts that are loaded for a worker, and the loads that are counted for it.
+ghost use Rattle.std.specs.Prelude.{◌≡◌, ◌+◌, ◌<◌, ◌≤◌, ◌^◌, ℕ, Some, IfOk, IsErrOf};
+ghost use Rattle.std.specs.Arc.{arc_value};
 ghost use Rattle.outside.specs.Counts.{HasCause};
 ghost use Rattle.outside.specs.FontKeys.{IsFontKey};
 ghost use Rattle.pixel_round.specs.Preamble.{AreUnits};
-ghost use Rattle.font_decode.specs.Files.{bytes_of, IsFound, IsInOrder};
+ghost use Rattle.font_decode.specs.Decoding.{IsFontOf};
+ghost use Rattle.font_decode.specs.Desks.{Loaded};
 ghost use Rattle.page_workers.specs.Counts.{CountedLoads};
 
-use font_decode::{Files, fetch};
+use font_decode::{Decoded, DeskStop, load};
 use outside::{FileName, FontKey, FontSource, LoadStop};
 use pixel_round::Units;
 use std::alloc::Global;
 use std::marker::{Brand, PhantomData};
+use std::sync::Arc;
 
 /// Which source a counting source was lent, by the name of its reference, and how many loads had
 /// been asked of it by then. A proof picks both.
@@ -56,74 +59,75 @@ impl<F: FontSource, K: Loan> FontSource for Counting<'_, F, K> {
     }
 }
 
-// Fetches the files of a font from a source that was lent, and gives the source back.
-fn fetch_lent<'a, K: Loan, F: FontSource>(
+// A font, or why it was not loaded, and how many loads were asked for it.
+#[derive(Drop)]
+struct CountedLoad {
+    font: Result<Arc<Decoded>, DeskStop>,
+    loads: u64,
+}
+
+// Loads a font from a source that was lent, and gives the source back.
+fn load_lent<'a, K: Loan, F: FontSource>(
     source: &'a mut F,
     alloc: Global,
-    key: &FontKey,
+    key: &Arc<FontKey>,
     units: &Units,
-    fetched: &mut Fetched,
+    loaded: &mut CountedLoad,
 ) -> &'a mut F
     requires reference { source.ghost_name ≡ K.reference }
     requires begun { F.loads source.old ≡ K.begun }
     requires units { AreUnits units.now }
-    requires key { IsFontKey key.now }
+    requires key { IsFontKey (arc_value key.now) }
     ensures back { result.ghost_name ≡ source.entry.ghost_name }
-    ensures files { IfOk fetched.new.files (λ files. IfSome (F.library source.old) (λ l.
-        IsFound l units.now key.now (bytes_of files))) }
-    ensures order { IfOk fetched.new.files (λ files.
-        IsInOrder units.now key.now (bytes_of files)) }
+    ensures found { IfOk loaded.new.font (λ font.
+        IsFontOf (F.library source.old) (Some units.now) (arc_value key.now) (arc_value font)) }
     ensures library { F.library result.now ≡ F.library source.old }
     ensures cause { HasCause (F.faults source.old) (F.faults result.now)
-        (IsErrOf fetched.new.files LoadStop.Failed) }
-    ensures few { fetched.new.loads ≤ 5 }
-    ensures counted { CountedLoads (F.loads source.old) fetched.new.loads (F.loads result.now) }
+        (IsErrOf loaded.new.font DeskStop.SourceFault) }
+    ensures few { loaded.new.loads ≤ 5 }
+    ensures counted { CountedLoads (F.loads source.old) loaded.new.loads (F.loads result.now) }
 {
     let mut counting = Counting::<F, K> {
         source,
         loads: 0,
         of: PhantomData,
     };
-    let files = fetch(alloc, &mut counting, key, units);
+    let font = load(alloc, &mut counting, key, units);
     let Counting {
         source,
         loads,
         of: _,
     } = counting;
-    *fetched = Fetched { files, loads };
+    *loaded = CountedLoad { font, loads };
     source
 }
 
-/// The files of a font, or why they were not fetched, and how many loads were asked for them.
-#[derive(Drop)]
-pub struct Fetched {
-    pub files: Result<Files, LoadStop>,
-    pub loads: u64,
-}
-
-/// Fetches the files of a font, and answers how many loads it asked of the source: at most five.
-/// `Failed` comes only where the source's count of faults rose, `NoMemory` where memory ran out.
-pub fn fetch_counted<F: FontSource>(
+/// Loads and decodes the font of a key, and adds the loads that it asked for, at most five, to the
+/// count. A fault of the font is an answer. `SourceFault` comes only where the source's count of
+/// faults rose, `NoMemory` where memory ran out.
+pub fn load_counted<F: FontSource>(
     alloc: Global,
     source: &mut F,
-    key: &FontKey,
+    loads: &mut u64,
+    key: &Arc<FontKey>,
     units: &Units,
-) -> Fetched
+) -> Result<Arc<Decoded>, DeskStop>
     requires units { AreUnits units.now }
-    requires key { IsFontKey key.now }
-    ensures files { IfOk result.files (λ files. IfSome (F.library source.old) (λ l.
-        IsFound l units.now key.now (bytes_of files))) }
-    ensures order { IfOk result.files (λ files. IsInOrder units.now key.now (bytes_of files)) }
+    requires key { IsFontKey (arc_value key.now) }
+    requires room { loads.old + 8 ≤ 2 ^ 62 }
+    ensures found { IfOk result (λ font.
+        IsFontOf (F.library source.old) (Some units.now) (arc_value key.now) (arc_value font)) }
     ensures library { F.library source.new ≡ F.library source.old }
     ensures cause { HasCause (F.faults source.old) (F.faults source.new)
-        (IsErrOf result.files LoadStop.Failed) }
-    ensures few { result.loads ≤ 5 }
-    ensures counted { CountedLoads (F.loads source.old) result.loads (F.loads source.new) }
+        (IsErrOf result DeskStop.SourceFault) }
+    ensures loaded { Loaded 5 (F.loads source.old) (F.loads source.new) loads.old loads.new }
+    ensures few { loads.new ≤ loads.old + 5 }
 {
-    let mut fetched = Fetched {
-        files: Err(LoadStop::NoMemory),
+    let mut loaded = CountedLoad {
+        font: Err(DeskStop::NoMemory),
         loads: 0,
     };
-    fetch_lent::<Brand, F>(source, alloc, key, units, &mut fetched);
-    fetched
+    load_lent::<Brand, F>(source, alloc, key, units, &mut loaded);
+    *loads += loaded.loads;
+    loaded.font
 }

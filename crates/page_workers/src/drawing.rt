@@ -46,16 +46,12 @@ fn draw_on_spare_page<R: Wait, F: FontSource>(
     ensures trail { TrailGrew (IsWhole result) (asked_at worker.old.seat)
         (asked_at worker.new.seat) (trail_of F.loads worker.old) (trail_of F.loads worker.new) }
 {
-    match blank_page(alloc, &mut worker.spare_pages, job.sheet) {
-        Ok(spare_pages) => {
-            let wanted = IndexedPage {
-                index: job.index,
-                number: page,
-            };
-            draw_on(rt, alloc, worker, job.bench, wanted, job.sheet, spare_pages)
-        }
-        Err(_) => Err(PageStop::NoMemory),
-    }
+    let blank = blank_page(alloc, &mut worker.spare_pages, job.sheet)?;
+    let wanted = IndexedPage {
+        index: job.index,
+        number: page,
+    };
+    draw_on(rt, alloc, worker, job.bench, wanted, job.sheet, blank)
 }
 
 // Draws a page, and answers whether it has a bitmap. The results, the pages and the seat at the

@@ -9,7 +9,6 @@ mod drawing;
 mod job;
 mod keeping;
 pub mod laws;
-mod loading;
 mod round;
 mod seating;
 pub mod spare_pages;

@@ -9,8 +9,8 @@ ghost use Rattle.page_workers.specs.SparePages.{HasNoSparePages};
 ghost use Rattle.page_workers.specs.Seats.{SeatFits, asked_at, room_at, trail_at};
 
 use crate::Bench;
+use crate::counting::load_counted;
 use crate::keeping::keep;
-use crate::loading::load;
 use cache_core::Look;
 use font_cache::CacheSeat;
 use font_decode::{Decoded, Desk, DeskStop};
@@ -145,13 +145,11 @@ fn ask<R: Wait, F: FontSource>(
         (trail_at (F.loads source.old) loads.old (Some seat.old))
         (trail_at (F.loads source.new) loads.new (Some seat.new)) }
 {
-    let Ok(look) = bench.cache.look(rt, seat, key) else {
-        return Err(DeskStop::NoMemory);
-    };
+    let look = bench.cache.look(rt, seat, key)?;
     match look {
         Look::Hit(font) => Ok(font),
-        Look::Busy => load(alloc, source, loads, key, &bench.units),
-        Look::Claimed => match load(alloc, source, loads, key, &bench.units) {
+        Look::Busy => load_counted(alloc, source, loads, key, &bench.units),
+        Look::Claimed => match load_counted(alloc, source, loads, key, &bench.units) {
             Ok(font) => keep(rt, &bench.cache, seat, key, font),
             Err(stop) => {
                 bench.cache.release(rt, seat, key);
