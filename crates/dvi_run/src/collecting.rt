@@ -6,7 +6,7 @@ ghost use Rattle.dvi_run.specs.Stacks.{AreResults, Collected, HasOnTop};
 ghost use Rattle.page_index.specs.Limits.{MAX_PAGES};
 
 use outside::FontSource;
-use page_workers::{PageResult, Worker};
+use page_workers::{PageRange, PageResult, Worker};
 
 // Whether the last result of a worker is that of this page.
 fn ends_with<F: FontSource>(worker: &Worker<F>, page: usize) -> bool
@@ -48,22 +48,21 @@ fn take_last<F: FontSource>(worker: &mut Worker<F>, stack: &mut Vec<PageResult>)
     }
 }
 
-/// Takes the results of a round, of at most `count` pages from `first` on, out of the workers, and
+/// Takes the results of a round, which may have ended before its last page, out of the workers, and
 /// puts them onto an empty stack, the last page first.
 pub fn collect<F: FontSource>(
     workers: &mut [Worker<F>],
-    first: usize,
-    count: usize,
+    pages: PageRange,
     stack: &mut Vec<PageResult>,
 )
-    requires pages { first + count ≤ MAX_PAGES }
+    requires pages { pages.first + pages.count ≤ MAX_PAGES }
     requires empty { stack.old.items ≡ [] }
-    requires room { vec_len stack.old + count ≤ vec_capacity stack.old }
-    ensures { (pages : ℕ) → pages ≤ count → AreResults first pages workers.old
-        → Collected first pages workers.old workers.new stack.new.items }
+    requires room { vec_len stack.old + pages.count ≤ vec_capacity stack.old }
+    ensures { (drawn : ℕ) → drawn ≤ pages.count → AreResults pages.first drawn workers.old
+        → Collected pages.first drawn workers.old workers.new stack.new.items }
 {
-    for i in (0..count).rev() {
-        if let Some(k) = owner(workers, first + i) {
+    for i in (0..pages.count).rev() {
+        if let Some(k) = owner(workers, pages.first + i) {
             take_last(&mut workers[k], stack);
         }
     }

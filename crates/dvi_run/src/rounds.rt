@@ -61,7 +61,7 @@ fn draw_stack<R: Threads + Wait + Sync, F: FontSource + Send>(
     let _few = job.index.pages();
     let mut stack = Vec::with_capacity(alloc, pages.count)?;
     draw_round_on(rt, alloc, workers, job, pages, spare_pages)?;
-    collect(workers, pages.first, pages.count, &mut stack);
+    collect(workers, pages, &mut stack);
     Ok(stack)
 }
 

@@ -10,7 +10,7 @@ pub loop-i-init : goal.loop-i-init
 loop-i-init g c =
     let empty = c.requires.empty in
     record {
-      so_far = λ pages are le. subst (λ (l : List PageResult). CollectedTo c.args.workers.now c.args.first pages are c.args.count c.args.workers.now l) (sym empty) (none_collected c.args.workers.now c.args.first pages are c.args.count le);
+      so_far = λ pages are le. subst (λ (l : List PageResult). CollectedTo c.args.workers.now c.args.pages.first pages are c.args.pages.count c.args.workers.now l) (sym empty) (none_collected c.args.workers.now c.args.pages.first pages are c.args.pages.count le);
       room = c.requires.room;
     }
 
@@ -28,7 +28,7 @@ loop-i-preserved-in-Some g c =
     let inside : k < length ws = found.0 in
     record {
       so_far = λ pages are le.
-          step_some xs c.args.first pages are i ws c.loop-i.stack.items (subst (λ (n : ℕ). CollectedTo xs c.args.first pages are n ws c.loop-i.stack.items) at (c.loop-i.invariant.so_far pages are le)) k w v (subst (λ (n : ℕ). k < n) long inside) long
+          step_some xs c.args.pages.first pages are i ws c.loop-i.stack.items (subst (λ (n : ℕ). CollectedTo xs c.args.pages.first pages are n ws c.loop-i.stack.items) at (c.loop-i.invariant.so_far pages are le)) k w v (subst (λ (n : ℕ). k < n) long inside) long
           (found.1 w) c.take_last.ensures.same c.take_last.new.stack.items (λ q rest split. c.take_last.ensures.moved q rest split);
       room =
           let room = c.loop-i.invariant.room in
@@ -46,7 +46,7 @@ loop-i-preserved g c =
     let long : length ws ≡ length xs = search rules in
     record {
       so_far = λ pages are le.
-          step_none xs c.args.first pages are i ws c.loop-i.stack.items (subst (λ (n : ℕ). CollectedTo xs c.args.first pages are n ws c.loop-i.stack.items) at (c.loop-i.invariant.so_far pages are le))
+          step_none xs c.args.pages.first pages are i ws c.loop-i.stack.items (subst (λ (n : ℕ). CollectedTo xs c.args.pages.first pages are n ws c.loop-i.stack.items) at (c.loop-i.invariant.so_far pages are le))
           (λ k d lt. c.in_default.ensures.none refl k d (subst (λ (n : ℕ). k < n) (sym long) lt));
       room = let room = c.loop-i.invariant.room in omega (arith, room);
     }
@@ -54,5 +54,5 @@ loop-i-preserved g c =
 pub returns : goal.returns
 returns g c = λ pages le are.
     let last : c.loop-i.i ≡ 0 = omega arith in
-    collected c.args.workers.now c.args.first pages are c.loop-i.workers c.loop-i.stack.items
-    (subst (λ (n : ℕ). CollectedTo c.args.workers.now c.args.first pages are n c.loop-i.workers c.loop-i.stack.items) last (c.loop-i.invariant.so_far pages are le))
+    collected c.args.workers.now c.args.pages.first pages are c.loop-i.workers c.loop-i.stack.items
+    (subst (λ (n : ℕ). CollectedTo c.args.workers.now c.args.pages.first pages are n c.loop-i.workers c.loop-i.stack.items) last (c.loop-i.invariant.so_far pages are le))
