@@ -24,6 +24,7 @@ ORDERED = {
     ('by', 'space'),                                                                                # a motion and the space that it is compared with
 }
 NEIGHBOURS = {
+    'crates/outside/src/mem_fonts.rt: starving',        # a given signature, the loads that fail and those that find no memory
     'crates/fix_word/src/sizes.rt: tex_units',          # a given signature, DVItype's d, num and den
     'crates/raster_page/src/page.rt: rule',             # a given signature, a place and two sides
     'crates/raster_page/src/span.rt: cut_end',          # the numbers of one stretch, for one caller

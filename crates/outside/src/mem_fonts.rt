@@ -9,11 +9,12 @@ use crate::memory::is_listed;
 use crate::{FileName, FontSource, Library, LoadStop};
 use std::sync::Arc;
 
-/// A library of which the loads with the listed numbers fail.
+/// A library of which the loads with the listed numbers fail, or find no memory.
 #[derive(Drop)]
 pub struct MemFonts {
     library: Arc<Library>,
     fails: Vec<u64>,
+    starves: Vec<u64>,
     loads: u64,
     faults: u64,
     asked: AskedNames,
@@ -25,12 +26,26 @@ impl MemFonts {
     pub fn new(library: Arc<Library>, fails: Vec<u64>) -> MemFonts
         ensures library { result.library.value ≡ library.value }
         ensures fails { result.fails.items ≡ fails.items }
+        ensures starves { result.starves.items ≡ [] }
+        ensures unused { (result.loads ≡ 0) × (result.faults ≡ 0) × (result.asked ≡ Some []) }
+    {
+        let starves = Vec::new(library.alloc());
+        MemFonts::starving(library, fails, starves)
+    }
+
+    /// The loads that `fails` names, from 1, fail. Those that `starves` names and `fails` doesn't
+    /// find no memory, which is no fault.
+    pub fn starving(library: Arc<Library>, fails: Vec<u64>, starves: Vec<u64>) -> MemFonts
+        ensures library { result.library.value ≡ library.value }
+        ensures fails { result.fails.items ≡ fails.items }
+        ensures starves { result.starves.items ≡ starves.items }
         ensures unused { (result.loads ≡ 0) × (result.faults ≡ 0) × (result.asked ≡ Some []) }
     {
         let asked = AskedNames::new(library.alloc());
         MemFonts {
             library,
             fails,
+            starves,
             loads: 0,
             faults: 0,
             asked,
@@ -70,7 +85,12 @@ impl FontSource for MemFonts {
         ensures faulty { result ≡ Err LoadStop.Failed
             → self.new.faults ≡ next_count self.old.faults }
         ensures good { ¬ (result ≡ Err LoadStop.Failed) → self.new.faults ≡ self.old.faults }
-        ensures keeps { self.new.fails ≡ self.old.fails }
+
+        // A load that is listed as starved and not as failing finds no memory.
+        ensures starved { Contains self.old.starves.items self.new.loads
+            → ¬ Contains self.old.fails.items self.new.loads
+            → result ≡ Err LoadStop.NoMemory }
+        ensures keeps { (self.new.fails ≡ self.old.fails) × (self.new.starves ≡ self.old.starves) }
     {
         self.loads = self.loads.saturating_add(1);
         let kept = self.asked.add(name);
@@ -79,6 +99,9 @@ impl FontSource for MemFonts {
             return Err(LoadStop::Failed);
         }
         kept?;
+        if is_listed(&self.starves, self.loads) {
+            return Err(LoadStop::NoMemory);
+        }
         Ok(self.library.copy_of(name)?)
     }
 }

@@ -1,10 +1,8 @@
 -- A document that was read to its end.
-use Rattle.std.proofs.Common.{◌≡◌, ℕ, ℤ, ◌+◌, ◌-◌, ◌<◌, ◌≤◌, inr, Bool, true, false, List, [], ◌∷◌, ◌++◌, length, take, drop, refl, sym, ap, subst, ◌∙◌, arith, Some, None, length-take, length-drop, length-append}
-use Rattle.std.specs.Prelude.{get_or, reverse, slice_index, slice_range, IsTrue, nat_lt, not, if◌then◌else◌}
-use Rattle.std.specs.List.{list_all}
+use Rattle.std.proofs.Common.{◌≡◌, ℕ, ℤ, ◌+◌, ◌-◌, ◌<◌, ◌≤◌, inr, true, false, List, [], ◌∷◌, ◌++◌, length, take, drop, refl, sym, ap, subst, ◌∙◌, arith, Some, None, length-take, length-drop, length-append}
+use Rattle.std.specs.Prelude.{get_or, reverse, slice_index, slice_range, IsTrue}
 use Rattle.std.proofs.lemmas.Option.{slice_get-get_or}
 use Rattle.std.specs.Option.{option_map}
-use Rattle.std.proofs.lemmas.Bool.{ltb-false}
 use Rattle.std.proofs.lemmas.List.{reverse-append, reverse-reverse, take_at}
 use Rattle.pixel_round.specs.Pixels.{Fraction}
 use Rattle.pixel_round.specs.declared.units.Units.{Units}
@@ -13,7 +11,7 @@ use Rattle.dvi_commands.specs.Refusal.{may_stand}
 use Rattle.dvi_commands.specs.Reading.{Placed, Reads, placed_from}
 use Rattle.dvi_commands.specs.declared.command.Context.{Context}
 use Rattle.dvi_commands.specs.declared.command.Context.TheVariants as context
-use Rattle.page_index.specs.Judged.{is_filler, tail_fault}
+use Rattle.page_index.specs.Judged.{tail_fault}
 use Rattle.page_index.specs.Limits.{MAX_DOCUMENT_LENGTH}
 use Rattle.page_index.specs.Document.{IsDocument, Reading, Sound, context_after, end_of, is_ended, is_post_read, is_postpost, pages_begun, text_of, units_of}
 use Rattle.page_index.specs.Faults.{FaultAfterCommand, FaultAfter, IsFirstFault}
@@ -31,7 +29,7 @@ use Rattle.page_index.proofs.Runs.{runs_more, runs_placed, runs_read}
 
 -- ---- a reading is the commands of its text
 
-text_length : (res : ℕ) (r : Reading) → Sound res r → length (text_of r) ≡ end_of r
+pub text_length : (res : ℕ) (r : Reading) → Sound res r → length (text_of r) ≡ end_of r
 text_length res [] s = refl
 text_length res (p ∷ before) s = length-append (text_of before) p.bytes ∙ omega (arith, text_length res before s.0, s.1.place)
 

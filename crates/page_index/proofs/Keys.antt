@@ -1,8 +1,7 @@
 -- The table of fonts, one definition more.
-use Rattle.std.proofs.Common.{◌≡◌, ℕ, inl, inr, ℤ, pos, negsuc, Bool, true, false, cond, List, refl, sym, ap, ◌∙◌, arith, Option, Some, None, eqb-true, Ordering}
-use Rattle.std.specs.declared.cmp.Ordering.TheVariants.{Less, Equal, Greater}
+use Rattle.std.proofs.Common.{◌≡◌, ℕ, inl, inr, ℤ, pos, Bool, true, false, cond, List, refl, sym, ap, ◌∙◌, Option, Some, None, eqb-true}
 use Rattle.std.specs.Prelude.{◌&&◌, ◌==◌, not, nat_eq, if◌then◌else◌, is_some, unsigned_abs}
-use Rattle.std.specs.Ordering.{int_cmp, is_eq, eq_by_cmp, ordering_reverse}
+use Rattle.std.specs.Ordering.{int_cmp, eq_by_cmp}
 use Rattle.std.specs.Cmp.Lexicographic.{pointwise, same_text}
 use Rattle.std.specs.FinMap.{get, insert, get-insert, int_cmp-IsAntisymmetric}
 use Rattle.std.proofs.lemmas.Cmp.{int_cmp_total}

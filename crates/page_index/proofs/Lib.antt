@@ -16,3 +16,4 @@ mod Ended
 mod PageEnds
 mod PagesApart
 mod Total
+mod Cuts

@@ -1,14 +1,14 @@
 -- Each page of a document has its end.
-use Rattle.std.proofs.Common.{◌≡◌, ℕ, zero, suc, ◌<◌, ◌⊎◌, inl, inr, Bool, true, false, List, [], ◌∷◌, refl, sym, ap, subst, ◌∙◌, arith, eqb-true, Some}
+use Rattle.std.proofs.Common.{◌≡◌, ℕ, zero, suc, ◌<◌, ◌⊎◌, inl, inr, Bool, true, false, List, [], ◌∷◌, refl, sym, ap, subst, ◌∙◌, arith, Some}
 use Rattle.std.specs.Prelude.{slice_index, IsSome, IsTrue, ◌&&◌, ◌||◌, ◌==◌, not, if◌then◌else◌}
-use Rattle.std.proofs.lemmas.Bool.{and_parts, cases_Bool, true≢false}
+use Rattle.std.proofs.lemmas.Bool.{cases_Bool, true≢false}
 use Rattle.dvi_commands.specs.Spelling.{DviCommand, Bop, Post, Spells}
 use Rattle.dvi_commands.specs.Refusal.{may_stand}
 use Rattle.dvi_commands.specs.Reading.{Placed}
 use Rattle.dvi_commands.specs.declared.command.Context.{Context}
 use Rattle.dvi_commands.specs.declared.command.Context.TheVariants as context
 use Rattle.page_index.specs.Document.{IsSound, Reading, Sound, context_after, is_bop, is_eop, is_page_open, is_post, is_post_read, pages_begun}
-use Rattle.page_index.specs.Pages.{eop_at, is_page}
+use Rattle.page_index.specs.Pages.{eop_at}
 use Rattle.page_index.specs.Laws.{EachPageEnds}
 use Rattle.page_index.proofs.Contexts.{SaysOf, after_pages, between_pages, says_of}
 use Rattle.page_index.proofs.Ended.{post_is_read}

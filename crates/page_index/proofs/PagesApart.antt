@@ -1,12 +1,11 @@
 -- Pages follow one another.
-use Rattle.std.proofs.Common.{◌≡◌, ◌≢◌, ℕ, zero, suc, ◌+◌, ◌<◌, ◌≤◌, ◌⊎◌, inl, inr, Bool, true, false, List, [], ◌∷◌, ◌++◌, length, refl, sym, ap, subst, ◌∙◌, arith, Option, Some, None}
+use Rattle.std.proofs.Common.{◌≡◌, ℕ, suc, ◌+◌, ◌<◌, ◌≤◌, ◌⊎◌, inl, inr, Bool, true, false, List, [], ◌∷◌, ◌++◌, length, refl, sym, ap, subst, ◌∙◌, arith, Option, Some, None}
 use Rattle.std.specs.Prelude.{All, IsSome, ◌&&◌, ◌||◌, ◌==◌, not, if◌then◌else◌}
 use Rattle.std.proofs.lemmas.Bool.{and_parts, cases_Bool, cases_lt, eqb-true, true≢false}
 use Rattle.std.proofs.lemmas.List.Elements.{All-append, All-cons, All-nil}
 use Rattle.dvi_commands.specs.Reading.{Placed}
-use Rattle.dvi_commands.specs.declared.command.Context.{Context}
 use Rattle.dvi_commands.proofs.Refusals.{spelled_some}
-use Rattle.page_index.specs.Document.{IsDocument, IsSound, Reading, Sound, context_after, end_of, is_bop, is_eop, is_page_open, is_post_read, pages_begun}
+use Rattle.page_index.specs.Document.{IsDocument, Reading, Sound, context_after, end_of, is_bop, is_eop, is_page_open, is_post_read, pages_begun}
 use Rattle.page_index.specs.Pages.{eop_at, is_page, page_commands}
 use Rattle.page_index.specs.Laws.{PagesAreApart, PagesFollowOneAnother}
 use Rattle.page_index.proofs.PageEnds.{each_page_ends}

@@ -1,13 +1,12 @@
 -- Bytes are a document or have a first fault.
-use Rattle.std.proofs.Common.{◌≡◌, ℕ, zero, suc, ◌+◌, ◌<◌, ◌≤◌, ◌⊎◌, inl, inr, Bool, true, false, List, [], ◌∷◌, ◌++◌, length, Option, Some, None, refl, sym, ap, subst, ◌∙◌, arith, append_assoc, length-append}
-use Rattle.std.specs.Prelude.{◌==◌, slice_index, replicate, IsTrue}
+use Rattle.std.proofs.Common.{◌≡◌, ℕ, zero, suc, ◌<◌, ◌≤◌, ◌⊎◌, inl, inr, Bool, true, false, List, [], ◌∷◌, ◌++◌, length, Option, Some, None, refl, sym, ap, subst, ◌∙◌, arith, append_assoc, length-append}
+use Rattle.std.specs.Prelude.{◌==◌, slice_index}
 use Rattle.std.specs.Bool.{MatchBool}
 use Rattle.std.proofs.lemmas.Bool.{and_parts, cases_Bool, cases_lt, eqb-true, le-ltb}
 use Rattle.big_endian.specs.Numbers.{AreBytes}
 use Rattle.dvi_commands.specs.Spelling.{DviCommand, Pre, PostPost, Spells, spelling}
 use Rattle.dvi_commands.specs.Refusal.{may_stand, refusal}
 use Rattle.dvi_commands.specs.Reading.{Begins, Placed}
-use Rattle.dvi_commands.specs.declared.command.CommandFault.{CommandFault}
 use Rattle.dvi_commands.specs.declared.command.Context.{Context}
 use Rattle.dvi_commands.proofs.Refusals.{spelled_some}
 use Rattle.dvi_commands.proofs.Unrefused.{unrefused_is_spelled}
@@ -27,10 +26,10 @@ option_cases : {A : Type 0} (o : Option A) → (o ≡ None) ⊎ ((x : A) × (o �
 option_cases None = inl refl
 option_cases (Some x) = inr (x, refl)
 
-if_true : {b : Bool} (P Q : Type 0) → b ≡ true → P → MatchBool b P Q
+pub if_true : {b : Bool} (P Q : Type 0) → b ≡ true → P → MatchBool b P Q
 if_true P Q e p = subst (λ b. MatchBool b P Q) (sym e) p
 
-if_false : {b : Bool} (P Q : Type 0) → b ≡ false → Q → MatchBool b P Q
+pub if_false : {b : Bool} (P Q : Type 0) → b ≡ false → Q → MatchBool b P Q
 if_false P Q e q = subst (λ b. MatchBool b P Q) (sym e) q
 
 -- ---- the command at the beginning of the bytes after a sound reading
@@ -117,11 +116,11 @@ module _ (res : ℕ) (r : Reading) (rest : List ℕ) (few : AreBytes rest) (goin
 abbrev IsEnd : Reading → List ℕ → Type 0
 IsEnd r rest = (is_ended r ≡ true) × (tail_fault (end_of r) rest ≡ None)
 
-after_end : (res : ℕ) (r : Reading) (c : DviCommand) (rest : List ℕ) (f : DocFault) → is_postpost c ≡ true → tail_fault (end_of r) rest ≡ Some f → FaultAfterCommand res r c rest f
+pub after_end : (res : ℕ) (r : Reading) (c : DviCommand) (rest : List ℕ) (f : DocFault) → is_postpost c ≡ true → tail_fault (end_of r) rest ≡ Some f → FaultAfterCommand res r c rest f
 after_end res r (PostPost q id) rest f e h = h
 after_end res r _ rest f e h = cc
 
-after_within : (res : ℕ) (r : Reading) (c : DviCommand) (rest : List ℕ) (f : DocFault) → is_postpost c ≡ false → FaultWithin res r rest f → FaultAfterCommand res r c rest f
+pub after_within : (res : ℕ) (r : Reading) (c : DviCommand) (rest : List ℕ) (f : DocFault) → is_postpost c ≡ false → FaultWithin res r rest f → FaultAfterCommand res r c rest f
 after_within res r (PostPost q id) rest f e h = absurd cc
 after_within res r _ rest f e h = h
 

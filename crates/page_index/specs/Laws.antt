@@ -1,10 +1,11 @@
 -- Laws over documents and their faults.
-use Rattle.std.specs.Prelude.{◌≡◌, ◌≢◌, ◌<◌, ◌≤◌, ◌+◌, ◌⊎◌, ℕ, List, length, All, IsSome, Some}
+use Rattle.std.specs.Prelude.{◌≡◌, ◌≢◌, ◌<◌, ◌≤◌, ◌+◌, ◌⊎◌, ◌++◌, ℕ, List, length, replicate, take, All, IsSome, Some}
 use Rattle.big_endian.specs.Numbers.{AreBytes}
-use Rattle.page_index.specs.Document.{Reading, IsDocument, pages_begun}
+use Rattle.page_index.specs.Document.{Reading, IsDocument, pages_begun, text_of}
 use Rattle.page_index.specs.Pages.{eop_at, page_commands}
 use Rattle.page_index.specs.Faults.{IsFirstFault}
 use Rattle.page_index.specs.declared.faults.DocFault.{DocFault}
+use Rattle.page_index.specs.declared.faults.DocFault.TheVariants.{Truncated}
 
 -- a document has no fault, and no two readings
 abbrev pub DocumentsHaveNoFault : Type 0
@@ -29,6 +30,13 @@ abbrev pub DocumentsHaveOneReading : Type 0
 DocumentsHaveOneReading =
     (res : ℕ) (bytes : List ℕ) (r s : Reading) → IsDocument res bytes r → IsDocument res bytes s
     → r ≡ s
+
+-- a document that ends with exactly four bytes 223 is truncated at each cut, where it is cut
+abbrev pub CutDocumentsAreTruncated : Type 0
+CutDocumentsAreTruncated =
+    (res : ℕ) (bytes : List ℕ) (reading : Reading) (n : ℕ) → IsDocument res bytes reading
+    → bytes ≡ text_of reading ++ replicate 4 223 → n < length bytes
+    → IsFirstFault res (take n bytes) (Truncated n)
 
 -- each page that a document begins has its end
 abbrev pub EachPageEnds : Type 0

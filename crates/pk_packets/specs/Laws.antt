@@ -1,5 +1,5 @@
 -- What is true of PK files.
-use Rattle.std.specs.Prelude.{◌≡◌, ℕ, ◌+◌, ◌≤◌, ◌⊎◌, List, ◌++◌, length, take, Option}
+use Rattle.std.specs.Prelude.{◌≡◌, ℕ, ◌+◌, ◌≤◌, ◌⊎◌, List, [], ◌++◌, length, take, Option}
 use Rattle.big_endian.specs.Numbers.{AreBytes}
 use Rattle.pk_runs.specs.declared.glyph.Glyph.{Glyph}
 use Rattle.pk_packets.specs.Preamble.{preamble_size}
@@ -57,3 +57,7 @@ abbrev pub CutFilesAreShort : Type 0
 CutFilesAreShort =
     (bytes : List ℕ) (items : List (List ℕ)) (n : ℕ) → IsPkFile bytes items
     → n ≤ closing_at bytes items → IsFirstFault (take n bytes) Short
+
+-- no byte at all is too short
+abbrev pub EmptyFileIsShort : Type 0
+EmptyFileIsShort = IsFirstFault [] Short

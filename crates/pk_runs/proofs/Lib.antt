@@ -18,3 +18,4 @@ pub mod GlyphsKept
 pub mod Sizes
 pub mod Total
 pub mod Shapes
+pub mod Huge

@@ -1,5 +1,6 @@
 pub mod Numbers
 pub mod Raster
+pub mod Huge
 pub mod Painting
 pub mod Reading
 pub mod Stops

@@ -1,5 +1,6 @@
 //! Laws over the definitions, each the contract of a function without a body.
 
+ghost use Rattle.pk_runs.specs.Huge.{HugeRepeatsAreTooManyRows, HugeRunsOverrun};
 ghost use Rattle.pk_runs.specs.Numbers.{NoNumberBeginsAnother, NoItemBeginsAnother, NumbersHaveNoGreatest};
 ghost use Rattle.pk_runs.specs.Raster.{RunRastersAreOne, RunRastersHaveTheirSize, RastersAreOne, RunRastersAreNeverStuck, RastersHaveNoFault, RunFaultsAreOne, BytesHaveARasterOrAFault};
 
@@ -20,4 +21,11 @@ pub fn one_fault()
     ensures no_fault { RastersHaveNoFault }
     ensures one { RunFaultsAreOne }
     ensures either { BytesHaveARasterOrAFault }
+{}
+
+/// A number that no integer of 32 bits holds is refused as itself, whatever was read before it: a
+/// run length is then `Overrun`, and a repeat count `TooManyRows`, unless its row has another one.
+pub fn huge_numbers()
+    ensures runs { HugeRunsOverrun }
+    ensures repeats { HugeRepeatsAreTooManyRows }
 {}

@@ -1,5 +1,5 @@
 -- What is true of VF files.
-use Rattle.std.specs.Prelude.{◌≡◌, ℕ, ◌+◌, ◌≤◌, ◌⊎◌, List, ◌++◌, length, take}
+use Rattle.std.specs.Prelude.{◌≡◌, ℕ, ◌+◌, ◌≤◌, ◌⊎◌, List, [], ◌++◌, length, take}
 use Rattle.big_endian.specs.Numbers.{AreBytes}
 use Rattle.vf_reader.specs.Preamble.{preamble_size}
 use Rattle.vf_reader.specs.Items.{IsItem, text_of}
@@ -45,3 +45,7 @@ abbrev pub CutFilesAreShort : Type 0
 CutFilesAreShort =
     (bytes : List ℕ) (items : List (List ℕ)) (n : ℕ) → IsVfFile bytes items
     → n ≤ closing_at bytes items → IsFirstFault (take n bytes) Short
+
+-- no byte at all is too short
+abbrev pub EmptyFileIsShort : Type 0
+EmptyFileIsShort = IsFirstFault [] Short

@@ -1,5 +1,5 @@
 //! Laws of VF files, each the contract of a function without a body.
-ghost use Rattle.vf_reader.specs.Laws.{CutFilesAreShort, FilesAreReadOneWay, FilesAreReadOrHaveAFault, FilesHaveNoFault, FirstFaultsAreOne, NoItemBeginsAnother};
+ghost use Rattle.vf_reader.specs.Laws.{CutFilesAreShort, EmptyFileIsShort, FilesAreReadOneWay, FilesAreReadOrHaveAFault, FilesHaveNoFault, FirstFaultsAreOne, NoItemBeginsAnother};
 
 /// No item begins another. So a file has one list of items, a file that is read has no fault, and
 /// bytes have at most one first fault. All bytes are a VF file or have a first fault.
@@ -11,7 +11,9 @@ pub fn one_meaning()
     ensures either { FilesAreReadOrHaveAFault }
 {}
 
-/// A file that is read is too short at each cut before its closing command.
+/// A file that is read is too short at each cut before its closing command, and the empty file is
+/// too short.
 pub fn cut_files()
-    ensures { CutFilesAreShort }
+    ensures cut { CutFilesAreShort }
+    ensures empty { EmptyFileIsShort }
 {}

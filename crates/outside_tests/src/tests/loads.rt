@@ -14,6 +14,8 @@ enum Source {
     Sure,
     // A source of which the listed loads fail, and which tells what was asked for.
     Failing(&'static [u64]),
+    // The same with the loads that fail and those that find no memory.
+    Starving(&'static [u64], &'static [u64]),
     // A source that fails where the name of a file begins so.
     Picky(&'static [u8]),
 }
@@ -31,14 +33,14 @@ fn library_of(alloc: Global, files: &[(&[u8], &[u8])]) -> Result<Library, NoMemo
     Ok(library)
 }
 
-// What a load gives: bytes, `none` where there is no file and `failed` where the load fails, with a
-// space after it.
+// What a load gives: bytes, `none` where there is no file, `failed` where the load fails and
+// `starved` where it finds no memory, with a space after it.
 fn tell(told: &mut Vec<u8>, loaded: Result<Option<&[u8]>, LoadStop>) -> Result<(), NoMemory> {
     match loaded {
         Ok(Some(bytes)) => told.extend_from_slice(bytes)?,
         Ok(None) => told.extend_from_slice(b"none")?,
         Err(LoadStop::Failed) => told.extend_from_slice(b"failed")?,
-        Err(LoadStop::NoMemory) => return Err(NoMemory),
+        Err(LoadStop::NoMemory) => told.extend_from_slice(b"starved")?,
     }
     told.push(b' ')?;
     Ok(())
@@ -98,6 +100,12 @@ fn told(
             let fonts = tell_loads(&mut told, alloc, fonts, names)?;
             tell_asked(&mut told, &fonts)?;
         }
+        Source::Starving(fails, starves) => {
+            let starves = Vec::from_slice(alloc, starves)?;
+            let fonts = MemFonts::starving(library, Vec::from_slice(alloc, fails)?, starves);
+            let fonts = tell_loads(&mut told, alloc, fonts, names)?;
+            tell_asked(&mut told, &fonts)?;
+        }
         Source::Picky(front) => {
             let fonts = PickyFonts::new(library, FontName::new(alloc, front)?);
             tell_loads(&mut told, alloc, fonts, names)?;
@@ -123,7 +131,7 @@ static ROWS: [(
     Source,
     &'static [&'static [u8]],
     &'static str,
-); 4] = [
+); 5] = [
     (
         &TWICE,
         Source::Shelf,
@@ -141,6 +149,12 @@ static ROWS: [(
         Source::Failing(&[1, 3]),
         &[b"cmr10.tfm", b"cmr10.tfm", b"cmr10.vf", b"cmr10.vf"],
         "failed second failed none of cmr10.tfm cmr10.tfm cmr10.vf cmr10.vf ",
+    ),
+    (
+        &TWICE,
+        Source::Starving(&[1], &[1, 3]),
+        &[b"cmr10.tfm", b"cmr10.tfm", b"cmr10.tfm", b"cmr10.vf"],
+        "failed second starved none of cmr10.tfm cmr10.tfm cmr10.tfm cmr10.vf ",
     ),
     (
         &BARS,
