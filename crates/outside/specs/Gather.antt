@@ -1,5 +1,5 @@
 -- A text that is written in pieces.
-use Rattle.std.specs.Prelude.{◌≡◌, ◌++◌, ℕ, true, List, Option, take, MatchBool}
+use Rattle.std.specs.Prelude.{◌≡◌, ◌++◌, ℕ, true, List, Option, MatchBool}
 use Rattle.std.specs.Io.KnownBytes.{Appends}
 use Rattle.outside.specs.Counts.{HasCause}
 use Rattle.outside.specs.Streams.{AppendsPrefix}
@@ -7,7 +7,7 @@ use Rattle.outside.specs.declared.gather.Gather.{Gather}
 
 -- what is put and not yet written
 abbrev pub held : Gather → List ℕ
-held g = take g.used g.piece
+held g = g.piece.items
 
 -- what is known grew by a prefix of the text; the rest is held
 pub record IsHeld (held : List ℕ) (start now : Option (List ℕ)) (text : List ℕ) : Type 0 where

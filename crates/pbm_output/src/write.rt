@@ -9,6 +9,7 @@ ghost use Rattle.pbm_output.specs.Pbm.{page_text};
 
 use outside::{Failed, Gather, Output};
 use raster_page::Page;
+use std::alloc::Global;
 
 /// The output failed. What it took before is a prefix of the page's text, and not all of it.
 #[derive(Clone, Copy, Debug, PartialEq, Eq, thiserror::Error)]
@@ -21,13 +22,14 @@ impl From<Failed> for WriteFault {
     }
 }
 
-/// Writes the page as a PBM file in its raw form (P4). Takes no memory.
-pub fn write_page<O: Output>(out: &mut O, page: &Page) -> Result<(), WriteFault>
+/// Writes the page as a PBM file in its raw form (P4). Rows are gathered into few writes on memory
+/// that is freed at the end; where there is none, each row is a write of its own.
+pub fn write_page<O: Output>(alloc: Global, out: &mut O, page: &Page) -> Result<(), WriteFault>
     ensures { Writes (O.written out.old) (O.written out.new) (O.faults out.old) (O.faults out.new)
         (page_text page.now) result }
 {
     let mut number = itoa::Buffer::new();
-    let mut gather = Gather::new();
+    let mut gather = Gather::new(alloc);
     gather.put(out, b"P4\n");
     gather.put(out, number.format(page.width()).as_bytes());
     gather.put(out, b" ");

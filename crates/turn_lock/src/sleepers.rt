@@ -42,9 +42,14 @@ impl Sleepers {
         }
     }
 
+    /// How many seats sleep, or are about to.
+    pub(crate) fn count(&self) -> u64 {
+        self.count.load(Ordering::SeqCst)
+    }
+
     /// Whether nobody sleeps, or is about to.
     pub(crate) fn are_none(&self) -> bool {
-        self.count.load(Ordering::SeqCst) == 0
+        self.count() == 0
     }
 
     /// From now on whoever hands a turn on knows of this seat, which then looks once more before it

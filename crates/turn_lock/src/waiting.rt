@@ -37,6 +37,11 @@ impl<T: Told> TurnLock<T> {
         !self.is_taken() && self.sleepers.are_none()
     }
 
+    /// How many seats sleep, or are about to, as it was at some time in the call.
+    pub fn sleeping(&self) -> u64 {
+        self.sleepers.count()
+    }
+
     // Looks for a short time whether nobody has the turn.
     fn is_free_soon(&self) -> bool {
         for looks in 0..LOOKS {

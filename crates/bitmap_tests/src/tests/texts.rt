@@ -19,7 +19,7 @@ fn written(alloc: Global, drawn: Drawn, taken: Taken) -> Result<(Vec<u8>, bool),
     let mut page = Page::blank(alloc, u32::from(width.max(1)), u32::from(height.max(1)))?;
     page.rule(i64::from(x), i64::from(y), i64::from(w), i64::from(h));
     let mut out = MemOutput::new(alloc, piece.max(1), Vec::from_slice(alloc, fails)?);
-    let whole = write_page(&mut out, &page) != Err(WriteFault);
+    let whole = write_page(alloc, &mut out, &page) != Err(WriteFault);
     Ok((Vec::from_slice(alloc, out.bytes())?, whole))
 }
 

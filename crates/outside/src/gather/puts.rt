@@ -1,20 +1,22 @@
 //! The calls of a `Gather`.
-ghost use Rattle.std.specs.Prelude.{◌≡◌, ◌⊎◌, ◌≤◌, ◌+◌, ◌++◌, ℕ, List, Option, []};
+ghost use Rattle.std.specs.Prelude.{◌≡◌, ◌⊎◌, ◌≤◌, ◌+◌, ◌++◌, ℕ, List, Option, [], length, vec_capacity};
 ghost use Rattle.outside.specs.Streams.{Writes};
 ghost use Rattle.outside.specs.Gather.{Gathers};
 
 use super::{Gather, PIECE};
 use crate::{Failed, Output, write_all};
+use std::alloc::Global;
 
 impl Gather {
-    /// Nothing was put.
-    pub fn new() -> Gather
+    /// Nothing was put. Where there is no memory to hold a piece, nothing is gathered: each `put`
+    /// is then a write of its own.
+    pub fn new(alloc: Global) -> Gather
         ensures { (written : Option (List ℕ)) (faults : ℕ)
             → Gathers written faults result written faults [] }
     {
+        let piece = Vec::with_capacity(alloc, PIECE).unwrap_or(Vec::new(alloc));
         Gather {
-            piece: [0; PIECE],
-            used: 0,
+            piece,
             failed: false,
         }
     }
@@ -24,14 +26,14 @@ impl Gather {
         ensures gathers { (start : Option (List ℕ)) (before : ℕ) (text : List ℕ)
             → Gathers start before self.old (O.written out.old) (O.faults out.old) text
             → Gathers start before self.new (O.written out.new) (O.faults out.new) text }
-        ensures used { self.new.used ≡ 0 }
+        ensures none_held { self.new.piece.items ≡ [] }
     {
         if self.failed {
-            self.used = 0;
+            self.piece.clear();
             return;
         }
-        let result = write_all(out, &self.piece[..self.used]);
-        self.used = 0;
+        let result = write_all(out, &self.piece);
+        self.piece.clear();
         self.failed = result.is_err();
     }
 
@@ -40,9 +42,10 @@ impl Gather {
         ensures gathers { (start : Option (List ℕ)) (before : ℕ) (text : List ℕ)
             → Gathers start before self.old (O.written out.old) (O.faults out.old) text
             → Gathers start before self.new (O.written out.new) (O.faults out.new) text }
-        ensures room { self.new.used + size ≤ 65536 ⊎ (self.new.used ≡ 0) }
+        ensures room { length self.new.piece.items + size ≤ vec_capacity self.new.piece
+            ⊎ (self.new.piece.items ≡ []) }
     {
-        if size > PIECE - self.used {
+        if size > self.piece.capacity() - self.piece.len() {
             self.flush(out);
         }
     }
@@ -59,14 +62,12 @@ impl Gather {
         if self.failed {
             return;
         }
-        if bytes.len() > PIECE - self.used {
+        if bytes.len() > self.piece.capacity() - self.piece.len() {
             let result = write_all(out, bytes);
             self.failed = result.is_err();
             return;
         }
-        let end = self.used + bytes.len();
-        self.piece[self.used..end].copy_from_slice(bytes);
-        self.used = end;
+        self.piece.extend_from_slice(bytes).unwrap();
     }
 
     /// Writes what is still held. `Failed` where a write failed, now or at an earlier `put`: then a

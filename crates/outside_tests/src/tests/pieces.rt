@@ -20,7 +20,7 @@ type Case = (
 fn told(alloc: Global, case: &Case) -> Result<Told, Fail> {
     let (room, texts, begin, end) = *case;
     let mut out = SureOutput::new(alloc, room)?;
-    let mut gather = Gather::new();
+    let mut gather = Gather::new(alloc);
     let mut text = Vec::new(alloc);
     let mut held = 0;
     for (at, (part, times)) in texts.iter().enumerate() {

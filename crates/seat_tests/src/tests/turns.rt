@@ -15,6 +15,7 @@ use turn_lock::example::{Diary, turn, two_turns};
 use turn_lock::{Seat, TurnLock};
 
 mod alone;
+mod late;
 
 // n turns. False where memory ran out.
 fn turns<R: Wait>(rt: &R, lock: &TurnLock<Diary>, seat: &mut Seat<Diary>, count: u64) -> bool
@@ -82,64 +83,6 @@ fn two<R: Threads + Wait + Sync>(rt: &R, alloc: Global, count: u64) -> Option<Di
     lock.join(&mut first, two);
     let diary = lock.close(first);
     if ones && twos { Some(diary) } else { None }
-}
-
-// Has the turn when the others ask for theirs, and gives after a long wait.
-fn give_late<R: Wait>(
-    rt: &R,
-    lock: &TurnLock<Diary>,
-    seat: &mut Seat<Diary>,
-    met: &AtomicU32,
-    all: u32,
-) -> bool
-    requires { (seat.old.lock ≡ lock.now) × (seat.old.view.stage ≡ Idle)
-        × (seat.old.view.drawn ≡ 0) }
-{
-    let mut diary = lock.take(rt, seat);
-    let asked = meet(met, all);
-    for _ in 0..10_000u32 {
-        thread::yield_now();
-    }
-    let noted = diary.note(seat.number());
-    lock.give(seat, diary);
-    asked && noted.is_ok()
-}
-
-// The first thread has the turn when the others ask, who sleep until it gives late; then each takes
-// one turn.
-fn late<R: Threads + Wait + Sync>(rt: &R, alloc: Global, all: u32) -> Option<Diary>
-    requires some { 0 < all }
-    requires few { all ≤ 1000 }
-{
-    let Ok((lock, mut first)) = TurnLock::make(alloc, Diary::new(alloc)) else {
-        return None;
-    };
-    let mut seats = some_seats(alloc, &lock, &mut first, all)?;
-    let (by, gate, good) = (&lock, AtomicU32::new(0), AtomicU32::new(0));
-    thread::for_each_mut(
-        rt,
-        &mut seats,
-        all as usize,
-        &|i, seat: &mut Seat<Diary>|
-            requires { (seat.old.lock ≡ by.now) × (seat.old.view.stage ≡ Idle)
-                × (seat.old.view.drawn ≡ 0) }
-        {
-            let ends = if i == 0 {
-                give_late(rt, by, seat, &gate, all)
-            } else {
-                meet(&gate, all) && turn(rt, by, seat).is_ok()
-            };
-            if ends {
-                good.fetch_add(1, Ordering::SeqCst);
-            }
-        },
-    );
-    let diary = lock.take(rt, &mut first);
-    if good.load(Ordering::SeqCst) == all {
-        Some(diary)
-    } else {
-        None
-    }
 }
 
 // n seats that drew nothing.
@@ -241,17 +184,6 @@ fn two_turns_in_order(rt: HostRuntime) -> Result<(), Fail> {
 fn turns_two(rt: HostRuntime) -> Result<(), Fail> {
     let diary = two(&rt, rt.alloc(), 100).ok_or("memory ran out, or the threads did not meet")?;
     assert_eq!(rt; (diary.turns, had_all(&diary, 2, 100)), (200, true));
-    Ok(())
-}
-
-// Four threads, of which three sleep while the first has the turn.
-#[test]
-fn a_turn_given_late(rt: HostRuntime) -> Result<(), Fail> {
-    let diary = late(&rt, rt.alloc(), 4).ok_or("memory ran out, or the threads did not meet")?;
-    assert_eq!(rt;
-        (diary.seats.first(), had_all(&diary, 4, 1)),
-        (Some(&1), true)
-    );
     Ok(())
 }
 
