@@ -13,9 +13,9 @@ use crate::tally::Tally;
 use outside::Output;
 use page_draw::PageStop;
 use page_workers::PageResult;
-use pbm_output::{WriteFault, write_page};
+use pbm_output::{WriteFault, write_page_gathered};
 use raster_page::Page;
-use std::alloc::AllocError as NoMemory;
+use std::alloc::{AllocError as NoMemory, Global};
 
 /// Why a page was not written.
 #[derive(Drop)]
@@ -91,7 +91,12 @@ pub(crate) fn ending_of_stop(i: usize, stop: WriteStop) -> Ending
 impl Press {
     // Writes a page, whose memory is then for other pages, and answers how many of its pixels are
     // black, where they are counted. A written page that there is no memory to note is dropped.
-    fn write_one<O: Output>(&mut self, drawn: PageResult, out: &mut O) -> Result<u64, WriteStop>
+    fn write_one<O: Output>(
+        &mut self,
+        alloc: Global,
+        drawn: PageResult,
+        out: &mut O,
+    ) -> Result<u64, WriteStop>
         ensures wrote { WroteOutcome self.old.counted (O.written out.old) (O.written out.new)
             (Rose (O.faults out.old) (O.faults out.new)) drawn.outcome result }
         ensures stack { self.new.stack ≡ self.old.stack }
@@ -100,7 +105,7 @@ impl Press {
         ensures output { O.faults out.old ≤ O.faults out.new }
     {
         let page = drawn.outcome?;
-        write_page(out, &page)?;
+        write_page_gathered(alloc, out, &page)?;
         let black = if self.counted { page.count() } else { 0 };
         let _noted = self.written_pages.push(page);
         Ok(black)
@@ -109,7 +114,7 @@ impl Press {
     /// Writes the pages of the stack from its top on, up to the first that can't be. Each is spare
     /// as soon as it is written. The tally grows by those written whole, with their black pixels
     /// where they are counted.
-    pub fn write_stack<O: Output>(&mut self, out: &mut O) -> Result<(), WriteStop>
+    pub fn write_stack<O: Output>(&mut self, alloc: Global, out: &mut O) -> Result<(), WriteStop>
         ensures written { OnOk result (WroteWhole self.old.counted (O.written out.old)
             (O.written out.new) (reverse self.old.stack.items) self.old.tally self.new.tally) }
         ensures stopped { IfErr result (λ why. WroteUpTo self.old.counted (O.written out.old)
@@ -119,7 +124,7 @@ impl Press {
         ensures output { O.faults out.old ≤ O.faults out.new }
     {
         while let Some(drawn) = self.stack.pop() {
-            let black = self.write_one(drawn, out)?;
+            let black = self.write_one(alloc, drawn, out)?;
             self.tally.black += black;
             self.tally.pages += 1;
         }

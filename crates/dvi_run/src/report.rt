@@ -19,6 +19,7 @@ use command_line::Settings;
 use outside::{Failed, FontSource, Gather, Output};
 use page_workers::Worker;
 use run_report::{Counts, put_summary, put_trace};
+use std::alloc::Global;
 
 /// How many loads were asked of the sources of these workers, all of them together.
 pub fn loads_asked<F: FontSource>(workers: &[Worker<F>]) -> u128
@@ -110,6 +111,7 @@ fn put_report<N: Output>(
 /// Prints the report of a run that ends: the trace and the summary, as far as they are asked for
 /// and a cache was made, and the line of its end.
 pub fn print<N: Output>(
+    alloc: Global,
     notes: &mut N,
     settings: &Settings,
     tally: &Option<Tally>,
@@ -121,19 +123,19 @@ pub fn print<N: Output>(
         (N.faults notes.new) (report_text settings.now tally.now loads (calls_of history.now)
         (value_of_ending ending.now)) result }
 {
-    let mut gather = Gather::new();
+    let mut gather = Gather::new(alloc);
     put_report(&mut gather, notes, settings, tally, loads, history, ending);
     gather.finish(notes)
 }
 
 /// Prints the line of a run that ends before anything was read, and that line alone. Answers its
 /// status.
-pub fn print_line<N: Output>(notes: &mut N, ending: &Ending) -> u8
+pub fn print_line<N: Output>(alloc: Global, notes: &mut N, ending: &Ending) -> u8
     ensures status { result ≡ status_of (with_notes (value_of_ending ending.now) true) }
     ensures printed { IsPrinted (N.written notes.old) (N.written notes.new) (N.faults notes.old)
         (N.faults notes.new) (line_of (value_of_ending ending.now)) }
 {
-    let mut gather = Gather::new();
+    let mut gather = Gather::new(alloc);
     put_end(&mut gather, notes, ending);
     let _ = gather.finish(notes);
     ending.status(true)

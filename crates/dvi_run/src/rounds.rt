@@ -103,7 +103,7 @@ fn draw_while_writing<R: Threads + Wait + Sync, F: FontSource + Send, O: Output>
             ensures refused { OnErr result (AllDrewNothing workers.entry.now workers.exit.now) }
             ensures no_counter { NoCounters workers.exit.now }
         { draw_stack(rt, alloc, workers, job, pages, &mut spare_pages) },
-        &mut || press.write_stack(out),
+        &mut || press.write_stack(alloc, out),
     )
 }
 
@@ -140,7 +140,7 @@ fn write_and_draw<R: Threads + Wait + Sync, F: FontSource + Send, O: Output>(
     ensures output { O.faults out.old ≤ O.faults out.new }
 {
     if workers.len() == 1 {
-        press.write_stack(out)?;
+        press.write_stack(alloc, out)?;
         return Ok(draw_stack(rt, alloc, workers, job, pages, &mut press.written_pages)?);
     }
     let (drawn, written) = draw_while_writing(rt, alloc, workers, job, pages, press, out);
@@ -218,7 +218,7 @@ pub fn write_rounds<R: Threads + Wait + Sync, F: FontSource + Send, O: Output>(
         }
         first += count;
     }
-    match press.write_stack(out) {
+    match press.write_stack(alloc, out) {
         Ok(()) => (Ending::Written, press.tally),
         Err(stop) => (ending_of_stop(press.tally.pages, stop), press.tally),
     }

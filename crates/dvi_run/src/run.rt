@@ -111,7 +111,16 @@ pub fn run_with<R: Threads + Wait + Sync, I: Input, F: FontSource + Send, O: Out
     runs();
     let (ending, tally) = draw_asked(rt, alloc, settings, input, workers, out, history);
     let loads = loads_asked(&workers[..settings.workers as usize]);
-    let taken = print(notes, settings, &tally, loads, history.as_slice(), &ending).is_ok();
+    let taken = print(
+        alloc,
+        notes,
+        settings,
+        &tally,
+        loads,
+        history.as_slice(),
+        &ending,
+    )
+    .is_ok();
     ending.status(taken)
 }
 
@@ -174,7 +183,7 @@ pub fn dvipbm_run<R: Threads + Wait + Sync, I: Input, F: FontSource + Send, O: O
     given_settings();
     match line(alloc, words, workers.len()) {
         Ok(settings) => run_with(rt, alloc, &settings, input, workers, out, notes, history),
-        Err(LineStop::Usage) => print_line(notes, &Ending::Usage),
-        Err(LineStop::NoMemory) => print_line(notes, &Ending::Memory),
+        Err(LineStop::Usage) => print_line(alloc, notes, &Ending::Usage),
+        Err(LineStop::NoMemory) => print_line(alloc, notes, &Ending::Memory),
     }
 }

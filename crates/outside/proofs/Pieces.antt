@@ -1,5 +1,5 @@
 -- A gathered text grows.
-use Rattle.std.proofs.Common.{◌≡◌, ◌∙◌, ◌++◌, ℕ, Bool, true, false, List, [], take, sym, ap, subst, append_assoc, append-nil, Option, Result, Ok, Err}
+use Rattle.std.proofs.Common.{◌≡◌, ◌∙◌, ◌++◌, ℕ, Bool, true, false, List, [], sym, ap, subst, append_assoc, append-nil, Option, Result, Ok, Err}
 use Rattle.std.specs.Prelude.{MatchBool, is_err}
 use Rattle.std.specs.Io.KnownBytes.{Appends}
 use Rattle.outside.specs.Streams.{AppendsPrefix, Ends}
@@ -53,13 +53,12 @@ flushed r failed failed2 held start now next text e is w h =
     (written_out r failed failed2 held [] start now next text e is (subst (λ t. Ends now next t r) (sym (append-nil held)) w) h)
 
 -- with nothing held, bytes are written at once
-pub written_past : {T E : Type 0} (r : Result T E) (failed failed2 : Bool) (piece : List ℕ) (used : ℕ) (bytes : List ℕ) (start now next : Option (List ℕ)) (text : List ℕ)
-    → failed ≡ false → failed2 ≡ is_err r → used ≡ 0
-    → Ends now next bytes r → Grown failed (take used piece) start now text → Grown failed2 (take used piece) start next (text ++ bytes)
-written_past r failed failed2 piece used bytes start now next text e is none w h =
-    let nothing : take used piece ≡ [] = ap (λ n. take n piece) none in
-    subst (λ t. Grown failed2 t start next (text ++ bytes)) (sym nothing)
-    (written_out r failed failed2 [] bytes start now next text e is w (subst (λ t. Grown failed t start now text) nothing h))
+pub written_past : {T E : Type 0} (r : Result T E) (failed failed2 : Bool) (held bytes : List ℕ) (start now next : Option (List ℕ)) (text : List ℕ)
+    → failed ≡ false → failed2 ≡ is_err r → held ≡ []
+    → Ends now next bytes r → Grown failed held start now text → Grown failed2 held start next (text ++ bytes)
+written_past r failed failed2 held bytes start now next text e is none w h =
+    subst (λ t. Grown failed2 t start next (text ++ bytes)) (sym none)
+    (written_out r failed failed2 [] bytes start now next text e is w (subst (λ t. Grown failed t start now text) none h))
 
 -- the end, where nothing is held
 pub ended_well : (failed : Bool) (start now : Option (List ℕ)) (text : List ℕ) → failed ≡ false → Grown failed [] start now text → Appends start now text

@@ -1,21 +1,43 @@
 //! The calls of a `Gather`.
-ghost use Rattle.std.specs.Prelude.{◌≡◌, ◌⊎◌, ◌≤◌, ◌+◌, ◌++◌, ℕ, List, Option, []};
+ghost use Rattle.std.specs.Prelude.{◌≡◌, ◌⊎◌, ◌≤◌, ◌++◌, ℕ, List, Option, []};
 ghost use Rattle.outside.specs.Streams.{Writes};
-ghost use Rattle.outside.specs.Gather.{Gathers};
+ghost use Rattle.outside.specs.Gather.{Gathers, held, room_of};
 
 use super::{Gather, PIECE};
 use crate::{Failed, Output, write_all};
+use std::alloc::Global;
 
 impl Gather {
-    /// Nothing was put.
-    pub fn new() -> Gather
+    /// Nothing was put. Where there is no memory to hold a piece, nothing is gathered: each `put`
+    /// is then a write of its own.
+    pub fn new(alloc: Global) -> Gather
         ensures { (written : Option (List ℕ)) (faults : ℕ)
             → Gathers written faults result written faults [] }
     {
         Gather {
-            piece: [0; PIECE],
-            used: 0,
+            piece: Vec::with_capacity(alloc, PIECE).ok(),
             failed: false,
+        }
+    }
+
+    /// Nothing was put, and nothing is gathered: each `put` is a write of its own. Takes no memory.
+    pub fn without_memory() -> Gather
+        ensures { (written : Option (List ℕ)) (faults : ℕ)
+            → Gathers written faults result written faults [] }
+    {
+        Gather {
+            piece: None,
+            failed: false,
+        }
+    }
+
+    // How many bytes more are held before they are written.
+    fn room(&self) -> usize
+        ensures { result ≡ room_of self.now }
+    {
+        match &self.piece {
+            Some(piece) => piece.capacity() - piece.len(),
+            None => 0,
         }
     }
 
@@ -24,15 +46,17 @@ impl Gather {
         ensures gathers { (start : Option (List ℕ)) (before : ℕ) (text : List ℕ)
             → Gathers start before self.old (O.written out.old) (O.faults out.old) text
             → Gathers start before self.new (O.written out.new) (O.faults out.new) text }
-        ensures used { self.new.used ≡ 0 }
+        ensures none_held { held self.new ≡ [] }
     {
+        let Some(piece) = &mut self.piece else {
+            return;
+        };
         if self.failed {
-            self.used = 0;
+            piece.clear();
             return;
         }
-        let result = write_all(out, &self.piece[..self.used]);
-        self.used = 0;
-        self.failed = result.is_err();
+        self.failed = write_all(out, piece).is_err();
+        piece.clear();
     }
 
     // Writes what is held where there is no room for n bytes after it.
@@ -40,9 +64,9 @@ impl Gather {
         ensures gathers { (start : Option (List ℕ)) (before : ℕ) (text : List ℕ)
             → Gathers start before self.old (O.written out.old) (O.faults out.old) text
             → Gathers start before self.new (O.written out.new) (O.faults out.new) text }
-        ensures room { self.new.used + size ≤ 65536 ⊎ (self.new.used ≡ 0) }
+        ensures room { size ≤ room_of self.new ⊎ (held self.new ≡ []) }
     {
-        if size > PIECE - self.used {
+        if size > self.room() {
             self.flush(out);
         }
     }
@@ -59,14 +83,13 @@ impl Gather {
         if self.failed {
             return;
         }
-        if bytes.len() > PIECE - self.used {
-            let result = write_all(out, bytes);
-            self.failed = result.is_err();
+        if bytes.len() > self.room() {
+            self.failed = write_all(out, bytes).is_err();
             return;
         }
-        let end = self.used + bytes.len();
-        self.piece[self.used..end].copy_from_slice(bytes);
-        self.used = end;
+        if let Some(piece) = &mut self.piece {
+            piece.extend_from_slice(bytes).unwrap();
+        }
     }
 
     /// Writes what is still held. `Failed` where a write failed, now or at an earlier `put`: then a

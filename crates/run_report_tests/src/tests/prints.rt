@@ -62,7 +62,7 @@ pub fn printed(
     fails: &[u64],
 ) -> Result<Vec<u8>, Fail> {
     let mut out = MemOutput::new(alloc, piece.max(1), Vec::from_slice(alloc, fails)?);
-    let mut gather = Gather::new();
+    let mut gather = Gather::new(alloc);
     put_print(&mut gather, &mut out, alloc, print, history)?;
     let end = gather.finish(&mut out);
     let mut told = Vec::from_slice(alloc, out.bytes())?;
