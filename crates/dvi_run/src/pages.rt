@@ -13,7 +13,7 @@ use crate::tally::Tally;
 use outside::Output;
 use page_draw::PageStop;
 use page_workers::PageResult;
-use pbm_output::{WriteFault, write_page};
+use pbm_output::{WriteFault, write_page_gathered};
 use raster_page::Page;
 use std::alloc::{AllocError as NoMemory, Global};
 
@@ -105,7 +105,7 @@ impl Press {
         ensures output { O.faults out.old ≤ O.faults out.new }
     {
         let page = drawn.outcome?;
-        write_page(alloc, out, &page)?;
+        write_page_gathered(alloc, out, &page)?;
         let black = if self.counted { page.count() } else { 0 };
         let _noted = self.written_pages.push(page);
         Ok(black)

@@ -1,5 +1,7 @@
 -- A text that is written in pieces.
-use Rattle.std.specs.Prelude.{◌≡◌, ◌++◌, ℕ, true, List, Option, MatchBool}
+use Rattle.std.specs.Prelude.{◌≡◌, ◌++◌, ◌-◌, ℕ, true, List, [], length, Option, MatchBool}
+use Rattle.std.specs.Option.{option_map_or}
+use Rattle.std.specs.Vec.{vec_capacity}
 use Rattle.std.specs.Io.KnownBytes.{Appends}
 use Rattle.outside.specs.Counts.{HasCause}
 use Rattle.outside.specs.Streams.{AppendsPrefix}
@@ -7,7 +9,11 @@ use Rattle.outside.specs.declared.gather.Gather.{Gather}
 
 -- what is put and not yet written
 abbrev pub held : Gather → List ℕ
-held g = g.piece.items
+held g = option_map_or (λ piece. piece.items) g.piece []
+
+-- how many bytes more are held before they are written
+abbrev pub room_of : Gather → ℕ
+room_of g = option_map_or (λ piece. vec_capacity piece - length piece.items) g.piece 0
 
 -- what is known grew by a prefix of the text; the rest is held
 pub record IsHeld (held : List ℕ) (start now : Option (List ℕ)) (text : List ℕ) : Type 0 where

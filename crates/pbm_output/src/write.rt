@@ -1,6 +1,6 @@
 //! The text of a page, written to an output.
 
-ghost use Rattle.std.specs.Prelude.{◌≡◌, ◌++◌, ℕ, List, Option};
+ghost use Rattle.std.specs.Prelude.{◌≡◌, ◌++◌, ℕ, List, [], Option};
 ghost use Rattle.std.specs.List.{flat_map};
 ghost use Rattle.outside.specs.Streams.{Writes};
 ghost use Rattle.outside.specs.Gather.{Gathers};
@@ -22,14 +22,36 @@ impl From<Failed> for WriteFault {
     }
 }
 
-/// Writes the page as a PBM file in its raw form (P4). Rows are gathered into few writes on memory
-/// that is freed at the end; where there is none, each row is a write of its own.
-pub fn write_page<O: Output>(alloc: Global, out: &mut O, page: &Page) -> Result<(), WriteFault>
+/// Writes the page as a PBM file in its raw form (P4), each row by a write of its own where padding
+/// stands between rows. Takes no memory.
+pub fn write_page<O: Output>(out: &mut O, page: &Page) -> Result<(), WriteFault>
+    ensures { Writes (O.written out.old) (O.written out.new) (O.faults out.old) (O.faults out.new)
+        (page_text page.now) result }
+{
+    write_by(Gather::without_memory(), out, page)
+}
+
+/// Writes the page as `write_page` does, by few large writes: rows are gathered on memory that is
+/// freed at the end. Where there is none, each row is a write of its own.
+pub fn write_page_gathered<O: Output>(
+    alloc: Global,
+    out: &mut O,
+    page: &Page,
+) -> Result<(), WriteFault>
+    ensures { Writes (O.written out.old) (O.written out.new) (O.faults out.old) (O.faults out.new)
+        (page_text page.now) result }
+{
+    write_by(Gather::new(alloc), out, page)
+}
+
+// Writes the page by a gather to which nothing was put.
+fn write_by<O: Output>(mut gather: Gather, out: &mut O, page: &Page) -> Result<(), WriteFault>
+    requires { (written : Option (List ℕ)) (faults : ℕ)
+        → Gathers written faults gather written faults [] }
     ensures { Writes (O.written out.old) (O.written out.new) (O.faults out.old) (O.faults out.new)
         (page_text page.now) result }
 {
     let mut number = itoa::Buffer::new();
-    let mut gather = Gather::new(alloc);
     gather.put(out, b"P4\n");
     gather.put(out, number.format(page.width()).as_bytes());
     gather.put(out, b" ");

@@ -1,7 +1,7 @@
 //! A page's text: whole, in pieces and with a failing output.
 
 use outside::MemOutput;
-use pbm_output::{WriteFault, write_page};
+use pbm_output::{WriteFault, write_page, write_page_gathered};
 use raster_page::Page;
 use std::alloc::{AllocError as NoMemory, Global};
 use std::test::Fail;
@@ -12,15 +12,24 @@ type Drawn = ((u8, u8), (i16, i16, i16, i16));
 // How many bytes are taken at once, and the calls that fail.
 type Taken = (usize, &'static [u64]);
 
-// What is written, and whether the whole page was.
-fn written(alloc: Global, drawn: Drawn, taken: Taken) -> Result<(Vec<u8>, bool), NoMemory> {
+// What is written by one call or the other, and whether the whole page was.
+fn written(
+    alloc: Global,
+    drawn: Drawn,
+    taken: Taken,
+    gathered: bool,
+) -> Result<(Vec<u8>, bool), NoMemory> {
     let ((width, height), (x, y, w, h)) = drawn;
     let (piece, fails) = taken;
     let mut page = Page::blank(alloc, u32::from(width.max(1)), u32::from(height.max(1)))?;
     page.rule(i64::from(x), i64::from(y), i64::from(w), i64::from(h));
     let mut out = MemOutput::new(alloc, piece.max(1), Vec::from_slice(alloc, fails)?);
-    let whole = write_page(alloc, &mut out, &page) != Err(WriteFault);
-    Ok((Vec::from_slice(alloc, out.bytes())?, whole))
+    let end = if gathered {
+        write_page_gathered(alloc, &mut out, &page)
+    } else {
+        write_page(&mut out, &page)
+    };
+    Ok((Vec::from_slice(alloc, out.bytes())?, end != Err(WriteFault)))
 }
 
 // The last two dots of the first row are black.
@@ -46,8 +55,10 @@ static ROWS: [(Drawn, Taken, (&'static [u8], bool)); 6] = [
 #[test]
 fn pages_are_written(rt: HostRuntime) -> Result<(), Fail> {
     for (row, (drawn, taken, want)) in ROWS.iter().enumerate() {
-        let (text, whole) = written(rt.alloc(), *drawn, *taken)?;
+        let (text, whole) = written(rt.alloc(), *drawn, *taken, false)?;
         assert_eq!(rt; (text.as_slice(), whole), *want, "row {row}");
+        let (text, whole) = written(rt.alloc(), *drawn, *taken, true)?;
+        assert_eq!(rt; (text.as_slice(), whole), *want, "row {row}, gathered");
     }
     Ok(())
 }

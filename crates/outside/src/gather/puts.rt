@@ -1,7 +1,7 @@
 //! The calls of a `Gather`.
-ghost use Rattle.std.specs.Prelude.{◌≡◌, ◌⊎◌, ◌≤◌, ◌+◌, ◌++◌, ℕ, List, Option, [], length, vec_capacity};
+ghost use Rattle.std.specs.Prelude.{◌≡◌, ◌⊎◌, ◌≤◌, ◌++◌, ℕ, List, Option, []};
 ghost use Rattle.outside.specs.Streams.{Writes};
-ghost use Rattle.outside.specs.Gather.{Gathers};
+ghost use Rattle.outside.specs.Gather.{Gathers, held, room_of};
 
 use super::{Gather, PIECE};
 use crate::{Failed, Output, write_all};
@@ -14,10 +14,30 @@ impl Gather {
         ensures { (written : Option (List ℕ)) (faults : ℕ)
             → Gathers written faults result written faults [] }
     {
-        let piece = Vec::with_capacity(alloc, PIECE).unwrap_or(Vec::new(alloc));
         Gather {
-            piece,
+            piece: Vec::with_capacity(alloc, PIECE).ok(),
             failed: false,
+        }
+    }
+
+    /// Nothing was put, and nothing is gathered: each `put` is a write of its own. Takes no memory.
+    pub fn without_memory() -> Gather
+        ensures { (written : Option (List ℕ)) (faults : ℕ)
+            → Gathers written faults result written faults [] }
+    {
+        Gather {
+            piece: None,
+            failed: false,
+        }
+    }
+
+    // How many bytes more are held before they are written.
+    fn room(&self) -> usize
+        ensures { result ≡ room_of self.now }
+    {
+        match &self.piece {
+            Some(piece) => piece.capacity() - piece.len(),
+            None => 0,
         }
     }
 
@@ -26,15 +46,17 @@ impl Gather {
         ensures gathers { (start : Option (List ℕ)) (before : ℕ) (text : List ℕ)
             → Gathers start before self.old (O.written out.old) (O.faults out.old) text
             → Gathers start before self.new (O.written out.new) (O.faults out.new) text }
-        ensures none_held { self.new.piece.items ≡ [] }
+        ensures none_held { held self.new ≡ [] }
     {
+        let Some(piece) = &mut self.piece else {
+            return;
+        };
         if self.failed {
-            self.piece.clear();
+            piece.clear();
             return;
         }
-        let result = write_all(out, &self.piece);
-        self.piece.clear();
-        self.failed = result.is_err();
+        self.failed = write_all(out, piece).is_err();
+        piece.clear();
     }
 
     // Writes what is held where there is no room for n bytes after it.
@@ -42,10 +64,9 @@ impl Gather {
         ensures gathers { (start : Option (List ℕ)) (before : ℕ) (text : List ℕ)
             → Gathers start before self.old (O.written out.old) (O.faults out.old) text
             → Gathers start before self.new (O.written out.new) (O.faults out.new) text }
-        ensures room { length self.new.piece.items + size ≤ vec_capacity self.new.piece
-            ⊎ (self.new.piece.items ≡ []) }
+        ensures room { size ≤ room_of self.new ⊎ (held self.new ≡ []) }
     {
-        if size > self.piece.capacity() - self.piece.len() {
+        if size > self.room() {
             self.flush(out);
         }
     }
@@ -62,12 +83,13 @@ impl Gather {
         if self.failed {
             return;
         }
-        if bytes.len() > self.piece.capacity() - self.piece.len() {
-            let result = write_all(out, bytes);
-            self.failed = result.is_err();
+        if bytes.len() > self.room() {
+            self.failed = write_all(out, bytes).is_err();
             return;
         }
-        self.piece.extend_from_slice(bytes).unwrap();
+        if let Some(piece) = &mut self.piece {
+            piece.extend_from_slice(bytes).unwrap();
+        }
     }
 
     /// Writes what is still held. `Failed` where a write failed, now or at an earlier `put`: then a

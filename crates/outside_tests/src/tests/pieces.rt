@@ -17,10 +17,9 @@ type Case = (
     &'static [u8],
 );
 
-fn told(alloc: Global, case: &Case) -> Result<Told, Fail> {
+fn told(alloc: Global, mut gather: Gather, case: &Case) -> Result<Told, Fail> {
     let (room, texts, begin, end) = *case;
     let mut out = SureOutput::new(alloc, room)?;
-    let mut gather = Gather::new(alloc);
     let mut text = Vec::new(alloc);
     let mut held = 0;
     for (at, (part, times)) in texts.iter().enumerate() {
@@ -67,10 +66,25 @@ static ROWS: [(Case, Told); 2] = [
     ),
 ];
 
+// Without memory each put is a write of its own.
+static UNGATHERED: (Case, Told) = (
+    (
+        100,
+        &[(b"abc", 1), (b"def", 1), (b"", 1), (b"gh", 1)],
+        b"abcdef",
+        b"gh",
+    ),
+    (6, 8, true, true, Ok(())),
+);
+
 #[test]
 fn pieces_are_gathered(rt: HostRuntime) -> Result<(), Fail> {
     for (row, (case, expected)) in ROWS.iter().enumerate() {
-        assert_eq!(rt; told(rt.alloc(), case)?, *expected, "row {row}");
+        let gather = Gather::new(rt.alloc());
+        assert_eq!(rt; told(rt.alloc(), gather, case)?, *expected, "row {row}");
     }
+    let (case, expected) = &UNGATHERED;
+    let gather = Gather::without_memory();
+    assert_eq!(rt; told(rt.alloc(), gather, case)?, *expected, "ungathered");
     Ok(())
 }
