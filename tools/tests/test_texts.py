@@ -82,7 +82,7 @@ class Contributing(unittest.TestCase):
         packages = {
             'texlive-latex-base': 'tex latex mktexpk mf kpsewhich', 'netpbm': 'pamsplit pnmtopng pngtopam pnmtops pamtotiff tifftopnm',
             'ghostscript': 'gs', 'cups': 'cupsfilter', 'parallel': 'parallel', 'rsync': 'rsync', 'mandoc': 'mandoc', 'man-db': 'man', 'groff': 'groff',
-            'make': 'make', 'gcc': 'gcc', 'coreutils': 'timeout', 'binutils': 'objdump',
+            'make': 'make', 'gcc': 'gcc cc', 'coreutils': 'timeout', 'binutils': 'objdump',
         }
         asked = set()
         for place in ('tools/check-scripts', *(f'tools/tests/{name}' for name in os.listdir(f'{TOP}/tools/tests') if name.endswith('.py'))):

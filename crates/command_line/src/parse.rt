@@ -59,8 +59,10 @@ pub fn line(alloc: Global, words: &[String], workers: usize) -> Result<Settings,
     }
 }
 
+// `Usage` exactly where the refusal isn't want of memory.
 fn stop_of(error: &Error) -> LineStop
-    ensures { result ≡ LineStop.Usage → kind_of error.now ≢ ErrorKind.OutOfMemory }
+    ensures usage { result ≡ LineStop.Usage → kind_of error.now ≢ ErrorKind.OutOfMemory }
+    ensures no_other { kind_of error.now ≢ ErrorKind.OutOfMemory → result ≡ LineStop.Usage }
 {
     match error.kind() {
         ErrorKind::OutOfMemory => LineStop::NoMemory,

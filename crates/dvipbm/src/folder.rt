@@ -1,6 +1,6 @@
 //! A folder of font files as a source of fonts. Of its files nothing is known, and it hands out no
-//! failure that it hasn't counted.
-ghost use Rattle.std.specs.Prelude.{◌≡◌, ◌<◌, ◌^◌};
+//! failure that it hasn't counted; what a file's reader gives is handed on whole.
+ghost use Rattle.std.specs.Prelude.{◌≡◌, ◌<◌, ◌^◌, IfOk, IfSome};
 
 use outside::{FileName, FontSource, LoadStop};
 use std::alloc::Global;
@@ -12,9 +12,6 @@ use std::{fs, str};
 // One byte more than a font file may have.
 const MAX_FILE_READ: u64 = 8_388_609;
 
-// How many bytes of a font file are read at once.
-const PIECE: usize = 65_536;
-
 /// A folder of font files. A file that isn't there is answered with `None`; every other error of a
 /// file is a failure.
 #[derive(Drop)]
@@ -22,8 +19,6 @@ pub struct FolderFonts<'a, R> {
     rt: &'a R,
     alloc: Global,
     folder: &'a PathBuf,
-    // Room for what one read gives, from the first load on.
-    piece: Vec<u8>,
     faults: u64,
     loads: u64,
     ghost loads_fit: { loads < 2 ^ 64 },
@@ -39,7 +34,6 @@ impl<'a, R: Files> FolderFonts<'a, R> {
             rt,
             alloc,
             folder,
-            piece: Vec::new(alloc),
             faults: 0,
             loads: 0,
         }
@@ -53,33 +47,18 @@ impl<'a, R: Files> FolderFonts<'a, R> {
     }
 
     // The bytes of a file, of a long one more than a font file may have.
-    fn read(&mut self, name: &FileName) -> io::Result<Vec<u8>>
-        ensures faults { self.new.faults ≡ self.old.faults }
-        ensures loads { self.new.loads ≡ self.old.loads }
-    {
+    fn read(&self, name: &FileName) -> io::Result<Vec<u8>> {
         let file = self.open(name)?;
-        read_pieces(self.alloc, file, &mut self.piece)
+        read_all(self.alloc, file)
     }
 }
 
-// All that a reader gives, read into `piece`, which gets its room at the first call.
-fn read_pieces<T: Read + Drop>(
-    alloc: Global,
-    mut file: T,
-    piece: &mut Vec<u8>,
-) -> io::Result<Vec<u8>> {
-    if piece.is_empty() {
-        piece.resize(PIECE, 0)?;
-    }
+// All that a reader gives.
+fn read_all<T: Read + Drop>(alloc: Global, mut file: T) -> io::Result<Vec<u8>>
+    ensures { IfOk result (λ bytes. IfSome (T.remaining file) (λ left. bytes.items ≡ left)) }
+{
     let mut bytes = Vec::new(alloc);
-    for _ in 0..u64::MAX {
-        match file.read(piece) {
-            Ok(0) => break,
-            Ok(count) => bytes.extend_from_slice(&piece[..count])?,
-            Err(error) if error.kind() == ErrorKind::Interrupted => {}
-            Err(error) => return Err(error),
-        }
-    }
+    file.read_to_end(&mut bytes)?;
     Ok(bytes)
 }
 

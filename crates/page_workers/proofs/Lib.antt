@@ -10,3 +10,4 @@ pub mod Shares
 pub mod Rounds
 pub mod Claims
 pub mod WithSparePages
+pub mod EvenShares

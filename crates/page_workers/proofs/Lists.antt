@@ -14,7 +14,7 @@ same_default (x ∷ xs) zero a b lt = refl
 same_default (x ∷ xs) (suc i) a b lt = same_default xs i a b (omega arith)
 
 keeps : {F : Type 0} (a b c : Worker F) → DrewNothingAtCounter a b → DrewNothingAtCounter b c → DrewNothingAtCounter a c
-keeps a b c p q = record { rested = rests a b c p.rested q.rested; counter = q.counter ∙ p.counter }
+keeps a b c p q = record { rested = rests a b c p.rested q.rested; counter = q.counter ∙ p.counter; spare_pages = q.spare_pages ∙ p.spare_pages }
 
 module _ {F : Type 0} (xs ws : List (Worker F)) (i : ℕ) (w v : Worker F) (inside : i < length ws) where
   pub kept_step : length ws ≡ length xs → DrewNothingAtCounter (get_or ws i w) v → ((k : ℕ) (d : Worker F) → k < length xs → DrewNothingAtCounter (get_or xs k d) (get_or ws k d))

@@ -15,6 +15,7 @@ use Rattle.page_workers.specs.declared.worker.Worker.{Worker}
 use Rattle.page_workers.specs.Seats.{BenchFits, room_at}
 use Rattle.page_workers.specs.Rounds.{DrewNothing, Drew, HasBitmap, pages_of}
 use Rattle.page_workers.specs.Claims.{HasRoom, HasSeat, IsClaimOf, ClaimedPage, MayTakePart, DrewNext, TookPart, claims_at}
+use Rattle.page_workers.specs.SparePages.{HasNoMoreSparePages}
 use Rattle.page_workers.proofs.NothingDrawn.{rested_self}
 use Rattle.page_workers.proofs.Drawn.{drew_before_rest, drew_more, bitmaps_all, bitmaps_before, lacks_last, pages_of-more}
 use Rattle.page_workers.proofs.Rising.{rising_few, map-more}
@@ -40,6 +41,7 @@ module _ {F : Type 0} (library : F → Option FileTable) (faults loads : F → �
     pub space : HasRoom left now
     pub look_ups : left * 2 ^ 24 ≤ room_at now.loads now.seat
     pub fits : BenchFits (library now.source) bench now.seat
+    pub spare_pages : HasNoMoreSparePages start now
 
   pub begins : (w : Worker F) → MayTakePart library bench id count w → Midway w w
   begins w may = record {
@@ -55,6 +57,7 @@ module _ {F : Type 0} (library : F → Option FileTable) (faults loads : F → �
     space = may.space;
     look_ups = may.look_ups;
     fits = may.fits;
+    spare_pages = omega arith;
   }
 
   -- ---- after a claim
@@ -87,6 +90,9 @@ module _ {F : Type 0} (library : F → Option FileTable) (faults loads : F → �
     rested : DrewNothing now next
     rested = subst (λ (w : Worker F). DrewNothing now w) (sym claimed.is) (record { source = refl; seat = refl; results = refl; loads = refl; pages = refl })
 
+    same_spare_pages : length next.spare_pages.items ≡ length now.spare_pages.items
+    same_spare_pages = ap (λ (w : Worker F). length w.spare_pages.items) claimed.is
+
     -- the round has no further page
     pub ends_beyond : page ≡ None → TookPart library faults loads bench indexed sheet id first count start next
     ends_beyond none = record {
@@ -101,6 +107,7 @@ module _ {F : Type 0} (library : F → Option FileTable) (faults loads : F → �
       pages = midway.pages;
       stopped = bitmaps_all midway.drawn midway.bitmaps;
       over = inl (claimed.claim, refl, subst (IsClaimOf first count claimed.claim) none claimed.of_round);
+      spare_pages = omega (arith, same_spare_pages, midway.spare_pages);
     }
 
     module _ (i : ℕ) (some : page ≡ Some i) where
@@ -158,6 +165,9 @@ module _ {F : Type 0} (library : F → Option FileTable) (faults loads : F → �
         pub falls : count - length (claims_at after.counter) < count - length claims
         falls = let lt = few in let e = ap (λ (l : List ℕ). length l) are_after in let long = length-append claims (claimed.claim ∷ []) in omega arith
 
+        no_more : HasNoMoreSparePages start after
+        no_more = omega (arith, drew.spare_pages, same_spare_pages, midway.spare_pages)
+
         pub goes_on : has_bitmap ≡ true → Midway start after
         goes_on whole = record {
           drawn = midway.drawn ++ result ∷ [];
@@ -177,6 +187,7 @@ module _ {F : Type 0} (library : F → Option FileTable) (faults loads : F → �
               let same : room_at next.loads next.seat ≡ room_at now.loads now.seat = ap (λ (w : Worker F). room_at w.loads w.seat) claimed.is in
               let falls = drew.drew.room in omega arith;
           fits = drew.drew.fits;
+          spare_pages = no_more;
         }
 
         -- the page has no bitmap
@@ -193,4 +204,5 @@ module _ {F : Type 0} (library : F → Option FileTable) (faults loads : F → �
           pages = pages_after;
           stopped = bitmaps_before midway.drawn result midway.bitmaps;
           over = inr (refl, lacks_last midway.drawn result (sym drew.bitmap ∙ broken));
+          spare_pages = no_more;
         }

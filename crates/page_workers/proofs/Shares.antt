@@ -21,6 +21,7 @@ use Rattle.page_workers.specs.declared.worker.PageResult.{PageResult}
 use Rattle.page_workers.specs.declared.worker.Worker.{Worker}
 use Rattle.page_workers.specs.Rounds.{DrewNothing, Drew, DrewRound, BitmapsToLast, LacksBitmap, pages_of}
 use Rattle.page_workers.specs.Claims.{DrewNothingAtCounter, GotSeat, GaveSeat, TookPart, ClaimsNoMore, claims_at}
+use Rattle.page_workers.specs.SparePages.{HasNoMoreSparePages}
 use Rattle.page_workers.proofs.NothingDrawn.{rests}
 use Rattle.page_workers.proofs.Drawn.{drew_after_rest, drew_before_rest}
 use Rattle.page_workers.proofs.Lists.{same_default}
@@ -58,6 +59,14 @@ module _ {F : Type 0} (library : F → Option FileTable) (faults loads : F → �
         stopped = part.stopped;
         over = part.over;
       }
+
+-- over a whole round a worker gets no spare page
+pub fewer_in_round : {F : Type 0} (id : TableId) (a b c d e : Worker F) (taken : SeatClaims) → DrewNothingAtCounter a b → GotSeat id b c → HasNoMoreSparePages c d → GaveSeat taken d e → HasNoMoreSparePages a e
+fewer_in_round {F} id a b c d e taken kept got fewer gave =
+    let reserved : length b.spare_pages.items ≡ length a.spare_pages.items = ap (λ v. length v.items) kept.spare_pages in
+    let seated : length c.spare_pages.items ≡ length b.spare_pages.items = ap (λ (w : Worker F). length w.spare_pages.items) got.is in
+    let joined : length e.spare_pages.items ≡ length d.spare_pages.items = ap (λ (w : Worker F). length w.spare_pages.items) gave.is in
+    omega (arith, fewer, reserved, seated, joined)
 
 pub some_of : {A : Type 0} (xs : List A) → 1 ≤ length xs → A
 some_of [] some = absurd (omega arith)

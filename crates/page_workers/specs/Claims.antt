@@ -15,6 +15,7 @@ use Rattle.page_workers.specs.declared.bench.Bench.{Bench}
 use Rattle.page_workers.specs.declared.worker.PageResult.{PageResult}
 use Rattle.page_workers.specs.declared.worker.Worker.{Worker}
 use Rattle.page_workers.specs.Seats.{BenchFits, room_at}
+use Rattle.page_workers.specs.SparePages.{HasNoMoreSparePages}
 use Rattle.page_workers.specs.Rounds.{DrewNothing, Drew, DrewPage, BitmapsToLast, LacksBitmap, pages_of}
 use Rattle.vf_expand.specs.Limits.{MAX_FLAT_COMMANDS}
 
@@ -24,6 +25,7 @@ use Rattle.vf_expand.specs.Limits.{MAX_FLAT_COMMANDS}
 pub record DrewNothingAtCounter {F : Type 0} (before after : Worker F) : Type 0 where
   pub rested : DrewNothing before after
   pub counter : after.counter ≡ before.counter
+  pub spare_pages : after.spare_pages ≡ before.spare_pages
 
 -- room for n results and pages more was taken
 pub record HasRoom {F : Type 0} (n : ℕ) (w : Worker F) : Type 0 where
@@ -101,6 +103,7 @@ module _ {F : Type 0} (library : F → Option FileTable) (faults loads : F → �
     pub drew : DrewPage library faults loads bench indexed sheet
         (record { page = page; outcome = outcome }) before after
     pub counter : after.counter ≡ before.counter
+    pub spare_pages : HasNoMoreSparePages before after
     pub space : (n : ℕ) → HasRoom (n + 1) before → HasRoom n after
 
   -- the worker drew the pages that it claimed, as long as each had a bitmap
@@ -117,3 +120,4 @@ module _ {F : Type 0} (library : F → Option FileTable) (faults loads : F → �
     pub pages : pages_of drawn ≡ map (λ claim. first + claim) claimed
     pub stopped : BitmapsToLast drawn
     pub over : ClaimsNoMore count beyond drawn
+    pub spare_pages : HasNoMoreSparePages before after

@@ -1,5 +1,5 @@
 //! A worker's part of a round: the pages that it claims, one after another.
-ghost use Rattle.std.specs.Prelude.{◌≡◌, ◌+◌, ◌^◌, ◌<◌, ◌≤◌, Some, IsErrOf};
+ghost use Rattle.std.specs.Prelude.{◌≡◌, ◌+◌, ◌^◌, ◌<◌, ◌≤◌, Some, IsErrOf, length};
 ghost use Rattle.outside.specs.Counts.{HasCause};
 ghost use Rattle.page_index.specs.Document.{pages_begun};
 ghost use Rattle.font_decode.specs.Decoding.{IsFontOf};
@@ -22,11 +22,12 @@ use std::alloc::Global;
 use std::mem;
 use std::sync::Wait;
 
-// Draws a page on one of the worker's spare pages, or on a new one.
+// Draws a page on one of the spare pages, or on a new one.
 fn draw_on_spare_page<R: Wait, F: FontSource>(
     rt: &R,
     alloc: Global,
     worker: &mut Worker<F>,
+    spare_pages: &mut Vec<Page>,
     job: &Job,
     page: usize,
 ) -> Result<Page, PageStop>
@@ -45,8 +46,9 @@ fn draw_on_spare_page<R: Wait, F: FontSource>(
         (IsErrOf result PageStop.SourceFault) }
     ensures trail { TrailGrew (IsWhole result) (asked_at worker.old.seat)
         (asked_at worker.new.seat) (trail_of F.loads worker.old) (trail_of F.loads worker.new) }
+    ensures fewer { length spare_pages.new.items ≤ length spare_pages.old.items }
 {
-    let blank = blank_page(alloc, &mut worker.spare_pages, job.sheet)?;
+    let blank = blank_page(alloc, spare_pages, job.sheet)?;
     let wanted = IndexedPage {
         index: job.index,
         number: page,
@@ -54,8 +56,9 @@ fn draw_on_spare_page<R: Wait, F: FontSource>(
     draw_on(rt, alloc, worker, job.bench, wanted, job.sheet, blank)
 }
 
-// Draws a page, and answers whether it has a bitmap. The results, the pages and the seat at the
-// round's counter are kept out of the worker in the meantime, since drawing says nothing of them.
+// Draws a page, and answers whether it has a bitmap. The results, the pages, the spare pages and
+// the seat at the round's counter are kept out of the worker in the meantime, since drawing says
+// nothing of them.
 fn draw_page<R: Wait, F: FontSource>(
     rt: &R,
     alloc: Global,
@@ -73,12 +76,14 @@ fn draw_page<R: Wait, F: FontSource>(
     let counter = worker.counter.take();
     let mut results = mem::replace(&mut worker.results, Vec::new(alloc));
     let mut pages = mem::replace(&mut worker.pages, Vec::new(alloc));
-    let outcome = draw_on_spare_page(rt, alloc, worker, job, page);
+    let mut spare_pages = mem::replace(&mut worker.spare_pages, Vec::new(alloc));
+    let outcome = draw_on_spare_page(rt, alloc, worker, &mut spare_pages, job, page);
     let has_bitmap = outcome.is_ok();
     results.push_reserved(PageResult { page, outcome });
     pages.push_reserved(page);
     worker.results = results;
     worker.pages = pages;
+    worker.spare_pages = spare_pages;
     worker.counter = counter;
     has_bitmap
 }

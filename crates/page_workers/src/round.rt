@@ -6,6 +6,7 @@ ghost use Rattle.page_draw.specs.Sheets.{IsDrawable};
 ghost use Rattle.page_workers.specs.Rounds.{DrewRound, MayDraw, DrewNothing};
 ghost use Rattle.page_workers.specs.Seats.{HoldsNoClaim};
 ghost use Rattle.page_workers.specs.Claims.{HasRoom, DrewNothingAtCounter, MayTakePart, TookPart};
+ghost use Rattle.page_workers.specs.SparePages.{HasNoMoreSparePages, spare_page_count};
 ghost use Rattle.page_workers.specs.Limits as limits;
 
 use crate::Bench;
@@ -58,7 +59,8 @@ fn reserve_all<F: FontSource>(workers: &mut [Worker<F>], count: usize) -> Result
 /// order of their pages, and its `pages` grew by these. What stopped a page is in its result: a
 /// fault of the page or of its source, or that memory ran out. `NoMemory` of the call itself comes
 /// before any page is begun, and changes nothing of a worker but the capacity of its lists.
-/// Whatever its pages came to, no worker's seat holds a claim afterwards.
+/// Whatever its pages came to, no worker's seat holds a claim afterwards, and no worker has more
+/// spare pages than before.
 pub fn draw_round<R: Threads + Wait + Sync, F: FontSource + Send>(
     rt: &R,
     alloc: Global,
@@ -86,6 +88,8 @@ pub fn draw_round<R: Threads + Wait + Sync, F: FontSource + Send>(
         → (slice_index_or workers.new k d).counter ≡ None }
     ensures no_claim { (k : ℕ) (d : _) → k < length workers.old
         → HoldsNoClaim (slice_index_or workers.new k d).seat }
+    ensures fewer { (k : ℕ) (d : _) → k < length workers.old
+        → HasNoMoreSparePages (slice_index_or workers.old k d) (slice_index_or workers.new k d) }
 {
     prove!(count <= index.pages() - first);
     reserve_all(workers, count)?;
@@ -118,8 +122,9 @@ pub fn draw_round<R: Threads + Wait + Sync, F: FontSource + Send>(
     Ok(())
 }
 
-/// Draws a round as `draw_round` does, on the memory of `spare_pages`, of which each worker
-/// takes its share. The others are dropped, and none is left.
+/// Draws a round as `draw_round` does, on the memory of `spare_pages`, of which each worker takes
+/// its share. The others are dropped, and none is left. The workers have at most as many spare
+/// pages together as the round has pages, then and afterwards.
 pub fn draw_round_on<R: Threads + Wait + Sync, F: FontSource + Send>(
     rt: &R,
     alloc: Global,
@@ -142,6 +147,7 @@ pub fn draw_round_on<R: Threads + Wait + Sync, F: FontSource + Send>(
     ensures no_claim { (k : ℕ) (d : _) → k < length workers.old
         → HoldsNoClaim (slice_index_or workers.new k d).seat }
     ensures taken { spare_pages.new.items ≡ [] }
+    ensures kept { spare_page_count workers.new ≤ pages.count }
 {
     let PageRange { first, count } = pages;
     share_spare_pages(workers, spare_pages, count);

@@ -11,6 +11,7 @@ pub mod DviRead
 pub mod DviMade
 pub mod DviSize
 pub mod VfItems
+pub mod VfSound
 pub mod Loops
 pub mod VfRead
 pub mod PkForms

@@ -4,13 +4,15 @@ use Rattle.std.specs.Prelude.{All, IsTrue, ◌&&◌, ◌==◌, if◌then◌else�
 use Rattle.std.specs.List.{AllByRecursion, flat_map, list_any}
 use Rattle.std.proofs.lemmas.Bool.{and_parts, and_left, cases_Bool, cond-true, cond-false, eqb-true, not-true, or_parts}
 use Rattle.big_endian.specs.Numbers.{int_eq}
-use Rattle.vf_reader.specs.Items.{IsItem, code_of, definition_of, is_packet, program_of, text_of}
-use Rattle.vf_reader.specs.Locals.{local_of, local_with, locals_of, with_local}
+use Rattle.vf_reader.specs.Items.{IsItem, code_of, is_packet, program_of, text_of}
+use Rattle.vf_reader.specs.Preamble.{preamble_fault}
+use Rattle.vf_reader.specs.Locals.{local_with, locals_of}
 use Rattle.vf_reader.specs.Fonts.{AreSound, IsVfFile, program_with}
 use Rattle.vf_reader.specs.declared.locals.LocalDef.{LocalDef}
 use Rattle.vf_reader.proofs.OneItem.{no_item_begins_another, not_closing}
-use Rattle.sample_maker.specs.VfFile.{GivesFont, IsLocalSpelled, IsLocalWritable, IsPacketWritable, VfPacket, closing_after, have_own_codes, have_own_numbers, local_definition, local_item, packet_item, program_given, vf_file, vf_items, vf_preamble}
+use Rattle.sample_maker.specs.VfFile.{GivesFont, IsFileOf, IsLocalSound, IsPacketSound, IsLocalSpelled, IsLocalWritable, IsPacketWritable, VfPacket, closing_after, have_own_codes, have_own_numbers, local_definition, local_item, packet_item, program_given, vf_file, vf_items, vf_preamble}
 use Rattle.sample_maker.proofs.VfItems.{IsDefinitionOf, IsPacketOf, local_is, packet_is}
+use Rattle.sample_maker.proofs.VfSound.{one_more, preamble_right, sound_local, sound_packet}
 
 -- ---- items from the first to the last
 
@@ -91,10 +93,7 @@ locals_there [] before are none own = sym (append-nil (locals_of before))
 locals_there (d ∷ locals) before are none own =
     let known = locals_of before in
     let parts = and_parts _ _ own in
-    let new : locals_of (local_item d ∷ before) ≡ known ++ d ∷ [] =
-    cond-false (is_packet (local_item d)) known (with_local known (local_of (definition_of (local_item d))) (local_with known (definition_of (local_item d)).number)) are.0.kind
-    ∙ ap (λ x. with_local known (local_of x) (local_with known x.number)) are.0.definition
-    ∙ ap (λ o. with_local known d o) none.0 in
+    let new = one_more d before are.0 none.0 in
     let still = subst (λ k. HaveNone k locals) (sym new) (still_none known d locals none.1 (not-true _ parts.0)) in
     locals_there locals (local_item d ∷ before) are.1 still parts.1 ∙ ap (λ k. k ++ locals) new ∙ append_assoc known (d ∷ []) locals
 
@@ -224,6 +223,43 @@ module _ (locals : List LocalDef) (packets : List VfPacket) (wl : AllByRecursion
         local = ap locals_of split ∙ no_local packets (after [] (map local_item locals)) programs ∙ locals_there locals [] definitions (none_known locals) own;
         program = λ c. ap (λ t. program_with t c) split ∙ programs_there packets (after [] (map local_item locals)) c programs codes (no_program locals [] c definitions);
       }
+
+  -- ---- it is a file
+
+  text_after : (items before : List (List ℕ)) (rest : List ℕ) → text_of (after before items) ++ rest ≡ text_of before ++ chain items rest
+  unfolding chain
+  text_after [] before rest = refl
+  text_after (x ∷ items) before rest = text_after items (x ∷ before) rest ∙ append_assoc (text_of before) x (chain items rest)
+
+  its_definitions_are_sound : (ds : List LocalDef) (before : List (List ℕ)) → AllByRecursion (λ d. IsDefinitionOf (local_definition d) (local_item d)) ds → HaveNone (locals_of before) ds
+      → IsTrue (have_own_numbers ds) → AllByRecursion IsLocalSound ds → AreSound before → AreSound (after before (map local_item ds))
+  its_definitions_are_sound [] before are none own sizes sound = sound
+  its_definitions_are_sound (d ∷ ds) before are none own sizes sound =
+      let known = locals_of before in
+      let parts = and_parts _ _ own in
+      let still = subst (λ k. HaveNone k ds) (sym (one_more d before are.0 none.0)) (still_none known d ds none.1 (not-true _ parts.0)) in
+      its_definitions_are_sound ds (local_item d ∷ before) are.1 still parts.1 sizes.1 (sound, are.0.item, sound_local d before are.0 none.0 sizes.0)
+
+  its_packets_are_sound : (ps : List VfPacket) (before : List (List ℕ)) → AllByRecursion (λ p. IsPacketOf p (packet_item p)) ps → AllByRecursion IsPacketSound ps → AreSound before
+      → AreSound (after before (map packet_item ps))
+  its_packets_are_sound [] before are commands sound = sound
+  its_packets_are_sound (p ∷ ps) before are commands sound = its_packets_are_sound ps (packet_item p ∷ before) are.1 commands.1 (sound, are.0.item, sound_packet p before are.0 commands.0)
+
+  its_preamble : preamble_fault (vf_file locals packets) ≡ None
+  unfolding vf_file vf_items
+  its_preamble = preamble_right (flat_map local_item locals ++ flat_map packet_item packets ++ replicate (closing_after (length (vf_items locals packets))) 248)
+
+  pub is_file : AllByRecursion IsLocalSound locals → AllByRecursion IsPacketSound packets → IsFileOf locals packets (vf_file locals packets)
+  unfolding vf_file vf_items
+  is_file sizes commands =
+      let split : after [] made ≡ after (after [] (map local_item locals)) (map packet_item packets) = ap (λ t. after [] (map local_item locals ++ t)) (append-nil (map packet_item packets)) ∙ after_both (map local_item locals) (map packet_item packets) [] in
+      let is : IsVfFile (vf_file locals packets) (after [] made) = record {
+        begins = its_preamble;
+        sound = subst AreSound (sym split) (its_packets_are_sound packets (after [] (map local_item locals)) programs commands (its_definitions_are_sound locals [] definitions (none_known locals) own sizes tt));
+        unused = replicate (closing (length (vf_items locals packets))) 248;
+        whole = after_preamble ∙ sym (text_after made [] (248 ∷ replicate (closing (length (vf_items locals packets))) 248));
+      } in
+      record { items = after [] made; file = is; gives = gives_font (after [] made) is }
 
 -- ---- the bytes as they are appended
 

@@ -2,10 +2,12 @@
 use Rattle.std.specs.Prelude.{◌≡◌, ℕ, ◌+◌, ◌-◌, ◌%◌, ◌^◌, ◌<◌, ◌≤◌, ℤ, pos, Bool, true, not, ◌&&◌, ◌==◌, List, [], ◌∷◌, ◌++◌, length, nat_le, replicate, if◌then◌else◌, Option, Some, None}
 use Rattle.std.specs.List.{flat_map, list_any}
 use Rattle.big_endian.specs.Numbers.{IsUnsigned, int_eq, number_bytes}
-use Rattle.dvi_commands.specs.Spelling.{Definition, Define, Spells}
+use Rattle.dvi_commands.specs.Spelling.{Definition, Define, DviCommand, Spells}
 use Rattle.dvi_commands.specs.ShortestSpelling.{shortest_spelling}
-use Rattle.vf_reader.specs.Fonts.{program_with}
+use Rattle.fix_word.specs.FixWords.{FIX_WORDS}
+use Rattle.vf_reader.specs.Fonts.{IsVfFile, program_with}
 use Rattle.vf_reader.specs.Locals.{locals_of}
+use Rattle.vf_reader.specs.Programs.{AreCommandsOf}
 use Rattle.vf_reader.specs.declared.locals.LocalDef.{LocalDef}
 
 -- ---- what is given
@@ -24,6 +26,16 @@ pub record IsPacketWritable (p : VfPacket) : Type 0 where
   pub code : p.0 < 256
   pub width : IsUnsigned 3 p.1
   pub commands : length p.2 < 2 ^ 32
+
+-- the factor is above 0 and below 16, as a fix_word, and the design size above 0
+pub record IsLocalSound (d : LocalDef) : Type 0 where
+  pub factor : 0 < d.factor
+  pub below : d.factor < FIX_WORDS
+  pub points : 0 < d.points
+
+-- the bytes are commands of a packet, with nothing wrong
+abbrev pub IsPacketSound : VfPacket → Type 0
+IsPacketSound p = (commands : List DviCommand) × AreCommandsOf p.0 p.2 commands
 
 -- no two local fonts have one number, and no two packets one code
 abbrev pub have_own_numbers : List LocalDef → Bool
@@ -95,3 +107,10 @@ pub record GivesFont (locals : List LocalDef) (packets : List VfPacket)
     (items : List (List ℕ)) : Type 0 where
   pub local : locals_of items ≡ locals
   pub program : (c : ℕ) → program_with items c ≡ program_given packets c
+
+-- the bytes are a VF file, and the items that it has give the local fonts and the packets
+pub record IsFileOf (locals : List LocalDef) (packets : List VfPacket)
+    (bytes : List ℕ) : Type 0 where
+  pub items : List (List ℕ)
+  pub file : IsVfFile bytes items
+  pub gives : GivesFont locals packets items

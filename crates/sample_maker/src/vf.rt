@@ -3,7 +3,7 @@ ghost use Rattle.std.specs.Prelude.{◌≡◌, ℕ, ◌^◌, ◌<◌, ◌≤◌,
 ghost use Rattle.std.specs.List.{AllByRecursion, flat_map};
 ghost use Rattle.big_endian.specs.Numbers.{IsUnsigned, number_bytes};
 ghost use Rattle.vf_reader.specs.Fonts.{IsVfFile};
-ghost use Rattle.sample_maker.specs.VfFile.{GivesFont, IsLocalSpelled, IsLocalWritable, IsPacketWritable, closing_after, have_own_codes, have_own_numbers, local_item, long_packet, packet_item, short_packet, vf_file};
+ghost use Rattle.sample_maker.specs.VfFile.{GivesFont, IsFileOf, IsLocalSound, IsLocalSpelled, IsLocalWritable, IsPacketSound, IsPacketWritable, closing_after, have_own_codes, have_own_numbers, local_item, long_packet, packet_item, short_packet, vf_file};
 
 use dvi_commands::{Command, FontDef, write_command};
 use std::alloc::{AllocError as NoMemory, Global};
@@ -118,6 +118,11 @@ fn append_closing(out: &mut Vec<u8>) -> Result<(), NoMemory>
 /// codes are distinct, factors and points are at most 2^31 - 1, an area lies in its name, whose
 /// rest has at most 255 bytes, and commands have less than 2^32 bytes.
 ///
+/// It is a VF file where also each factor is from 1 to 2^24 - 1, the points are above 0, and the
+/// commands of each packet are sound: commands that may stand there, with each push closed by a pop
+/// and each motion and side of a rule from -2^24 to 2^24 - 1. Read again, it gives the local fonts
+/// and the commands.
+///
 /// `NoMemory` when out of memory. Knuth, VFtoVP, "Virtual fonts".
 pub fn vf_bytes(
     alloc: Global,
@@ -131,6 +136,9 @@ pub fn vf_bytes(
     requires codes { IsTrue (have_own_codes (map (λ p. (p.0, p.1, p.2.items)) packets.now)) }
     ensures bytes { IfOk result (λ bytes. bytes.items
         ≡ vf_file locals.now (map (λ p. (p.0, p.1, p.2.items)) packets.now)) }
+    ensures file { IfOk result (λ bytes. AllByRecursion IsLocalSound locals.now
+        → AllByRecursion IsPacketSound (map (λ p. (p.0, p.1, p.2.items)) packets.now)
+        → IsFileOf locals.now (map (λ p. (p.0, p.1, p.2.items)) packets.now) bytes.items) }
     ensures read_again { IfOk result (λ bytes. (items : List (List ℕ)) → IsVfFile bytes.items items
         → GivesFont locals.now (map (λ p. (p.0, p.1, p.2.items)) packets.now) items) }
 {

@@ -87,4 +87,4 @@ returns-in-Err-clause-usage c usage =
     let is_usage : c.stop_of.result ≡ Usage = cc in
     refused_arguments arguments c.args.workers ok
     (some_fault _ arguments (kind_of c.in-Err.error) c.in_ok-command.ensures c.in-Err.ensures.kinds
-    (c.stop_of.ensures is_usage))
+    (c.stop_of.ensures.usage is_usage))

@@ -1,5 +1,6 @@
-use Rattle.std.proofs.Common.{◌≡◌, ℕ, ◌<◌, length, get_or, subst, sym, rules}
+use Rattle.std.proofs.Common.{◌≡◌, ℕ, ◌<◌, length, get_or, subst, sym, rules, arith}
 use Rattle.page_workers.proofs.WithSparePages.{drew_round, may_draw, on_err_so, on_ok_so, rested}
+use Rattle.page_workers.proofs.EvenShares.{sum_falls}
 use Rattle.page_workers.proofs.NothingDrawn.{rests}
 use Rattle.page_workers.proofs.round.draw_round_on.Goals as goal
 
@@ -44,3 +45,11 @@ returns-clause-no_claim g c =
     let ys = c.share_spare_pages.new.workers in
     let long : length ys ≡ length xs = search rules in
     λ k d lt. c.draw_round.ensures.no_claim k d (subst (λ (n : ℕ). k < n) (sym long) lt)
+
+pub returns-clause-kept : goal.returns-clause-kept
+returns-clause-kept g c =
+    let ys = c.share_spare_pages.new.workers in
+    let zs = c.draw_round.new.workers in
+    let long : length zs ≡ length ys = search rules in
+    let falls = sum_falls (λ w. length w.spare_pages.items) ys zs long c.draw_round.ensures.fewer in
+    omega (arith, falls, c.share_spare_pages.ensures.together)

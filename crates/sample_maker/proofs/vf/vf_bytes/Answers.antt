@@ -1,7 +1,7 @@
-use Rattle.std.proofs.Common.{ℕ, ℤ, List, Vec, Global, map, subst}
+use Rattle.std.proofs.Common.{ℕ, ℤ, List, Vec, Global, map, subst, sym}
 use Rattle.vf_reader.specs.Fonts.{IsVfFile}
-use Rattle.sample_maker.specs.VfFile.{VfPacket}
-use Rattle.sample_maker.proofs.VfRead.{file_made, gives_font}
+use Rattle.sample_maker.specs.VfFile.{IsFileOf, VfPacket}
+use Rattle.sample_maker.proofs.VfRead.{file_made, gives_font, is_file}
 use Rattle.sample_maker.proofs.vf.vf_bytes.Goals as goal
 
 seen : List (ℕ × ℤ × Vec ℕ Global) → List VfPacket
@@ -17,3 +17,9 @@ unfolding seen
 returns-clause-read_again c = λ items is.
     gives_font c.args.locals.now (seen c.args.packets.now) c.requires.locals c.in_ok-append_locals.ensures.spelled c.requires.numbers c.requires.packets c.requires.codes items
     (subst (λ (bytes : List ℕ). IsVfFile bytes items) (returns-clause-bytes c) is)
+
+pub returns-clause-file : goal.returns-clause-file
+unfolding seen
+returns-clause-file c = λ sizes commands.
+    subst (λ (bytes : List ℕ). IsFileOf c.args.locals.now (seen c.args.packets.now) bytes) (sym (returns-clause-bytes c))
+    (is_file c.args.locals.now (seen c.args.packets.now) c.requires.locals c.in_ok-append_locals.ensures.spelled c.requires.numbers c.requires.packets c.requires.codes sizes commands)
