@@ -13,6 +13,7 @@ pub mod DviSize
 pub mod VfItems
 pub mod Loops
 pub mod VfRead
+pub mod PackedRasters
 pub mod PkForms
 pub mod PkAppended
 pub mod PkRead
@@ -22,3 +23,4 @@ pub mod DviRight
 pub mod DviSound
 pub mod SampleMade
 pub mod SampleFonts
+pub mod PackedSample
