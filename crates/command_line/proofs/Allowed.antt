@@ -1,7 +1,8 @@
 -- Settings that arguments give are within their limits.
 use Rattle.std.proofs.Common.{◌≡◌, ◌≤◌, ◌*◌, ◌/◌, ℕ, Bool, cond, true, List, Option, Some}
 use Rattle.std.proofs.Common.{None, codes, false, refl, subst, arith, leb-true}
-use Rattle.std.specs.Prelude.{IfOk, IfSome, Result, Ok, Err, min, option_and_then, unwrap_or}
+use Rattle.std.specs.Prelude.{IfOk, IfSome, IsSome, IsTrue, Result, Ok, Err, min}
+use Rattle.std.specs.Prelude.{option_and_then, unwrap_or}
 use Rattle.std.specs.List.{list_all}
 use Rattle.std.proofs.lemmas.Bool.{and_parts}
 use Rattle.pixel_round.specs.Limits.{MAX_RESOLUTION}
@@ -9,7 +10,8 @@ use Rattle.raster_page.specs.Limits.{MAX_PAGE_SIDE}
 use Rattle.command_line.specs.declared.settings.Settings.{Settings}
 use Rattle.command_line.specs.declared.parse.LineStop.{LineStop}
 use Rattle.command_line.specs.Settings.{AreSettings}
-use Rattle.command_line.specs.Line.{Text, Use, choices, is_in_range, is_within, number_of}
+use Rattle.command_line.specs.Line.{Text, Use, choices, has_sample, is_in_range, is_used}
+use Rattle.command_line.specs.Line.{is_within, number_of}
 use Rattle.command_line.specs.Line.{number_or, settings_among, settings_from, settings_of, uses_of}
 
 -- a number that is given lies in its range, as its default does
@@ -62,8 +64,16 @@ in_range us h =
       sample = sample.0;
     }
 
-are_settings : (us : List Use) → AreInRange us → AreSettings (settings_from us)
-are_settings us r =
+-- packed fonts come with a sample
+with_sample : (packed : Bool) (sample : Option ℕ) → has_sample packed sample ≡ true
+    → IsTrue packed → IsSome sample
+with_sample true sample h is = h
+with_sample false sample h is = cc
+
+are_settings : (us : List Use) → AreInRange us
+    → has_sample (is_used (codes "packed") us) (number_of (codes "sample") us) ≡ true
+    → AreSettings (settings_from us)
+are_settings us r sampled =
     let dots = number_or 300 (codes "res") us in
     let width = min MAX_PAGE_SIDE (17 * dots / 2) in
     let height = min MAX_PAGE_SIDE (11 * dots) in
@@ -86,6 +96,7 @@ are_settings us r =
       workers = within_or 1 32 1 (codes "workers") us r.workers (omega arith) (omega arith);
       cache = within_or 1 256 16 (codes "cache") us r.cache (omega arith) (omega arith);
       sample = within_if 1 1000 (number_of (codes "sample") us) r.sample;
+      packed = with_sample (is_used (codes "packed") us) (number_of (codes "sample") us) sampled;
     }
 
 abbrev pub IsAllowed : ℕ → Settings → Type 0
@@ -99,10 +110,11 @@ among : (workers : ℕ) (us : List Use) (s : Settings) → settings_among worker
     → IsAllowed workers s
 among workers us s e =
     let is = chosen _ (settings_from us) s e in
-    let tests = and_parts _ _ is.0 in
+    let all = and_parts _ _ is.0 in
+    let tests = and_parts _ _ all.0 in
     let options = and_parts _ _ tests.0 in
     subst (IsAllowed workers) is.1
-    (are_settings us (in_range us options.1), leb-true _ workers tests.1)
+    (are_settings us (in_range us options.1) all.1, leb-true _ workers tests.1)
 
 pub allowed : (workers : ℕ) (arguments : List Text) (s : Settings)
     → settings_of workers arguments ≡ Some s → IsAllowed workers s

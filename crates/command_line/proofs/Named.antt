@@ -2,7 +2,7 @@
 use Rattle.std.proofs.Common.{◌≡◌, ◌∙◌, ◌≤◌, ◌<◌, ◌^◌, ◌&&◌, ℕ, Bool, cond, true, false, List}
 use Rattle.std.proofs.Common.{[], ◌∷◌, ◌++◌, length, Option, Some, None, codes, decimal, refl, ap}
 use Rattle.std.proofs.Common.{arith, le-leb}
-use Rattle.std.specs.Prelude.{IfSome, nat_le, option_and_then}
+use Rattle.std.specs.Prelude.{IfSome, IsSome, IsTrue, nat_le, option_and_then}
 use Rattle.std.specs.List.{list_all}
 use Rattle.std.specs.Str.Parse.{digits_value}
 use Rattle.std.proofs.lemmas.Bool.{and_from}
@@ -12,7 +12,8 @@ use Rattle.pixel_round.specs.Limits.{MAX_RESOLUTION}
 use Rattle.raster_page.specs.Limits.{MAX_PAGE_SIDE}
 use Rattle.command_line.specs.declared.settings.Settings.{Settings}
 use Rattle.command_line.specs.Settings.{AreSettings}
-use Rattle.command_line.specs.Line.{Choice, Text, Use, are_distinct, choices, is_in_range, is_used}
+use Rattle.command_line.specs.Line.{Choice, Text, Use, are_distinct, choices, has_sample}
+use Rattle.command_line.specs.Line.{is_in_range, is_used}
 use Rattle.command_line.specs.Line.{is_value, is_within, number_in, number_of, settings_among}
 use Rattle.command_line.specs.Line.{settings_from, settings_of, switch, uses_from, uses_of}
 use Rattle.command_line.specs.Laws.{naming_all, naming_if, naming_some}
@@ -43,9 +44,10 @@ abbrev switch_uses : Text → Bool → List Use
 switch_uses name true = record { choice = switch name; value = [] } ∷ []
 switch_uses name false = []
 
-abbrev more_uses : Option ℕ → Bool → Bool → List Use
-more_uses sample trace summary = sample_uses sample
-    ++ (switch_uses (codes "trace") trace ++ switch_uses (codes "summary") summary)
+abbrev more_uses : Option ℕ → (packed trace summary : Bool) → List Use
+more_uses sample packed trace summary = sample_uses sample
+    ++ (switch_uses (codes "packed") packed
+    ++ (switch_uses (codes "trace") trace ++ switch_uses (codes "summary") summary))
 
 abbrev uses_for : Settings → List Use
 uses_for s = use_of (number_in (codes "res") 1 MAX_RESOLUTION) s.res
@@ -55,26 +57,32 @@ uses_for s = use_of (number_in (codes "res") 1 MAX_RESOLUTION) s.res
     ∷ use_of (number_in (codes "top") 0 MAX_PAGE_SIDE) s.sheet.top
     ∷ use_of (number_in (codes "workers") 1 32) s.workers
     ∷ use_of (number_in (codes "cache") 1 256) s.cache
-    ∷ more_uses s.sample s.trace s.summary
+    ∷ more_uses s.sample s.packed s.trace s.summary
 
-switches : (trace summary : Bool)
-    → uses_from choices None
-    (naming_if (codes "trace") trace ++ naming_if (codes "summary") summary)
-    ≡ Some (switch_uses (codes "trace") trace ++ switch_uses (codes "summary") summary)
-switches true true = refl
-switches true false = refl
-switches false true = refl
-switches false false = refl
+switches : (packed trace summary : Bool)
+    → uses_from choices None (naming_if (codes "packed") packed
+    ++ (naming_if (codes "trace") trace ++ naming_if (codes "summary") summary))
+    ≡ Some (switch_uses (codes "packed") packed
+    ++ (switch_uses (codes "trace") trace ++ switch_uses (codes "summary") summary))
+switches true true true = refl
+switches true true false = refl
+switches true false true = refl
+switches true false false = refl
+switches false true true = refl
+switches false true false = refl
+switches false false true = refl
+switches false false false = refl
 
-more_spelled : (sample : Option ℕ) (trace summary : Bool)
+more_spelled : (sample : Option ℕ) (packed trace summary : Bool)
     → IfSome sample (λ n. (1 ≤ n) × (n ≤ 1000))
     → uses_from choices None (naming_some (codes "sample") sample
-    ++ (naming_if (codes "trace") trace ++ naming_if (codes "summary") summary))
-    ≡ Some (more_uses sample trace summary)
-more_spelled None trace summary h = switches trace summary
-more_spelled (Some n) trace summary h =
+    ++ (naming_if (codes "packed") packed
+    ++ (naming_if (codes "trace") trace ++ naming_if (codes "summary") summary)))
+    ≡ Some (more_uses sample packed trace summary)
+more_spelled None packed trace summary h = switches packed trace summary
+more_spelled (Some n) packed trace summary h =
     let small : n < 10 ^ 7 = omega (arith, h.1) in
-    rw (is_value-decimal n small, switches trace summary) refl
+    rw (is_value-decimal n small, switches packed trace summary) refl
 
 spelled : (s : Settings) → AreSettings s → uses_of (naming_all s) ≡ Some (uses_for s)
 spelled s h =
@@ -85,54 +93,103 @@ spelled s h =
     let top = is_value-decimal s.sheet.top (omega (arith, h.sheet.top)) in
     let workers = is_value-decimal s.workers (omega (arith, h.workers.1)) in
     let cache = is_value-decimal s.cache (omega (arith, h.cache.1)) in
-    let more = more_spelled s.sample s.trace s.summary h.sample in
+    let more = more_spelled s.sample s.packed s.trace s.summary h.sample in
     rw (res, width, height, left, top, workers, cache, more) refl
 
 -- ---- what these uses set
 
 distinct : (s : Settings) → are_distinct (uses_for s) ≡ true
-distinct s = go s.sample s.trace s.summary
+distinct s = go s.sample s.packed s.trace s.summary
   where
-    go : (sample : Option ℕ) (trace summary : Bool)
-        → are_distinct (uses_for (record s { sample = sample; trace = trace; summary = summary }))
+    go : (sample : Option ℕ) (packed trace summary : Bool)
+        → are_distinct (uses_for (record s { sample = sample; packed = packed; trace = trace; summary = summary }))
         ≡ true
-    go None true true = refl
-    go None true false = refl
-    go None false true = refl
-    go None false false = refl
-    go (Some n) true true = refl
-    go (Some n) true false = refl
-    go (Some n) false true = refl
-    go (Some n) false false = refl
+    go None true true true = refl
+    go None true true false = refl
+    go None true false true = refl
+    go None true false false = refl
+    go None false true true = refl
+    go None false true false = refl
+    go None false false true = refl
+    go None false false false = refl
+    go (Some n) true true true = refl
+    go (Some n) true true false = refl
+    go (Some n) true false true = refl
+    go (Some n) true false false = refl
+    go (Some n) false true true = refl
+    go (Some n) false true false = refl
+    go (Some n) false false true = refl
+    go (Some n) false false false = refl
 
-sample_is : (sample : Option ℕ) (trace summary : Bool)
+sample_is : (sample : Option ℕ) (packed trace summary : Bool)
     → IfSome sample (λ n. (1 ≤ n) × (n ≤ 1000))
-    → number_of (codes "sample") (more_uses sample trace summary) ≡ sample
-sample_is None true true h = refl
-sample_is None true false h = refl
-sample_is None false true h = refl
-sample_is None false false h = refl
-sample_is (Some n) trace summary h = ap Some (told n (omega arith))
+    → number_of (codes "sample") (more_uses sample packed trace summary) ≡ sample
+sample_is None true true true h = refl
+sample_is None true true false h = refl
+sample_is None true false true h = refl
+sample_is None true false false h = refl
+sample_is None false true true h = refl
+sample_is None false true false h = refl
+sample_is None false false true h = refl
+sample_is None false false false h = refl
+sample_is (Some n) packed trace summary h = ap Some (told n (omega arith))
 
-trace_is : (sample : Option ℕ) (trace summary : Bool)
-    → is_used (codes "trace") (more_uses sample trace summary) ≡ trace
-trace_is None true summary = refl
-trace_is None false true = refl
-trace_is None false false = refl
-trace_is (Some n) true summary = refl
-trace_is (Some n) false true = refl
-trace_is (Some n) false false = refl
+packed_is : (sample : Option ℕ) (packed trace summary : Bool)
+    → is_used (codes "packed") (more_uses sample packed trace summary) ≡ packed
+packed_is None true true true = refl
+packed_is None true true false = refl
+packed_is None true false true = refl
+packed_is None true false false = refl
+packed_is None false true true = refl
+packed_is None false true false = refl
+packed_is None false false true = refl
+packed_is None false false false = refl
+packed_is (Some n) true true true = refl
+packed_is (Some n) true true false = refl
+packed_is (Some n) true false true = refl
+packed_is (Some n) true false false = refl
+packed_is (Some n) false true true = refl
+packed_is (Some n) false true false = refl
+packed_is (Some n) false false true = refl
+packed_is (Some n) false false false = refl
 
-summary_is : (sample : Option ℕ) (trace summary : Bool)
-    → is_used (codes "summary") (more_uses sample trace summary) ≡ summary
-summary_is None true true = refl
-summary_is None true false = refl
-summary_is None false true = refl
-summary_is None false false = refl
-summary_is (Some n) true true = refl
-summary_is (Some n) true false = refl
-summary_is (Some n) false true = refl
-summary_is (Some n) false false = refl
+trace_is : (sample : Option ℕ) (packed trace summary : Bool)
+    → is_used (codes "trace") (more_uses sample packed trace summary) ≡ trace
+trace_is None true true true = refl
+trace_is None true true false = refl
+trace_is None true false true = refl
+trace_is None true false false = refl
+trace_is None false true true = refl
+trace_is None false true false = refl
+trace_is None false false true = refl
+trace_is None false false false = refl
+trace_is (Some n) true true true = refl
+trace_is (Some n) true true false = refl
+trace_is (Some n) true false true = refl
+trace_is (Some n) true false false = refl
+trace_is (Some n) false true true = refl
+trace_is (Some n) false true false = refl
+trace_is (Some n) false false true = refl
+trace_is (Some n) false false false = refl
+
+summary_is : (sample : Option ℕ) (packed trace summary : Bool)
+    → is_used (codes "summary") (more_uses sample packed trace summary) ≡ summary
+summary_is None true true true = refl
+summary_is None true true false = refl
+summary_is None true false true = refl
+summary_is None true false false = refl
+summary_is None false true true = refl
+summary_is None false true false = refl
+summary_is None false false true = refl
+summary_is None false false false = refl
+summary_is (Some n) true true true = refl
+summary_is (Some n) true true false = refl
+summary_is (Some n) true false true = refl
+summary_is (Some n) true false false = refl
+summary_is (Some n) false true true = refl
+summary_is (Some n) false true false = refl
+summary_is (Some n) false false true = refl
+summary_is (Some n) false false false = refl
 
 -- the numbers are those of the settings
 record AreTold (s : Settings) : Type 0 where
@@ -143,7 +200,7 @@ record AreTold (s : Settings) : Type 0 where
   top : digits_value 10 (decimal s.sheet.top) ≡ s.sheet.top
   workers : digits_value 10 (decimal s.workers) ≡ s.workers
   cache : digits_value 10 (decimal s.cache) ≡ s.cache
-  sample : number_of (codes "sample") (more_uses s.sample s.trace s.summary) ≡ s.sample
+  sample : number_of (codes "sample") (more_uses s.sample s.packed s.trace s.summary) ≡ s.sample
 
 all_told : (s : Settings) → AreSettings s → AreTold s
 all_told s h = record {
@@ -154,7 +211,7 @@ all_told s h = record {
   top = told s.sheet.top (omega (arith, h.sheet.top));
   workers = told s.workers (omega (arith, h.workers.1));
   cache = told s.cache (omega (arith, h.cache.1));
-  sample = sample_is s.sample s.trace s.summary h.sample;
+  sample = sample_is s.sample s.packed s.trace s.summary h.sample;
 }
 
 bounds : (least most n given : ℕ) → given ≡ n → least ≤ n → n ≤ most
@@ -181,17 +238,31 @@ ranges s h t =
 
 same : (s : Settings) → AreTold s → settings_from (uses_for s) ≡ s
 same s t =
-    let trace = trace_is s.sample s.trace s.summary in
-    let summary = summary_is s.sample s.trace s.summary in
+    let packed = packed_is s.sample s.packed s.trace s.summary in
+    let trace = trace_is s.sample s.packed s.trace s.summary in
+    let summary = summary_is s.sample s.packed s.trace s.summary in
     λ i. record {
       res = t.res i;
       sheet = record { width = t.width i; height = t.height i; left = t.left i; top = t.top i };
       workers = t.workers i;
       cache = t.cache i;
       sample = t.sample i;
+      packed = packed i;
       trace = trace i;
       summary = summary i;
     }
+
+with_sample : (packed : Bool) (sample : Option ℕ) → (IsTrue packed → IsSome sample)
+    → has_sample packed sample ≡ true
+with_sample true sample h = h refl
+with_sample false sample h = refl
+
+sampled : (s : Settings) → AreSettings s → AreTold s
+    → has_sample (is_used (codes "packed") (uses_for s)) (number_of (codes "sample") (uses_for s))
+    ≡ true
+sampled s h t =
+    rw (packed_is s.sample s.packed s.trace s.summary, t.sample)
+    (with_sample s.packed s.sample h.packed)
 
 chosen : (b : Bool) (x s : Settings) → b ≡ true → x ≡ s → cond b (Some x) None ≡ Some s
 chosen b x s is e = rw is (ap Some e)
@@ -204,4 +275,6 @@ named workers s h enough =
     let enough_given : nat_le (digits_value 10 (decimal s.workers)) workers ≡ true =
     rw t.workers (le-leb s.workers workers enough) in
     ap (option_and_then (settings_among workers)) (spelled s h)
-    ∙ chosen _ _ s (and_from _ _ (and_from _ _ (distinct s) (ranges s h t)) enough_given) (same s t)
+    ∙ chosen _ _ s
+    (and_from _ _ (and_from _ _ (and_from _ _ (distinct s) (ranges s h t)) enough_given)
+    (sampled s h t)) (same s t)

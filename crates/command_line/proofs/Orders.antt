@@ -10,7 +10,7 @@ use Rattle.std.proofs.lemmas.Bool.{and_parts, true≢false}
 use Rattle.std.proofs.lemmas.Slice.Eq.{bytes_eq-Decides}
 use Rattle.raster_page.specs.Limits.{MAX_PAGE_SIDE}
 use Rattle.command_line.specs.declared.settings.Settings.{Settings}
-use Rattle.command_line.specs.Line.{Choice, Part, Text, Use, are_distinct, choices, is_named}
+use Rattle.command_line.specs.Line.{has_sample, Choice, Part, Text, Use, are_distinct, choices, is_named}
 use Rattle.command_line.specs.Line.{is_used}
 use Rattle.command_line.specs.Line.{is_within, number_of, opens, part_of_argument, settings_among}
 use Rattle.command_line.specs.Line.{settings_of}
@@ -136,7 +136,8 @@ chosen_by workers distinct numbers used =
     cond (distinct
     && list_all (λ (c : Choice).
     option_map_or (λ r. is_within r.0 r.1 (numbers c.name)) c.range true) choices
-    && nat_le (unwrap_or (numbers (codes "workers")) 1) workers)
+    && nat_le (unwrap_or (numbers (codes "workers")) 1) workers
+    && has_sample (used (codes "packed")) (numbers (codes "sample")))
     (Some (record {
       res = res;
       sheet = record {
@@ -148,6 +149,7 @@ chosen_by workers distinct numbers used =
       workers = unwrap_or (numbers (codes "workers")) 1;
       cache = unwrap_or (numbers (codes "cache")) 16;
       sample = numbers (codes "sample");
+      packed = used (codes "packed");
       trace = used (codes "trace");
       summary = used (codes "summary");
     })) None

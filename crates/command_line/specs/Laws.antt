@@ -57,7 +57,8 @@ naming_all s = naming (codes "res") s.res
     ∷ naming (codes "workers") s.workers
     ∷ naming (codes "cache") s.cache
     ∷ naming_some (codes "sample") s.sample
-    ++ (naming_if (codes "trace") s.trace ++ naming_if (codes "summary") s.summary)
+    ++ (naming_if (codes "packed") s.packed
+    ++ (naming_if (codes "trace") s.trace ++ naming_if (codes "summary") s.summary))
 
 -- all settings within their limits can be given
 abbrev pub AllSettingsCanBeGiven : Type 0

@@ -1,5 +1,5 @@
 -- The settings that a list of arguments gives.
-use Rattle.std.specs.Prelude.{◌*◌, ◌/◌, ◌==◌, ◌&&◌, ℕ, Bool, true, not, min, nat_le}
+use Rattle.std.specs.Prelude.{◌*◌, ◌/◌, ◌==◌, ◌&&◌, ◌||◌, ℕ, Bool, true, not, min, nat_le}
 use Rattle.std.specs.Prelude.{List, [], ◌∷◌, length, find, codes, bytes_eq, if◌then◌else◌}
 use Rattle.std.specs.Prelude.{Option, Some, None, is_some, is_none, option_map, option_and_then}
 use Rattle.std.specs.Prelude.{unwrap_or}
@@ -39,6 +39,7 @@ choices = number_in (codes "res") 1 MAX_RESOLUTION
     ∷ number_in (codes "workers") 1 MAX_WORKERS
     ∷ number_in (codes "cache") 1 MAX_CACHED_FONTS
     ∷ number_in (codes "sample") 1 1000
+    ∷ switch (codes "packed")
     ∷ switch (codes "trace")
     ∷ switch (codes "summary")
     ∷ []
@@ -172,15 +173,22 @@ settings_from us = let res = number_or 300 (codes "res") us in record {
   workers = number_or 1 (codes "workers") us;
   cache = number_or 16 (codes "cache") us;
   sample = number_of (codes "sample") us;
+  packed = is_used (codes "packed") us;
   trace = is_used (codes "trace") us;
   summary = is_used (codes "summary") us;
 }
 
--- the settings of the uses, where no option is used twice, each number lies in its range, and there
--- are as many workers as are asked for
+-- packed fonts are those of a sample
+abbrev pub has_sample : (packed : Bool) → (sample : Option ℕ) → Bool
+has_sample packed sample = not packed || is_some sample
+
+-- the settings of the uses, where no option is used twice, each number lies in its range, there are
+-- as many workers as are asked for, and packed fonts are asked for with a sample alone
 abbrev pub settings_among : ℕ → List Use → Option Settings
 settings_among workers us = if are_distinct us && list_all (is_in_range us) choices
-    && nat_le (number_or 1 (codes "workers") us) workers then Some (settings_from us) else None
+    && nat_le (number_or 1 (codes "workers") us) workers
+    && has_sample (is_used (codes "packed") us) (number_of (codes "sample") us)
+    then Some (settings_from us) else None
 
 -- the settings that the arguments give with n workers at hand, or none
 unfoldable pub settings_of : ℕ → List Text → Option Settings

@@ -6,7 +6,7 @@ use Rattle.clap.specs.declared.parser.matches.Found.{Found}
 use Rattle.pixel_round.specs.Limits.{MAX_RESOLUTION}
 use Rattle.raster_page.specs.Limits.{MAX_PAGE_SIDE}
 use Rattle.command_line.specs.Line.{Text, Use, choice_of, choices, is_named, is_used, is_value}
-use Rattle.command_line.specs.Line.{is_within, number_in, number_of, switch}
+use Rattle.command_line.specs.Line.{has_sample, is_within, number_in, number_of, switch}
 use Rattle.command_line.specs.declared.settings.Settings.{Settings}
 use Rattle.command_line.specs.declared.matches.LineValues.{LineValues}
 use Rattle.command_line.specs.Limits.{MAX_WORKERS}
@@ -33,18 +33,20 @@ given_of us = record {
   workers = number_of (codes "workers") us;
   cache = number_of (codes "cache") us;
   sample = number_of (codes "sample") us;
+  packed = is_used (codes "packed") us;
   trace = is_used (codes "trace") us;
   summary = is_used (codes "summary") us;
 }
 
--- each number lies in its range, and there are as many workers as are asked for
+-- each number lies in its range, there are as many workers as are asked for, and packed fonts are
+-- asked for with a sample alone
 abbrev pub is_allowed : ℕ → LineValues → Bool
 is_allowed workers g = is_within 1 MAX_RESOLUTION g.res
     && (is_within 1 MAX_PAGE_SIDE g.width && (is_within 1 MAX_PAGE_SIDE g.height
     && (is_within 0 MAX_PAGE_SIDE g.left && (is_within 0 MAX_PAGE_SIDE g.top
     && (is_within 1 MAX_WORKERS g.workers && (is_within 1 MAX_CACHED_FONTS g.cache
     && (is_within 1 1000 g.sample && true)))))))
-    && nat_le (unwrap_or g.workers 1) workers
+    && nat_le (unwrap_or g.workers 1) workers && has_sample g.packed g.sample
 
 abbrev pub settings_with : LineValues → Settings
 settings_with g = let res = unwrap_or g.res 300 in record {
@@ -58,6 +60,7 @@ settings_with g = let res = unwrap_or g.res 300 in record {
   workers = unwrap_or g.workers 1;
   cache = unwrap_or g.cache 16;
   sample = g.sample;
+  packed = g.packed;
   trace = g.trace;
   summary = g.summary;
 }

@@ -1,5 +1,5 @@
 -- What a run is given besides its input and its fonts.
-use Rattle.std.specs.Prelude.{◌≤◌, false, None, IfSome}
+use Rattle.std.specs.Prelude.{◌≤◌, false, None, IfSome, IsSome, IsTrue}
 use Rattle.pixel_round.specs.Limits.{MAX_RESOLUTION}
 use Rattle.page_draw.specs.Sheets.{IsDrawable}
 use Rattle.page_draw.specs.declared.sheet.Sheet.{Sheet}
@@ -20,6 +20,7 @@ default_settings = record {
   workers = 1;
   cache = 16;
   sample = None;
+  packed = false;
   trace = false;
   summary = false;
 }
@@ -31,3 +32,5 @@ pub record AreSettings (settings : Settings) : Type 0 where
   pub workers : (1 ≤ settings.workers) × (settings.workers ≤ MAX_WORKERS)
   pub cache : (1 ≤ settings.cache) × (settings.cache ≤ MAX_CACHED_FONTS)
   pub sample : IfSome settings.sample (λ pages. (1 ≤ pages) × (pages ≤ 1000))
+  -- packed fonts are those of a sample
+  pub packed : IsTrue settings.packed → IsSome settings.sample

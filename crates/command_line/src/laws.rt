@@ -28,6 +28,7 @@ pub fn worked_lines()
       workers = 1;
       cache = 16;
       sample = None;
+      packed = false;
       trace = false;
       summary = false;
     }) }
@@ -40,6 +41,7 @@ pub fn worked_lines()
       workers = 1;
       cache = 16;
       sample = None;
+      packed = false;
       trace = false;
       summary = false;
     }) }
@@ -49,6 +51,7 @@ pub fn worked_lines()
       workers = 1;
       cache = 16;
       sample = None;
+      packed = false;
       trace = false;
       summary = true;
     }) }
@@ -60,18 +63,21 @@ pub fn worked_lines()
           workers = 2;
           cache = 16;
           sample = Some 3;
+          packed = false;
           trace = true;
           summary = false;
         }) }
-    ensures every { settings_of 32 (codes "--summary" ∷ codes "--trace" ∷ codes "--sample"
-        ∷ codes "1000" ∷ codes "--cache" ∷ codes "256" ∷ codes "--workers=32" ∷ codes "--top=0"
-        ∷ codes "--left=20000" ∷ codes "--height=20000" ∷ codes "--width=1" ∷ codes "--res=1" ∷ [])
+    ensures every { settings_of 32 (codes "--summary" ∷ codes "--packed" ∷ codes "--trace"
+        ∷ codes "--sample" ∷ codes "1000" ∷ codes "--cache" ∷ codes "256" ∷ codes "--workers=32"
+        ∷ codes "--top=0" ∷ codes "--left=20000" ∷ codes "--height=20000" ∷ codes "--width=1"
+        ∷ codes "--res=1" ∷ [])
         ≡ Some (record {
           res = 1;
           sheet = record { width = 1; height = 20000; left = 20000; top = 0 };
           workers = 32;
           cache = 256;
           sample = Some 1000;
+          packed = true;
           trace = true;
           summary = true;
         }) }
@@ -92,6 +98,7 @@ pub fn worked_refusals()
     ensures other_case { settings_of 32 (codes "--RES=300" ∷ []) ≡ None }
     ensures twice { settings_of 32 (codes "--res" ∷ codes "300" ∷ codes "--res" ∷ codes "300"
         ∷ []) ≡ None }
+    ensures packed_alone { settings_of 32 (codes "--packed" ∷ []) ≡ None }
     ensures switch_twice { settings_of 32 (codes "--trace" ∷ codes "--trace" ∷ []) ≡ None }
 {}
 
@@ -110,6 +117,8 @@ pub fn worked_values()
     ensures switch_empty { settings_of 32 (codes "--trace=" ∷ []) ≡ None }
     ensures switch_value { settings_of 32 (codes "--trace=1" ∷ []) ≡ None }
     ensures switch_apart { settings_of 32 (codes "--trace" ∷ codes "1" ∷ []) ≡ None }
+    ensures packed_value { settings_of 32 (codes "--sample=3" ∷ codes "--packed=1" ∷ [])
+        ≡ None }
 {}
 
 /// Numbers outside their ranges.

@@ -2,7 +2,7 @@
 ghost use Rattle.std.specs.Prelude.{◌≡◌, List, Some, None, true, option_map, if◌then◌else◌};
 ghost use Rattle.std.specs.Str.Parse.{digits_value};
 ghost use Rattle.clap.specs.Words.{first_value, found_of, one_text};
-ghost use Rattle.command_line.specs.Line.{Text, Use, is_value, is_within};
+ghost use Rattle.command_line.specs.Line.{Text, Use, has_sample, is_value, is_within};
 ghost use Rattle.command_line.specs.Reads.{MatchesHold, given_of, is_allowed as are_allowed};
 ghost use Rattle.command_line.specs.Reads.{settings_with};
 
@@ -33,6 +33,7 @@ pub struct LineValues {
     pub workers: Option<u32>,
     pub cache: Option<u32>,
     pub sample: Option<u32>,
+    pub packed: bool,
     pub trace: bool,
     pub summary: bool,
 }
@@ -62,6 +63,7 @@ pub fn given_in(matches: &ArgMatches<'_>) -> LineValues
         workers: number(matches, "workers"),
         cache: number(matches, "cache"),
         sample: number(matches, "sample"),
+        packed: matches.get_flag("packed"),
         trace: matches.get_flag("trace"),
         summary: matches.get_flag("summary"),
     }
@@ -76,13 +78,19 @@ fn within(number: Option<u32>, least: u32, most: u32) -> bool
     }
 }
 
-/// The settings of a line, where each number lies in its range and there are n workers.
-#[tactic(auto, unfolding(crate::specs::Settings::default_settings))]
-pub fn settings(given: &LineValues, workers: usize) -> Option<Settings>
-    ensures { result ≡ (if are_allowed workers given.now then Some (settings_with given.now)
-        else None) }
+// Whether packed fonts, where they are asked for, are those of a sample.
+fn may_pack(packed: bool, sample: Option<u32>) -> bool
+    ensures { result ≡ has_sample packed sample }
 {
-    let allowed = within(given.res, 1, MAX_RESOLUTION)
+    !packed || sample.is_some()
+}
+
+// Whether each number lies in its range, there are as many workers as are asked for, and packed
+// fonts are asked for with a sample alone.
+fn is_allowed(given: &LineValues, workers: usize) -> bool
+    ensures { result ≡ are_allowed workers given.now }
+{
+    within(given.res, 1, MAX_RESOLUTION)
         & within(given.width, 1, MAX_PAGE_SIDE)
         & within(given.height, 1, MAX_PAGE_SIDE)
         & within(given.left, 0, MAX_PAGE_SIDE)
@@ -90,8 +98,18 @@ pub fn settings(given: &LineValues, workers: usize) -> Option<Settings>
         & within(given.workers, 1, MAX_WORKERS)
         & within(given.cache, 1, MAX_CACHED_FONTS)
         & within(given.sample, 1, 1000)
-        & (given.workers.unwrap_or(1) as usize <= workers);
-    if !allowed {
+        & (given.workers.unwrap_or(1) as usize <= workers)
+        & may_pack(given.packed, given.sample)
+}
+
+/// The settings of a line, where each number lies in its range, there are n workers, and packed
+/// fonts are asked for with a sample alone.
+#[tactic(auto, unfolding(crate::specs::Settings::default_settings))]
+pub fn settings(given: &LineValues, workers: usize) -> Option<Settings>
+    ensures { result ≡ (if are_allowed workers given.now then Some (settings_with given.now)
+        else None) }
+{
+    if !is_allowed(given, workers) {
         return None;
     }
     let defaults = default_settings();
@@ -107,6 +125,7 @@ pub fn settings(given: &LineValues, workers: usize) -> Option<Settings>
         workers: given.workers.unwrap_or(defaults.workers),
         cache: given.cache.unwrap_or(defaults.cache),
         sample: given.sample,
+        packed: given.packed,
         trace: given.trace,
         summary: given.summary,
     })

@@ -21,6 +21,8 @@ pub struct Settings {
     /// How many pages of the sample are drawn in place of the input's: 1 to 1000. `None` draws the
     /// input's.
     pub sample: Option<u32>,
+    /// Whether the glyphs of the sample's fonts are packed; only with `sample`.
+    pub packed: bool,
     /// Whether each call of the cache is printed to the notes.
     pub trace: bool,
     /// Whether the counts of the run are printed to the notes.
@@ -55,6 +57,7 @@ pub fn default_settings() -> Settings
         workers: 1,
         cache: 16,
         sample: None,
+        packed: false,
         trace: false,
         summary: false,
     }

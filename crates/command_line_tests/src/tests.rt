@@ -26,6 +26,7 @@ const DEFAULTS: Settings = Settings {
     workers: 1,
     cache: 16,
     sample: None,
+    packed: false,
     trace: false,
     summary: false,
 };
@@ -59,6 +60,7 @@ static TAKEN: [(&'static [&'static str], usize, Settings); 7] = [
             workers: 2,
             cache: 16,
             sample: Some(3),
+            packed: false,
             trace: true,
             summary: false,
         },
@@ -66,6 +68,7 @@ static TAKEN: [(&'static [&'static str], usize, Settings); 7] = [
     (
         &[
             "--summary",
+            "--packed",
             "--sample",
             "1000",
             "--cache",
@@ -89,6 +92,7 @@ static TAKEN: [(&'static [&'static str], usize, Settings); 7] = [
             workers: 32,
             cache: 256,
             sample: Some(1000),
+            packed: true,
             trace: false,
             summary: true,
         },
@@ -107,6 +111,7 @@ static TAKEN: [(&'static [&'static str], usize, Settings); 7] = [
             workers: 2,
             cache: 16,
             sample: None,
+            packed: false,
             trace: false,
             summary: false,
         },
@@ -163,7 +168,7 @@ fn the_sheet_goes_by_the_resolution(rt: HostRuntime) {
 }
 
 // The arguments, and how many workers there are.
-static REFUSED: [(&'static [&'static str], usize); 36] = [
+static REFUSED: [(&'static [&'static str], usize); 38] = [
     (&["--workers", "33"], 64),
     (&["--workers=0"], 64),
     (&["--res", "0"], 64),
@@ -198,6 +203,9 @@ static REFUSED: [(&'static [&'static str], usize); 36] = [
     (&["--trace="], 64),
     (&["--trace=1"], 64),
     (&["--trace", "1"], 64),
+    (&["--sample=3", "--packed=1"], 64),
+    // Packed fonts are those of a sample.
+    (&["--packed"], 64),
     // No more workers than there are.
     (&["--workers=2"], 1),
     (&[], 0),

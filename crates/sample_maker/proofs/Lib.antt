@@ -14,6 +14,7 @@ pub mod VfItems
 pub mod VfSound
 pub mod Loops
 pub mod VfRead
+pub mod PackedRasters
 pub mod PkForms
 pub mod PkAppended
 pub mod PkRead
@@ -23,3 +24,4 @@ pub mod DviRight
 pub mod DviSound
 pub mod SampleMade
 pub mod SampleFonts
+pub mod PackedSample

@@ -5,9 +5,9 @@ use Rattle.std.specs.Result.{is_ok}
 use Rattle.std.proofs.lemmas.Int.{ints}
 use Rattle.big_endian.specs.Numbers.{IsSigned, number_bytes, weight}
 use Rattle.pk_runs.specs.declared.glyph.Glyph.{Glyph}
-use Rattle.pk_packets.specs.Written.{extended_packet, long_packet, short_packet}
-use Rattle.pk_packer.specs.Choice.{plain_bytes}
-use Rattle.sample_maker.specs.PkFile.{fields, has_form, packet_item, sides}
+use Rattle.pk_packets.specs.Written.{extended_packet, flag_with, long_packet, short_packet}
+use Rattle.sample_maker.specs.Coded.{Coded}
+use Rattle.sample_maker.specs.PkFile.{fields, has_form, packet_with, sides}
 
 pub on_ok : {A E : Type 0} (r : Result A E) (a b c : List ℕ) → a ≡ (if is_ok r then b else c) → OnOk r (a ≡ b)
 on_ok (Ok x) a b c e = e
@@ -55,40 +55,39 @@ in_three o f s r = append_assoc (o ++ f) s r ∙ append_assoc o f (s ++ r)
 in_five : (o f l z s r : List ℕ) → ((((o ++ f) ++ l) ++ z) ++ s) ++ r ≡ o ++ (f ++ (l ++ (z ++ (s ++ r))))
 in_five o f l z s r = append_assoc (((o ++ f) ++ l) ++ z) s r ∙ append_assoc ((o ++ f) ++ l) z (s ++ r) ∙ append_assoc (o ++ f) l (z ++ (s ++ r)) ∙ append_assoc o f (l ++ (z ++ (s ++ r)))
 
-module _ (code : ℕ) (g : Glyph) (fits : code < 256) where
-  abbrev bitmap : List ℕ
-  bitmap = plain_bytes g.raster
-
+module _ (code : ℕ) (g : Glyph) (r : Coded) (fits : code < 256) where
   abbrev short_head : ℕ → ℕ → ℕ → List ℕ
   short_head flag low c = flag ∷ low ∷ c ∷ 0 ∷ 0 ∷ 0 ∷ 0 ∷ []
 
-  pub short_joined : (out a b : List ℕ) (n : ℕ) → n ≡ length (plain_bytes g.raster) → a ≡ out ++ (224 + (8 + n) / 256) ∷ (8 + n) % 256 ∷ code ∷ 0 ∷ 0 ∷ 0 ∷ 0 ∷ [] → b ≡ a ++ sides 1 g
-      → b ++ plain_bytes g.raster ≡ out ++ short_packet (fields 4 (code, g))
-  short_joined out a b n en ea eb =
-      let pl = 8 + length bitmap in
+  pub short_joined : (out a b : List ℕ) (flag n : ℕ) → n ≡ length r.bytes → flag ≡ flag_with (fields 4 r (code, g)) ((8 + n) / 256) → a ≡ out ++ flag ∷ (8 + n) % 256 ∷ code ∷ 0 ∷ 0 ∷ 0 ∷ 0 ∷ []
+      → b ≡ a ++ sides 1 g → b ++ r.bytes ≡ out ++ short_packet (fields 4 r (code, g))
+  short_joined out a b flag n en ef ea eb =
+      let pl = 8 + length r.bytes in
+      let right = flag_with (fields 4 r (code, g)) (pl / 256) in
       let low : pl % 256 ≡ pl % 256 % 256 = omega arith in
       let same : code ≡ code % 256 = omega (arith, fits) in
-      ap (λ t. t ++ bitmap) (eb ∙ ap (λ t. t ++ sides 1 g) ea)
-      ∙ in_three out (short_head (224 + (8 + n) / 256) ((8 + n) % 256) code) (sides 1 g) bitmap
-      ∙ ap (λ m. out ++ (short_head (224 + (8 + m) / 256) ((8 + m) % 256) code ++ (sides 1 g ++ bitmap))) en
-      ∙ ap (λ x. out ++ (short_head (224 + pl / 256) x code ++ (sides 1 g ++ bitmap))) low
-      ∙ ap (λ x. out ++ (short_head (224 + pl / 256) (pl % 256 % 256) x ++ (sides 1 g ++ bitmap))) same
+      ap (λ t. t ++ r.bytes) (eb ∙ ap (λ t. t ++ sides 1 g) ea)
+      ∙ in_three out (short_head flag ((8 + n) % 256) code) (sides 1 g) r.bytes
+      ∙ ap (λ x. out ++ (short_head x ((8 + n) % 256) code ++ (sides 1 g ++ r.bytes))) ef
+      ∙ ap (λ m. out ++ (short_head (flag_with (fields 4 r (code, g)) ((8 + m) / 256)) ((8 + m) % 256) code ++ (sides 1 g ++ r.bytes))) en
+      ∙ ap (λ x. out ++ (short_head right x code ++ (sides 1 g ++ r.bytes))) low
+      ∙ ap (λ x. out ++ (short_head right (pl % 256 % 256) x ++ (sides 1 g ++ r.bytes))) same
 
   abbrev extended_rest : ℕ → List ℕ
   extended_rest c = c ∷ 0 ∷ 0 ∷ 0 ∷ 0 ∷ 0 ∷ []
 
-  pub extended_joined : (out a b d e l : List ℕ) (n : ℕ) → n ≡ length (plain_bytes g.raster) → a ≡ out ++ (228 + (13 + n) / 65536) ∷ [] → l ≡ number_bytes 2 (pos ((13 + n) % 65536)) → b ≡ a ++ l
-      → d ≡ b ++ code ∷ 0 ∷ 0 ∷ 0 ∷ 0 ∷ 0 ∷ [] → e ≡ d ++ sides 2 g → e ++ plain_bytes g.raster ≡ out ++ extended_packet (fields 5 (code, g))
-  extended_joined out a b d e l n en ea el eb ed ee =
-      let pl = 13 + length bitmap in
-      let flag : 228 + pl / 65536 ≡ 224 + (4 + pl / 65536) = omega arith in
+  pub extended_joined : (out a b d e l : List ℕ) (flag n : ℕ) → n ≡ length r.bytes → flag ≡ flag_with (fields 5 r (code, g)) (4 + (13 + n) / 65536) → a ≡ out ++ flag ∷ [] → l ≡ number_bytes 2 (pos ((13 + n) % 65536)) → b ≡ a ++ l
+      → d ≡ b ++ code ∷ 0 ∷ 0 ∷ 0 ∷ 0 ∷ 0 ∷ [] → e ≡ d ++ sides 2 g → e ++ r.bytes ≡ out ++ extended_packet (fields 5 r (code, g))
+  extended_joined out a b d e l flag n en ef ea el eb ed ee =
+      let pl = 13 + length r.bytes in
+      let right = flag_with (fields 5 r (code, g)) (4 + pl / 65536) in
       let same : code ≡ code % 256 = omega (arith, fits) in
-      ap (λ t. t ++ bitmap) (ee ∙ ap (λ t. t ++ sides 2 g) (ed ∙ ap (λ t. t ++ extended_rest code) (eb ∙ ap (λ t. t ++ l) ea)))
-      ∙ in_five out ((228 + (13 + n) / 65536) ∷ []) l (extended_rest code) (sides 2 g) bitmap
-      ∙ ap (λ t. out ++ ((228 + (13 + n) / 65536) ∷ (t ++ (extended_rest code ++ (sides 2 g ++ bitmap))))) el
-      ∙ ap (λ m. out ++ ((228 + (13 + m) / 65536) ∷ (number_bytes 2 (pos ((13 + m) % 65536)) ++ (extended_rest code ++ (sides 2 g ++ bitmap))))) en
-      ∙ ap (λ x. out ++ (x ∷ (number_bytes 2 (pos (pl % 65536)) ++ (extended_rest code ++ (sides 2 g ++ bitmap))))) flag
-      ∙ ap (λ x. out ++ ((224 + (4 + pl / 65536)) ∷ (number_bytes 2 (pos (pl % 65536)) ++ (extended_rest x ++ (sides 2 g ++ bitmap))))) same
+      ap (λ t. t ++ r.bytes) (ee ∙ ap (λ t. t ++ sides 2 g) (ed ∙ ap (λ t. t ++ extended_rest code) (eb ∙ ap (λ t. t ++ l) ea)))
+      ∙ in_five out (flag ∷ []) l (extended_rest code) (sides 2 g) r.bytes
+      ∙ ap (λ t. out ++ (flag ∷ (t ++ (extended_rest code ++ (sides 2 g ++ r.bytes))))) el
+      ∙ ap (λ x. out ++ (x ∷ (number_bytes 2 (pos ((13 + n) % 65536)) ++ (extended_rest code ++ (sides 2 g ++ r.bytes))))) ef
+      ∙ ap (λ m. out ++ (flag_with (fields 5 r (code, g)) (4 + (13 + m) / 65536) ∷ (number_bytes 2 (pos ((13 + m) % 65536)) ++ (extended_rest code ++ (sides 2 g ++ r.bytes))))) en
+      ∙ ap (λ x. out ++ (right ∷ (number_bytes 2 (pos (pl % 65536)) ++ (extended_rest x ++ (sides 2 g ++ r.bytes))))) same
 
   abbrev zeros : List ℕ
   zeros = 0 ∷ 0 ∷ 0 ∷ 0 ∷ 0 ∷ 0 ∷ 0 ∷ 0 ∷ 0 ∷ 0 ∷ 0 ∷ 0 ∷ []
@@ -102,26 +101,30 @@ module _ (code : ℕ) (g : Glyph) (fits : code < 256) where
       ap (λ x. x ∷ 0 ∷ 0 ∷ code ∷ []) a ∙ ap (λ x. code / 16777216 % 256 ∷ x ∷ 0 ∷ code ∷ []) b ∙ ap (λ x. code / 16777216 % 256 ∷ code / 65536 % 256 ∷ x ∷ code ∷ []) c
       ∙ ap (λ x. code / 16777216 % 256 ∷ code / 65536 % 256 ∷ code / 256 % 256 ∷ x ∷ []) d
 
-  pub long_joined : (out a b d e l : List ℕ) (n : ℕ) → n ≡ length (plain_bytes g.raster) → a ≡ out ++ 231 ∷ [] → l ≡ number_bytes 4 (pos (28 + n)) → b ≡ a ++ l
-      → d ≡ b ++ 0 ∷ 0 ∷ 0 ∷ code ∷ 0 ∷ 0 ∷ 0 ∷ 0 ∷ 0 ∷ 0 ∷ 0 ∷ 0 ∷ 0 ∷ 0 ∷ 0 ∷ 0 ∷ [] → e ≡ d ++ sides 4 g → e ++ plain_bytes g.raster ≡ out ++ long_packet (fields 12 (code, g))
-  long_joined out a b d e l n en ea el eb ed ee =
+  pub long_joined : (out a b d e l : List ℕ) (flag n : ℕ) → n ≡ length r.bytes → flag ≡ flag_with (fields 12 r (code, g)) 7 → a ≡ out ++ flag ∷ [] → l ≡ number_bytes 4 (pos (28 + n)) → b ≡ a ++ l
+      → d ≡ b ++ 0 ∷ 0 ∷ 0 ∷ code ∷ 0 ∷ 0 ∷ 0 ∷ 0 ∷ 0 ∷ 0 ∷ 0 ∷ 0 ∷ 0 ∷ 0 ∷ 0 ∷ 0 ∷ [] → e ≡ d ++ sides 4 g → e ++ r.bytes ≡ out ++ long_packet (fields 12 r (code, g))
+  long_joined out a b d e l flag n en ef ea el eb ed ee =
       let prefix : List ℕ = 0 ∷ 0 ∷ 0 ∷ code ∷ [] in
-      ap (λ t. t ++ bitmap) (ee ∙ ap (λ t. t ++ sides 4 g) (ed ∙ ap (λ t. t ++ (prefix ++ zeros)) (eb ∙ ap (λ t. t ++ l) ea)))
-      ∙ in_five out (231 ∷ []) l (prefix ++ zeros) (sides 4 g) bitmap
-      ∙ ap (λ t. out ++ (231 ∷ (t ++ (prefix ++ (zeros ++ (sides 4 g ++ bitmap)))))) el
-      ∙ ap (λ m. out ++ (231 ∷ (number_bytes 4 (pos (28 + m)) ++ (prefix ++ (zeros ++ (sides 4 g ++ bitmap)))))) en
-      ∙ ap (λ t. out ++ (231 ∷ (number_bytes 4 (pos (28 + length bitmap)) ++ (t ++ (zeros ++ (sides 4 g ++ bitmap)))))) four_bytes
+      let right = flag_with (fields 12 r (code, g)) 7 in
+      let count = number_bytes 4 (pos (28 + length r.bytes)) in
+      ap (λ t. t ++ r.bytes) (ee ∙ ap (λ t. t ++ sides 4 g) (ed ∙ ap (λ t. t ++ (prefix ++ zeros)) (eb ∙ ap (λ t. t ++ l) ea)))
+      ∙ in_five out (flag ∷ []) l (prefix ++ zeros) (sides 4 g) r.bytes
+      ∙ ap (λ t. out ++ (flag ∷ (t ++ (prefix ++ (zeros ++ (sides 4 g ++ r.bytes)))))) el
+      ∙ ap (λ m. out ++ (flag ∷ (number_bytes 4 (pos (28 + m)) ++ (prefix ++ (zeros ++ (sides 4 g ++ r.bytes)))))) en
+      ∙ ap (λ x. out ++ (x ∷ (count ++ (prefix ++ (zeros ++ (sides 4 g ++ r.bytes)))))) ef
+      ∙ ap (λ t. out ++ (right ∷ (count ++ (t ++ (zeros ++ (sides 4 g ++ r.bytes)))))) four_bytes
 
 -- ---- the form that is chosen
 
-pub short_item : (p : ℕ × Glyph) → has_form 1 8 1024 p.1 ≡ true → short_packet (fields 4 p) ≡ packet_item p
-unfolding packet_item
-short_item p short = rw short refl
+module _ (r : Coded) (p : ℕ × Glyph) where
+  pub short_item : has_form 1 8 1024 r p.1 ≡ true → short_packet (fields 4 r p) ≡ packet_with r p
+  unfolding packet_with
+  short_item short = rw short refl
 
-pub extended_item : (p : ℕ × Glyph) → has_form 1 8 1024 p.1 ≡ false → has_form 2 13 196608 p.1 ≡ true → extended_packet (fields 5 p) ≡ packet_item p
-unfolding packet_item
-extended_item p other extended = rw (other, extended) refl
+  pub extended_item : has_form 1 8 1024 r p.1 ≡ false → has_form 2 13 196608 r p.1 ≡ true → extended_packet (fields 5 r p) ≡ packet_with r p
+  unfolding packet_with
+  extended_item other extended = rw (other, extended) refl
 
-pub long_item : (p : ℕ × Glyph) → has_form 1 8 1024 p.1 ≡ false → has_form 2 13 196608 p.1 ≡ false → long_packet (fields 12 p) ≡ packet_item p
-unfolding packet_item
-long_item p other far = rw (other, far) refl
+  pub long_item : has_form 1 8 1024 r p.1 ≡ false → has_form 2 13 196608 r p.1 ≡ false → long_packet (fields 12 r p) ≡ packet_with r p
+  unfolding packet_with
+  long_item other far = rw (other, far) refl

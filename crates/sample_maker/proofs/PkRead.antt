@@ -13,28 +13,29 @@ use Rattle.pk_packets.specs.Packets.{raster_height, raster_size, raster_sum, ras
 use Rattle.pk_packets.specs.Fonts.{AreSound, IsAnswer, IsPkFile}
 use Rattle.pk_packets.proofs.Added.{answered, within_limits}
 use Rattle.pk_packets.proofs.OneMeaning.{files_are_read_one_way}
-use Rattle.sample_maker.specs.PkFile.{IsMeasured, glyph_given, have_own_codes, no_ops_after, packet_item, pk_file, pk_items, pk_preamble, size_sum}
+use Rattle.sample_maker.specs.PkFile.{IsMeasured, file_in, glyph_given, have_own_codes, no_ops_after, packet_item, pk_items, pk_preamble, size_sum}
+use Rattle.sample_maker.specs.declared.coded.Coding.{Coding}
 use Rattle.sample_maker.proofs.PkForms.{IsPacketFor, packet_says}
 
 -- ---- packets after those before them, the last one first
 
-abbrev pub after : List (List ℕ) → List (ℕ × Glyph) → List (List ℕ)
-after before [] = before
-after before (p ∷ glyphs) = after (packet_item p ∷ before) glyphs
+abbrev pub after : Coding → List (List ℕ) → List (ℕ × Glyph) → List (List ℕ)
+after way before [] = before
+after way before (p ∷ glyphs) = after way (packet_item way p ∷ before) glyphs
 
-abbrev AreFor : List (ℕ × Glyph) → Type 0
-AreFor glyphs = AllByRecursion (λ p. IsPacketFor p (packet_item p)) glyphs
+abbrev AreFor : Coding → List (ℕ × Glyph) → Type 0
+AreFor way glyphs = AllByRecursion (λ p. IsPacketFor p (packet_item way p)) glyphs
 
-are_for : (glyphs : List (ℕ × Glyph)) → All IsMeasured glyphs → AreFor glyphs
-are_for [] m = tt
-are_for (p ∷ glyphs) m = (packet_says p (m 0 p (omega arith)), are_for glyphs (λ k q lt. m (suc k) q (omega (arith, lt))))
+are_for : (way : Coding) (glyphs : List (ℕ × Glyph)) → All (IsMeasured way) glyphs → AreFor way glyphs
+are_for way [] m = tt
+are_for way (p ∷ glyphs) m = (packet_says way p (m 0 p (omega arith)), are_for way glyphs (λ k q lt. m (suc k) q (omega (arith, lt))))
 
-text_after : (glyphs : List (ℕ × Glyph)) (before : List (List ℕ)) (rest : List ℕ) → text_of (after before glyphs) ++ rest ≡ text_of before ++ (flat_map packet_item glyphs ++ rest)
-text_after [] before rest = refl
-text_after (p ∷ glyphs) before rest =
-    text_after glyphs (packet_item p ∷ before) rest
-    ∙ append_assoc (text_of before) (packet_item p) (flat_map packet_item glyphs ++ rest)
-    ∙ ap (λ t. text_of before ++ t) (sym (append_assoc (packet_item p) (flat_map packet_item glyphs) rest))
+text_after : (way : Coding) (glyphs : List (ℕ × Glyph)) (before : List (List ℕ)) (rest : List ℕ) → text_of (after way before glyphs) ++ rest ≡ text_of before ++ (flat_map (packet_item way) glyphs ++ rest)
+text_after way [] before rest = refl
+text_after way (p ∷ glyphs) before rest =
+    text_after way glyphs (packet_item way p ∷ before) rest
+    ∙ append_assoc (text_of before) (packet_item way p) (flat_map (packet_item way) glyphs ++ rest)
+    ∙ ap (λ t. text_of before ++ t) (sym (append_assoc (packet_item way p) (flat_map (packet_item way) glyphs) rest))
 
 -- ---- the limits
 
@@ -44,17 +45,17 @@ size_of p bytes is = ap (λ h. h * div_ceil (raster_width bytes) 8) is.height �
 sum_after : (p : ℕ × Glyph) (bytes : List ℕ) (before : List (List ℕ)) → IsPacketFor p bytes → raster_sum (bytes ∷ before) ≡ raster_sum before + p.1.raster.height * div_ceil p.1.raster.width 8
 sum_after p bytes before is = ap (λ b. raster_sum before + (if b then raster_size bytes else 0)) is.kind ∙ ap (λ n. raster_sum before + n) (size_of p bytes is)
 
-sound_after : (glyphs : List (ℕ × Glyph)) (before : List (List ℕ)) → All IsMeasured glyphs → AreFor glyphs → AreSound before → raster_sum before + size_sum glyphs ≤ MAX_RASTER_BYTES → AreSound (after before glyphs)
-sound_after [] before m are sound few = sound
-sound_after (p ∷ glyphs) before m are sound few =
-    let item = packet_item p in
+sound_after : (way : Coding) (glyphs : List (ℕ × Glyph)) (before : List (List ℕ)) → All (IsMeasured way) glyphs → AreFor way glyphs → AreSound before → raster_sum before + size_sum glyphs ≤ MAX_RASTER_BYTES → AreSound (after way before glyphs)
+sound_after way [] before m are sound few = sound
+sound_after way (p ∷ glyphs) before m are sound few =
+    let item = packet_item way p in
     let is = are.0 in
-    let here : IsMeasured p = m 0 p (omega arith) in
+    let here : IsMeasured way p = m 0 p (omega arith) in
     let narrow : raster_width item ≤ MAX_GLYPH_SIDE = omega (arith, is.width, here.glyph.width) in
     let low : raster_height item ≤ MAX_GLYPH_SIDE = omega (arith, is.height, here.glyph.height) in
     let size = size_of p item is in
     let within = within_limits item before is.long narrow low (omega (arith, few, size)) in
-    sound_after glyphs (item ∷ before) (λ k q lt. m (suc k) q (omega (arith, lt))) are.1
+    sound_after way glyphs (item ∷ before) (λ k q lt. m (suc k) q (omega (arith, lt))) are.1
     (sound, is.item, λ _. (within, p.1.raster, is.raster))
     (omega (arith, few, sum_after p item before is))
 
@@ -67,35 +68,35 @@ none_given (q ∷ glyphs) c h =
     cond-false (q.0 == c) (Some q.1) (glyph_given glyphs c) parts.0 ∙ none_given glyphs c parts.1
 
 -- a packet more: its glyph for its code, and the other codes keep theirs
-one_more : (p : ℕ × Glyph) (before : List (List ℕ)) (c : ℕ) (old new : Option Glyph) → IsPacketFor p (packet_item p) → IsAnswer before c old
-    → new ≡ (if p.0 == c then Some p.1 else old) → IsAnswer (packet_item p ∷ before) c new
-one_more p before c old new is answer e =
-    answered (packet_item p) before c p.1 old new is.kind is.glyph answer (e ∙ ap (λ (k : ℕ). if k == c then Some p.1 else old) (sym is.code))
+one_more : (way : Coding) (p : ℕ × Glyph) (before : List (List ℕ)) (c : ℕ) (old new : Option Glyph) → IsPacketFor p (packet_item way p) → IsAnswer before c old
+    → new ≡ (if p.0 == c then Some p.1 else old) → IsAnswer (packet_item way p ∷ before) c new
+one_more way p before c old new is answer e =
+    answered (packet_item way p) before c p.1 old new is.kind is.glyph answer (e ∙ ap (λ (k : ℕ). if k == c then Some p.1 else old) (sym is.code))
 
-not_replaced : (glyphs : List (ℕ × Glyph)) (before : List (List ℕ)) (c : ℕ) (old : Option Glyph) → AreFor glyphs → glyph_given glyphs c ≡ None → IsAnswer before c old → IsAnswer (after before glyphs) c old
-not_replaced [] before c old are none answer = answer
-not_replaced (p ∷ glyphs) before c old are none answer = elim (cases_Bool (p.0 == c)) [
+not_replaced : (way : Coding) (glyphs : List (ℕ × Glyph)) (before : List (List ℕ)) (c : ℕ) (old : Option Glyph) → AreFor way glyphs → glyph_given glyphs c ≡ None → IsAnswer before c old → IsAnswer (after way before glyphs) c old
+not_replaced way [] before c old are none answer = answer
+not_replaced way (p ∷ glyphs) before c old are none answer = elim (cases_Bool (p.0 == c)) [
   | inl same ↦ let some : Some p.1 ≡ None = sym (cond-true (p.0 == c) (Some p.1) (glyph_given glyphs c) same) ∙ none in cc
   | inr other ↦
       let rest : glyph_given glyphs c ≡ None = sym (cond-false (p.0 == c) (Some p.1) (glyph_given glyphs c) other) ∙ none in
-      not_replaced glyphs (packet_item p ∷ before) c old are.1 rest (one_more p before c old old are.0 answer (sym (cond-false (p.0 == c) (Some p.1) old other)))
+      not_replaced way glyphs (packet_item way p ∷ before) c old are.1 rest (one_more way p before c old old are.0 answer (sym (cond-false (p.0 == c) (Some p.1) old other)))
 ]
 
-glyphs_there : (glyphs : List (ℕ × Glyph)) (before : List (List ℕ)) (c : ℕ) → AreFor glyphs → IsTrue (have_own_codes glyphs) → IsAnswer before c None → IsAnswer (after before glyphs) c (glyph_given glyphs c)
-glyphs_there [] before c are own answer = answer
-glyphs_there (p ∷ glyphs) before c are own answer = elim (cases_Bool (p.0 == c)) [
+glyphs_there : (way : Coding) (glyphs : List (ℕ × Glyph)) (before : List (List ℕ)) (c : ℕ) → AreFor way glyphs → IsTrue (have_own_codes glyphs) → IsAnswer before c None → IsAnswer (after way before glyphs) c (glyph_given glyphs c)
+glyphs_there way [] before c are own answer = answer
+glyphs_there way (p ∷ glyphs) before c are own answer = elim (cases_Bool (p.0 == c)) [
   | inl same ↦
       let code : p.0 ≡ c = eqb-true p.0 c same in
       let alone : glyph_given glyphs c ≡ None = ap (glyph_given glyphs) (sym code) ∙ none_given glyphs p.0 (not-true _ (and_parts _ _ own).0) in
       let found : glyph_given (p ∷ glyphs) c ≡ Some p.1 = cond-true (p.0 == c) (Some p.1) (glyph_given glyphs c) same in
-      subst (λ (o : Option Glyph). IsAnswer (after before (p ∷ glyphs)) c o) (sym found)
-      (not_replaced glyphs (packet_item p ∷ before) c (Some p.1) are.1 alone
-      (one_more p before c None (Some p.1) are.0 answer (sym (cond-true (p.0 == c) (Some p.1) None same))))
+      subst (λ (o : Option Glyph). IsAnswer (after way before (p ∷ glyphs)) c o) (sym found)
+      (not_replaced way glyphs (packet_item way p ∷ before) c (Some p.1) are.1 alone
+      (one_more way p before c None (Some p.1) are.0 answer (sym (cond-true (p.0 == c) (Some p.1) None same))))
   | inr other ↦
       let passed : glyph_given (p ∷ glyphs) c ≡ glyph_given glyphs c = cond-false (p.0 == c) (Some p.1) (glyph_given glyphs c) other in
-      subst (λ (o : Option Glyph). IsAnswer (after before (p ∷ glyphs)) c o) (sym passed)
-      (glyphs_there glyphs (packet_item p ∷ before) c are.1 (and_parts _ _ own).1
-      (one_more p before c None None are.0 answer (sym (cond-false (p.0 == c) (Some p.1) None other))))
+      subst (λ (o : Option Glyph). IsAnswer (after way before (p ∷ glyphs)) c o) (sym passed)
+      (glyphs_there way glyphs (packet_item way p ∷ before) c are.1 (and_parts _ _ own).1
+      (one_more way p before c None None are.0 answer (sym (cond-false (p.0 == c) (Some p.1) None other))))
 ]
 
 -- ---- the file
@@ -114,35 +115,35 @@ right_preamble rest =
       le-ltb (length (pk_preamble ++ rest)) 19 all,
     ) refl
 
-module _ (glyphs : List (ℕ × Glyph)) (m : All IsMeasured glyphs) (own : IsTrue (have_own_codes glyphs)) (few : size_sum glyphs ≤ MAX_RASTER_BYTES) where
+module _ (way : Coding) (glyphs : List (ℕ × Glyph)) (m : All (IsMeasured way) glyphs) (own : IsTrue (have_own_codes glyphs)) (few : size_sum glyphs ≤ MAX_RASTER_BYTES) where
   abbrev packets : List (List ℕ)
-  packets = after [] glyphs
+  packets = after way [] glyphs
 
   abbrev tail : List ℕ
-  tail = replicate (no_ops_after (length (pk_items glyphs))) 246
+  tail = replicate (no_ops_after (length (pk_items way glyphs))) 246
 
-  parts : pk_file glyphs ≡ pk_preamble ++ (flat_map packet_item glyphs ++ 245 ∷ tail)
-  unfolding pk_file pk_items
-  parts = append_assoc pk_preamble (flat_map packet_item glyphs) (245 ∷ tail)
+  parts : file_in way glyphs ≡ pk_preamble ++ (flat_map (packet_item way) glyphs ++ 245 ∷ tail)
+  unfolding file_in pk_items
+  parts = append_assoc pk_preamble (flat_map (packet_item way) glyphs) (245 ∷ tail)
 
-  pub is_file : IsPkFile (pk_file glyphs) packets
+  pub is_file : IsPkFile (file_in way glyphs) packets
   is_file = subst (λ (bytes : List ℕ). IsPkFile bytes packets) (sym parts) (record {
-    begins = right_preamble (flat_map packet_item glyphs ++ 245 ∷ tail);
-    sound = sound_after glyphs [] m (are_for glyphs m) tt (omega (arith, few));
+    begins = right_preamble (flat_map (packet_item way) glyphs ++ 245 ∷ tail);
+    sound = sound_after way glyphs [] m (are_for way glyphs m) tt (omega (arith, few));
     unused = tail;
-    whole = sym (text_after glyphs [] (245 ∷ tail));
+    whole = sym (text_after way glyphs [] (245 ∷ tail));
   })
 
-  pub glyphs_again : (items : List (List ℕ)) → IsPkFile (pk_file glyphs) items → (c : ℕ) → IsAnswer items c (glyph_given glyphs c)
+  pub glyphs_again : (items : List (List ℕ)) → IsPkFile (file_in way glyphs) items → (c : ℕ) → IsAnswer items c (glyph_given glyphs c)
   glyphs_again items is c =
-      subst (λ (i : List (List ℕ)). IsAnswer i c (glyph_given glyphs c)) (files_are_read_one_way (pk_file glyphs) packets items is_file is)
-      (glyphs_there glyphs [] c (are_for glyphs m) own refl)
+      subst (λ (i : List (List ℕ)). IsAnswer i c (glyph_given glyphs c)) (files_are_read_one_way (file_in way glyphs) packets items is_file is)
+      (glyphs_there way glyphs [] c (are_for way glyphs m) own refl)
 
 -- ---- the bytes as they are appended
 
-pub pk_file_made : (glyphs : List (ℕ × Glyph)) (v a b c : List ℕ) → v ≡ [] → a ≡ v ++ pk_preamble → b ≡ a ++ flat_map packet_item glyphs
-    → c ≡ b ++ 245 ∷ replicate (no_ops_after (length b)) 246 → c ≡ pk_file glyphs
-unfolding pk_file pk_items
-pk_file_made glyphs v a b c ev ea eb ec =
-    let items : b ≡ pk_preamble ++ flat_map packet_item glyphs = eb ∙ ap (λ t. t ++ flat_map packet_item glyphs) (ea ∙ ap (λ t. t ++ pk_preamble) ev) in
+pub file_made : (way : Coding) (glyphs : List (ℕ × Glyph)) (v a b c : List ℕ) → v ≡ [] → a ≡ v ++ pk_preamble → b ≡ a ++ flat_map (packet_item way) glyphs
+    → c ≡ b ++ 245 ∷ replicate (no_ops_after (length b)) 246 → c ≡ file_in way glyphs
+unfolding file_in pk_items
+file_made way glyphs v a b c ev ea eb ec =
+    let items : b ≡ pk_preamble ++ flat_map (packet_item way) glyphs = eb ∙ ap (λ t. t ++ flat_map (packet_item way) glyphs) (ea ∙ ap (λ t. t ++ pk_preamble) ev) in
     ec ∙ ap (λ t. t ++ 245 ∷ replicate (no_ops_after (length t)) 246) items

@@ -15,12 +15,12 @@ use Rattle.tfm_reader.specs.Tfm.{tfm_width}
 use Rattle.vf_reader.specs.Fonts.{IsVfFile}
 use Rattle.sample_maker.specs.TfmFile.{tfm_file}
 use Rattle.sample_maker.specs.VfFile.{packet_item, vf_file, vf_items}
-use Rattle.sample_maker.specs.Sample.{FilesAreTheSix, GivesGlyph, MetricsAreRead, VirtualFontIsRead, bar_glyph, bar_pk, bar_tfm, dot_glyph, dot_pk, dot_tfm, duo_tfm, duo_vf, named_files, sample_files}
+use Rattle.sample_maker.specs.Sample.{FilesAreTheSix, GivesGlyph, MetricsAreRead, VirtualFontIsRead, bar_glyph, bar_pk, bar_tfm, dot_glyph, dot_pk, dot_tfm, duo_tfm, duo_vf, files_with, named_files, packed_bar_pk, packed_dot_pk, packed_files, sample_files}
 use Rattle.sample_maker.proofs.TfmRead.{file_sound, widths_read}
 
 pub six_files : FilesAreTheSix
-unfolding sample_files
-six_files name = get-from_entries nat_list_cmp_total named_files name
+unfolding sample_files packed_files
+six_files = (get-from_entries nat_list_cmp_total named_files, get-from_entries nat_list_cmp_total (files_with packed_dot_pk packed_bar_pk))
 
 -- ---- metrics
 

@@ -1,6 +1,6 @@
 -- The sample: a document of n pages in three fonts, one of them virtual, with the font files of all
 -- three. This project's own choice.
-use Rattle.std.specs.Prelude.{◌≡◌, ℕ, ◌+◌, ◌%◌, ◌≤◌, ℤ, pos, true, false, List, [], ◌∷◌, ◌++◌, codes, length, map, replicate, Some}
+use Rattle.std.specs.Prelude.{◌≡◌, ℕ, ◌+◌, ◌%◌, ◌≤◌, ℤ, pos, Bool, true, false, if◌then◌else◌, List, [], ◌∷◌, ◌++◌, codes, length, map, replicate, Some}
 use Rattle.std.specs.List.{range_with_len, repeat}
 use Rattle.std.specs.FinMap.{find, from_entries, get}
 use Rattle.std.specs.Cmp.Lexicographic.{slice_cmp}
@@ -19,6 +19,7 @@ use Rattle.vf_reader.specs.Fonts.{IsVfFile, program_with}
 use Rattle.vf_reader.specs.Locals.{locals_of}
 use Rattle.vf_reader.specs.declared.locals.LocalDef.{LocalDef}
 use Rattle.sample_maker.specs.DviFile.{GivesBack, document_text}
+use Rattle.sample_maker.specs.PkFile.{packed_file}
 use Rattle.sample_maker.specs.TfmFile.{tfm_file}
 use Rattle.sample_maker.specs.VfFile.{vf_file}
 
@@ -102,49 +103,6 @@ bar_pk =
     ++ 0xa8 ∷ 0x0b ∷ 0x41 ∷ 0x01 ∷ 0x80 ∷ 0x00 ∷ 0x06 ∷ 0x03 ∷ 0x04 ∷ 0x00 ∷ 0x03 ∷ 0xe2 ∷ 0x11
     ∷ 0x40 ∷ 0xf5 ∷ 0xf6 ∷ 0xf6 ∷ []
 
--- the files with their names
-abbrev pub named_files : List (List ℕ × List ℕ)
-named_files =
-    (codes "duo.tfm", duo_tfm) ∷ (codes "dot.tfm", dot_tfm) ∷ (codes "bar.tfm", bar_tfm)
-    ∷ (codes "duo.vf", duo_vf) ∷ (codes "dot.300pk", dot_pk) ∷ (codes "bar.300pk", bar_pk) ∷ []
-
-unfoldable pub sample_files : FileTable
-sample_files = from_entries named_files
-
--- ---- laws
-
--- each sample is a document, at any resolution
-abbrev pub SamplesAreDocuments : Type 0
-SamplesAreDocuments = (n res : ℕ) → 1 ≤ n → n ≤ 1000 → 1 ≤ res
-    → res ≤ MAX_RESOLUTION
-    → (reading : Reading) × IsDocument res (sample_document n) reading
-
--- whose reading gives its units, pages and fonts
-abbrev pub SamplesGiveBack : Type 0
-SamplesGiveBack = (n res : ℕ) (reading : Reading) → 1 ≤ n → n ≤ 1000
-    → IsDocument res (sample_document n) reading
-    → GivesBack sample_units sample_fonts (sample_pages n) res reading
-
-abbrev pub SamplesFit : Type 0
-SamplesFit = (n : ℕ) → n ≤ 1000 → length (sample_document n) ≤ MAX_DOCUMENT_LENGTH
-
--- the files of the library by their names, and no other
-abbrev pub FilesAreTheSix : Type 0
-FilesAreTheSix = (name : List ℕ) → get sample_files name ≡ find (slice_cmp nat_cmp) name named_files
-
--- the metrics are TFM files, which give the character 65 its width
-abbrev pub MetricsAreRead : Type 0
-MetricsAreRead =
-    IsTfm duo_tfm × (tfm_width duo_tfm (pos 65) ≡ Some (pos 0x28000))
-    × IsTfm dot_tfm × (tfm_width dot_tfm (pos 65) ≡ Some (pos 0x10000))
-    × IsTfm bar_tfm × (tfm_width bar_tfm (pos 65) ≡ Some (pos 0x18000))
-
--- the virtual font is a VF file, which gives its two fonts and the commands of the character 65
-abbrev pub VirtualFontIsRead : Type 0
-VirtualFontIsRead = (items : List (List ℕ)) × IsVfFile duo_vf items
-    × (locals_of items ≡ local_of (pos 0) dot ∷ local_of (pos 1) bar ∷ [])
-    × (program_with items 65 ≡ Some (0x41 ∷ 0xac ∷ 0x41 ∷ []))
-
 -- the glyphs of the character 65, row by row, with true for black
 abbrev pub dot_glyph : Glyph
 dot_glyph = record {
@@ -165,6 +123,73 @@ bar_glyph = record {
   voff = pos 3;
 }
 
+-- and PK files in which these are packed
+unfoldable pub packed_dot_pk : List ℕ
+packed_dot_pk = packed_file ((65, dot_glyph) ∷ [])
+
+unfoldable pub packed_bar_pk : List ℕ
+packed_bar_pk = packed_file ((65, bar_glyph) ∷ [])
+
+-- the files with their names, by the PK files of `dot` and `bar`
+abbrev pub other_files : List (List ℕ × List ℕ)
+other_files =
+    (codes "duo.tfm", duo_tfm) ∷ (codes "dot.tfm", dot_tfm) ∷ (codes "bar.tfm", bar_tfm)
+    ∷ (codes "duo.vf", duo_vf) ∷ []
+
+abbrev pub files_with : (of_dot of_bar : List ℕ) → List (List ℕ × List ℕ)
+files_with of_dot of_bar =
+    (codes "dot.300pk", of_dot) ∷ (codes "bar.300pk", of_bar) ∷ other_files
+
+abbrev pub named_files : List (List ℕ × List ℕ)
+named_files = files_with dot_pk bar_pk
+
+unfoldable pub sample_files : FileTable
+sample_files = from_entries named_files
+
+unfoldable pub packed_files : FileTable
+packed_files = from_entries (files_with packed_dot_pk packed_bar_pk)
+
+-- those of either sample
+abbrev pub made_files : (packed : Bool) → FileTable
+made_files packed = if packed then packed_files else sample_files
+
+-- ---- laws
+
+-- each sample is a document, at any resolution
+abbrev pub SamplesAreDocuments : Type 0
+SamplesAreDocuments = (n res : ℕ) → 1 ≤ n → n ≤ 1000 → 1 ≤ res
+    → res ≤ MAX_RESOLUTION
+    → (reading : Reading) × IsDocument res (sample_document n) reading
+
+-- whose reading gives its units, pages and fonts
+abbrev pub SamplesGiveBack : Type 0
+SamplesGiveBack = (n res : ℕ) (reading : Reading) → 1 ≤ n → n ≤ 1000
+    → IsDocument res (sample_document n) reading
+    → GivesBack sample_units sample_fonts (sample_pages n) res reading
+
+abbrev pub SamplesFit : Type 0
+SamplesFit = (n : ℕ) → n ≤ 1000 → length (sample_document n) ≤ MAX_DOCUMENT_LENGTH
+
+-- the files of the library by their names, and no other
+abbrev pub FilesAreTheSix : Type 0
+FilesAreTheSix =
+    ((name : List ℕ) → get sample_files name ≡ find (slice_cmp nat_cmp) name named_files)
+    × ((name : List ℕ) → get packed_files name
+    ≡ find (slice_cmp nat_cmp) name (files_with packed_dot_pk packed_bar_pk))
+
+-- the metrics are TFM files, which give the character 65 its width
+abbrev pub MetricsAreRead : Type 0
+MetricsAreRead =
+    IsTfm duo_tfm × (tfm_width duo_tfm (pos 65) ≡ Some (pos 0x28000))
+    × IsTfm dot_tfm × (tfm_width dot_tfm (pos 65) ≡ Some (pos 0x10000))
+    × IsTfm bar_tfm × (tfm_width bar_tfm (pos 65) ≡ Some (pos 0x18000))
+
+-- the virtual font is a VF file, which gives its two fonts and the commands of the character 65
+abbrev pub VirtualFontIsRead : Type 0
+VirtualFontIsRead = (items : List (List ℕ)) × IsVfFile duo_vf items
+    × (locals_of items ≡ local_of (pos 0) dot ∷ local_of (pos 1) bar ∷ [])
+    × (program_with items 65 ≡ Some (0x41 ∷ 0xac ∷ 0x41 ∷ []))
+
 -- a PK file gives the character 65 a glyph
 abbrev pub GivesGlyph : List ℕ → Glyph → Type 0
 GivesGlyph bytes glyph =
@@ -172,3 +197,7 @@ GivesGlyph bytes glyph =
 
 abbrev pub GlyphsAreRead : Type 0
 GlyphsAreRead = GivesGlyph dot_pk dot_glyph × GivesGlyph bar_pk bar_glyph
+
+-- the packed files give the same glyphs
+abbrev pub PackedGlyphsAreRead : Type 0
+PackedGlyphsAreRead = GivesGlyph packed_dot_pk dot_glyph × GivesGlyph packed_bar_pk bar_glyph

@@ -1,8 +1,10 @@
 //! The font files of the sample.
 ghost use Rattle.std.specs.Prelude.{◌≡◌, IfOk, OnOk};
-ghost use Rattle.std.specs.FinMap.{insert};
-ghost use Rattle.sample_maker.specs.Sample.{duo_vf, local_of, sample_files};
+ghost use Rattle.std.specs.FinMap.{from_entries, insert};
+ghost use Rattle.sample_maker.specs.Sample.{duo_vf, local_of, packed_files, sample_files};
+ghost use Rattle.sample_maker.specs.Sample.{other_files as others};
 
+use crate::sample_glyphs::{packed_bar, packed_dot};
 use crate::{tfm_bytes, vf_bytes};
 use outside::{FileName, FontName, Library};
 use std::alloc::{AllocError as NoMemory, Global};
@@ -53,22 +55,42 @@ fn add(alloc: Global, library: &mut Library, name: &[u8], bytes: Vec<u8>) -> Res
     library.add(FileName::new(alloc, name)?, bytes)
 }
 
-// The six font files.
-pub(crate) fn library(alloc: Global) -> Result<Library, NoMemory>
-    ensures { IfOk result (λ library. library ≡ sample_files) }
+// The font files other than PK files.
+fn other_files(alloc: Global) -> Result<Library, NoMemory>
+    ensures { IfOk result (λ library. library ≡ from_entries others) }
 {
     let duo_tfm = tfm_bytes(alloc, &[(65, 0x2_8000)])?;
     let dot_tfm = tfm_bytes(alloc, &[(65, 0x1_0000)])?;
     let bar_tfm = tfm_bytes(alloc, &[(65, 0x1_8000)])?;
     let duo_vf = virtual_font(alloc)?;
-    let dot_pk = Vec::from_slice(alloc, &DOT_PK)?;
-    let bar_pk = Vec::from_slice(alloc, &BAR_PK)?;
     let mut files = Library::new(alloc);
-    add(alloc, &mut files, b"bar.300pk", bar_pk)?;
-    add(alloc, &mut files, b"dot.300pk", dot_pk)?;
     add(alloc, &mut files, b"duo.vf", duo_vf)?;
     add(alloc, &mut files, b"bar.tfm", bar_tfm)?;
     add(alloc, &mut files, b"dot.tfm", dot_tfm)?;
     add(alloc, &mut files, b"duo.tfm", duo_tfm)?;
+    Ok(files)
+}
+
+// The files of the sample.
+pub(crate) fn library(alloc: Global) -> Result<Library, NoMemory>
+    ensures { IfOk result (λ library. library ≡ sample_files) }
+{
+    let mut files = other_files(alloc)?;
+    let dot_pk = Vec::from_slice(alloc, &DOT_PK)?;
+    let bar_pk = Vec::from_slice(alloc, &BAR_PK)?;
+    add(alloc, &mut files, b"bar.300pk", bar_pk)?;
+    add(alloc, &mut files, b"dot.300pk", dot_pk)?;
+    Ok(files)
+}
+
+// The same files with packed glyphs.
+pub(crate) fn packed_library(alloc: Global) -> Result<Library, NoMemory>
+    ensures { IfOk result (λ library. library ≡ packed_files) }
+{
+    let mut files = other_files(alloc)?;
+    let dot_pk = packed_dot(alloc)?;
+    let bar_pk = packed_bar(alloc)?;
+    add(alloc, &mut files, b"bar.300pk", bar_pk)?;
+    add(alloc, &mut files, b"dot.300pk", dot_pk)?;
     Ok(files)
 }

@@ -1,10 +1,10 @@
 //! The sample: a document of n pages, and the font files that it needs.
 ghost use Rattle.std.specs.Prelude.{◌≡◌, ◌≤◌, IfOk, map};
-ghost use Rattle.sample_maker.specs.Sample.{font_of, sample_document, sample_files, sample_fonts, sample_page, sample_pages};
+ghost use Rattle.sample_maker.specs.Sample.{font_of, packed_files, sample_document, sample_files, sample_fonts, sample_page, sample_pages};
 
 use crate::document;
 use crate::made::Sample;
-use crate::sample_files::library;
+use crate::sample_files::{library, packed_library};
 use outside::{FontKey, FontName};
 use pixel_round::Units;
 use std::alloc::{AllocError as NoMemory, Global};
@@ -73,6 +73,17 @@ fn pages(alloc: Global, n: u32) -> Result<Vec<Vec<u8>>, NoMemory>
     Ok(pages)
 }
 
+// The document of n pages.
+fn sample_text(alloc: Global, n: u32) -> Result<Vec<u8>, NoMemory>
+    requires some { 1 ≤ n }
+    requires few { n ≤ 1000 }
+    ensures document { IfOk result (λ text. text.items ≡ sample_document n) }
+{
+    let fonts = fonts(alloc)?;
+    let pages = pages(alloc, n)?;
+    document(alloc, &UNITS, &fonts, &pages)
+}
+
 /// The sample of n pages, from 1 to 1000. Its pages are set in the virtual font `duo`, whose one
 /// character is one of `dot` and one of `bar` side by side, and in `dot`: page i, from 1, has
 /// 1 + i mod 3 lines of four characters of `duo`, and a line of five of `dot`. The library has the
@@ -86,10 +97,25 @@ pub fn sample(alloc: Global, n: u32) -> Result<Sample, NoMemory>
     ensures document { IfOk result (λ s. s.document.items ≡ sample_document n) }
     ensures library { IfOk result (λ s. s.library ≡ sample_files) }
 {
-    let fonts = fonts(alloc)?;
-    let pages = pages(alloc, n)?;
     Ok(Sample {
-        document: document(alloc, &UNITS, &fonts, &pages)?,
+        document: sample_text(alloc, n)?,
         library: library(alloc)?,
+    })
+}
+
+/// The same document, and its font files with each PK file as `pk_packed` writes it: each glyph is
+/// packed, and the TFM widths and the escapements are 0. A reader of these files finds the same
+/// glyphs.
+///
+/// `NoMemory` when out of memory.
+pub fn packed_sample(alloc: Global, n: u32) -> Result<Sample, NoMemory>
+    requires some { 1 ≤ n }
+    requires few { n ≤ 1000 }
+    ensures document { IfOk result (λ s. s.document.items ≡ sample_document n) }
+    ensures library { IfOk result (λ s. s.library ≡ packed_files) }
+{
+    Ok(Sample {
+        document: sample_text(alloc, n)?,
+        library: packed_library(alloc)?,
     })
 }

@@ -72,11 +72,13 @@ returns c us reads =
     (reads.number (codes "cache") (1, 256) refl) in
     let sample = number_read (codes "sample") us _ _ c.number-8.ensures
     (reads.number (codes "sample") (1, 1000) refl) in
+    let packed = switch_read (is_used (codes "packed") us) _ _
+    (reads.switch (codes "packed") refl) c.get_flag.ensures.value c.get_flag.ensures.other in
     let trace = switch_read (is_used (codes "trace") us) _ _
-    (reads.switch (codes "trace") refl) c.get_flag.ensures.value c.get_flag.ensures.other in
+    (reads.switch (codes "trace") refl) c.get_flag-2.ensures.value c.get_flag-2.ensures.other in
     let summary = switch_read (is_used (codes "summary") us) _ _
-    (reads.switch (codes "summary") refl) c.get_flag-2.ensures.value
-    c.get_flag-2.ensures.other in
+    (reads.switch (codes "summary") refl) c.get_flag-3.ensures.value
+    c.get_flag-3.ensures.other in
     λ i. record {
       res = res i;
       width = width i;
@@ -86,6 +88,7 @@ returns c us reads =
       workers = workers i;
       cache = cache i;
       sample = sample i;
+      packed = packed i;
       trace = trace i;
       summary = summary i;
     }

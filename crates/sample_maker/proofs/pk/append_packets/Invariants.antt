@@ -6,6 +6,6 @@ use Rattle.sample_maker.proofs.pk.append_packets.Given as goal
 
 abbrev pub invariant-loop-i : goal.invariant-loop-i
 invariant-loop-i l = record {
-  items : l.out.items ≡ l.fn.out.items ++ flat_map packet_item (take l.i l.glyphs);
-  measured : All IsMeasured (take l.i l.glyphs);
+  items : l.out.items ≡ l.fn.out.items ++ flat_map (packet_item l.coding) (take l.i l.glyphs);
+  measured : All (IsMeasured l.coding) (take l.i l.glyphs);
 }

@@ -1,13 +1,9 @@
-use Rattle.sample_maker.specs.Sample.{bar_pk, bar_tfm, dot_pk, dot_tfm, duo_tfm, duo_vf, sample_files}
+use Rattle.sample_maker.specs.Sample.{bar_pk, dot_pk, sample_files}
 use Rattle.sample_maker.proofs.SampleParts.{one_file}
 use Rattle.sample_maker.proofs.sample_files.library.Goals as goal
 
 pub returns : goal.returns
-unfolding sample_files duo_tfm dot_tfm bar_tfm dot_pk bar_pk
+unfolding sample_files dot_pk bar_pk
 returns c =
-    let one = one_file _ _ _ _ _ bar_pk c.in_ok-add.ensures c.new-files.ensures c.in_ok-bar_pk.ensures.items in
-    let two = one_file _ _ _ _ _ dot_pk c.in_ok-add-2.ensures one c.in_ok-dot_pk.ensures.items in
-    let three = one_file _ _ _ _ _ duo_vf c.in_ok-add-3.ensures two c.in_ok-duo_vf.ensures in
-    let four = one_file _ _ _ _ _ bar_tfm c.in_ok-add-4.ensures three c.in_ok-bar_tfm.ensures.bytes in
-    let five = one_file _ _ _ _ _ dot_tfm c.in_ok-add-5.ensures four c.in_ok-dot_tfm.ensures.bytes in
-    one_file _ _ _ _ _ duo_tfm c.in_ok-add-6.ensures five c.in_ok-duo_tfm.ensures.bytes
+    let one = one_file _ _ _ _ _ bar_pk c.in_ok-add.ensures c.in_ok-files.ensures c.in_ok-bar_pk.ensures.items in
+    one_file _ _ _ _ _ dot_pk c.in_ok-add-2.ensures one c.in_ok-dot_pk.ensures.items

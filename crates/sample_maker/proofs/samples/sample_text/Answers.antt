@@ -1,10 +1,11 @@
 use Rattle.std.proofs.Common.{◌≡◌, ◌∙◌, ℕ, suc, ℤ, List, [], ◌∷◌, Vec, Global, ap, length, map, refl, sym, subst, arith}
 use Rattle.std.specs.List.{AllByRecursion}
+use Rattle.std.proofs.lemmas.Result.{IfOk-weaker}
 use Rattle.outside.specs.declared.keys.FontKey.{FontKey}
 use Rattle.sample_maker.specs.DviFile.{IsPageText, document_text}
 use Rattle.sample_maker.specs.Sample.{sample_document, sample_fonts, sample_pages, sample_units}
 use Rattle.sample_maker.proofs.SampleMade.{document_short, pages_are, pages_count}
-use Rattle.sample_maker.proofs.samples.sample.Goals as goal
+use Rattle.sample_maker.proofs.samples.sample_text.Goals as goal
 
 as_many : (pages : List (Vec ℕ Global)) → length (map (λ page. page.items) pages) ≡ length pages
 as_many [] = refl
@@ -34,8 +35,8 @@ document-requires-clause-fits c =
     let same = same_text c.args.n c.in_ok-fonts.fonts _ c.in_ok-fonts.ensures pages in
     omega (arith, ap length same, document_short c.args.n, c.requires.few)
 
-pub returns-clause-document : goal.returns-clause-document
+pub returns : goal.returns
 unfolding sample_document
-returns-clause-document c =
+returns c =
     let pages = told c.args.n c.deref.result.now c.in_ok-pages.pages.items c.deref.ensures.value c.in_ok-pages.ensures in
-    c.in_ok-document.ensures.bytes ∙ same_text c.args.n c.in_ok-fonts.fonts _ c.in_ok-fonts.ensures pages
+    record { document = IfOk-weaker c.document.result _ _ (λ text e. e ∙ same_text c.args.n c.in_ok-fonts.fonts _ c.in_ok-fonts.ensures pages) c.document.ensures.bytes }
