@@ -4,6 +4,7 @@ ghost use Rattle.outside.specs.Counts.{HasCause};
 ghost use Rattle.outside.specs.FontKeys.{IsFontKey};
 ghost use Rattle.pixel_round.specs.Preamble.{AreUnits};
 ghost use Rattle.font_decode.specs.Files.{bytes_of, IsFound, IsInOrder};
+ghost use Rattle.font_decode.specs.Loads.{MAX_LOADS};
 ghost use Rattle.page_workers.specs.Counts.{CountedLoads};
 
 use font_decode::{Files, fetch};
@@ -76,7 +77,7 @@ fn fetch_lent<'a, K: Loan, F: FontSource>(
     ensures library { F.library result.now ≡ F.library source.old }
     ensures cause { HasCause (F.faults source.old) (F.faults result.now)
         (IsErrOf fetched.new.files LoadStop.Failed) }
-    ensures few { fetched.new.loads ≤ 5 }
+    ensures few { fetched.new.loads ≤ MAX_LOADS }
     ensures counted { CountedLoads (F.loads source.old) fetched.new.loads (F.loads result.now) }
 {
     let mut counting = Counting::<F, K> {
@@ -101,7 +102,7 @@ pub struct Fetched {
     pub loads: u64,
 }
 
-/// Fetches the files of a font, and answers how many loads it asked of the source: at most five.
+/// Fetches the files of a font, and answers how many loads it asked of the source: at most eight.
 /// `Failed` comes only where the source's count of faults rose, `NoMemory` where memory ran out.
 pub fn fetch_counted<F: FontSource>(
     alloc: Global,
@@ -117,7 +118,7 @@ pub fn fetch_counted<F: FontSource>(
     ensures library { F.library source.new ≡ F.library source.old }
     ensures cause { HasCause (F.faults source.old) (F.faults source.new)
         (IsErrOf result.files LoadStop.Failed) }
-    ensures few { result.loads ≤ 5 }
+    ensures few { result.loads ≤ MAX_LOADS }
     ensures counted { CountedLoads (F.loads source.old) result.loads (F.loads source.new) }
 {
     let mut fetched = Fetched {

@@ -7,6 +7,7 @@ ghost use Rattle.pixel_round.specs.Preamble.{AreUnits};
 ghost use Rattle.font_decode.specs.Files.{bytes_of, IsFound, IsInOrder};
 ghost use Rattle.font_decode.specs.Decoding.{IsFontOf};
 ghost use Rattle.font_decode.specs.Desks.{Loaded};
+ghost use Rattle.font_decode.specs.Loads.{MAX_LOADS};
 
 use crate::counting::{Fetched, fetch_counted};
 use font_decode::{Decoded, DeskStop, Files, decode};
@@ -32,8 +33,9 @@ fn files_of<F: FontSource>(
     ensures library { F.library source.new ≡ F.library source.old }
     ensures cause { HasCause (F.faults source.old) (F.faults source.new)
         (IsErrOf result DeskStop.SourceFault) }
-    ensures loaded { Loaded 5 (F.loads source.old) (F.loads source.new) loads.old loads.new }
-    ensures few { loads.new ≤ loads.old + 5 }
+    ensures loaded { Loaded MAX_LOADS (F.loads source.old) (F.loads source.new) loads.old
+        loads.new }
+    ensures few { loads.new ≤ loads.old + MAX_LOADS }
 {
     let Fetched {
         files,
@@ -47,7 +49,7 @@ fn files_of<F: FontSource>(
     }
 }
 
-/// Loads and decodes the font of a key, and adds the loads that it asked for, at most five, to the
+/// Loads and decodes the font of a key, and adds the loads that it asked for, at most eight, to the
 /// count. A fault of the font is an answer. `SourceFault` comes only where the source's count of
 /// faults rose, `NoMemory` where memory ran out.
 pub fn load<F: FontSource>(
@@ -65,8 +67,9 @@ pub fn load<F: FontSource>(
     ensures library { F.library source.new ≡ F.library source.old }
     ensures cause { HasCause (F.faults source.old) (F.faults source.new)
         (IsErrOf result DeskStop.SourceFault) }
-    ensures loaded { Loaded 5 (F.loads source.old) (F.loads source.new) loads.old loads.new }
-    ensures few { loads.new ≤ loads.old + 5 }
+    ensures loaded { Loaded MAX_LOADS (F.loads source.old) (F.loads source.new) loads.old
+        loads.new }
+    ensures few { loads.new ≤ loads.old + MAX_LOADS }
 {
     let files = files_of(alloc, source, loads, key, units)?;
     let Ok(decoded) = decode(alloc, key, &files, units) else {
