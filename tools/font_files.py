@@ -1,7 +1,8 @@
-"""Making of PK files for tools/collect-fonts: by which mode of METAFONT, and where they are kept."""
+"""Making of PK and GF files for tools/collect-fonts: by which mode of METAFONT, and where they are kept."""
 import os, re, shutil, subprocess, tempfile
 
 from dvi_files import MAX_FONT, Refused, judge_tfm, virtual_fonts
+from gf_files import judge_gf
 from pk_files import checksum, judge_pk, reduced
 
 # The modes of METAFONT by their resolutions: first those that mktexpk chooses by itself, then what else modes.mf has in square dots.
@@ -15,7 +16,7 @@ SCALED, BASE = 'ljfour', 600
 # METAFONT fails at most letters in fewer dots to the inch than these, and at some in fewer than twice as many: those are made of ones
 # in four times as many or more.
 FEWEST = 50
-JUDGES = {'tfm': judge_tfm, 'vf': virtual_fonts, 'pk': judge_pk}
+JUDGES = {'tfm': judge_tfm, 'vf': virtual_fonts, 'pk': judge_pk, 'gf': judge_gf}
 
 
 def fault_of(kind, path):
@@ -82,7 +83,7 @@ def copy(source, path):
 
 
 class Maker:
-    """Makes PK files by mktexpk in folders of its own, and keeps them in the cache."""
+    """Makes PK files by mktexpk in folders of its own, and keeps them in the cache; without gftopk, GF files by METAFONT."""
 
     def __init__(self, resolution):
         self.resolution, self.here = resolution, os.getcwd()
@@ -110,15 +111,29 @@ class Maker:
     def mktexpk(self, font, dpi, room):
         """The PK file that mktexpk makes, or None with the last line that it said. Of an outline it makes one by gsftopk; where that
         fails, as on Debian 12, by ps2pk."""
-        # mktexpk leaves the log of a failed run in the current folder, so that one is the room; fonts in ours are still found.
-        paths = {name: f'{self.here}:{os.environ.get(name, "")}' for name in ('MFINPUTS', 'T1FONTS', 'ENCFONTS', 'TFMFONTS')}
         said = ''
         for more in ({}, {'ps_to_pk': 'ps2pk'}):
-            lines, last = run(*mktexpk_words(dpi, self.resolution), '--destdir', room, font, cwd=room, env={**os.environ, **paths, **more})
+            lines, last = run(*mktexpk_words(dpi, self.resolution), '--destdir', room, font, cwd=room, env={**self.environment(), **more})
             if lines and os.path.isfile(lines[-1]):
                 return lines[-1], ''
             said = said or last
         return None, said
+
+    def environment(self):
+        # What fails leaves its log in the current folder, so that one is the room; fonts in ours are still found.
+        paths = {name: f'{self.here}:{os.environ.get(name, "")}' for name in ('MFINPUTS', 'T1FONTS', 'ENCFONTS', 'TFMFONTS')}
+        return {**os.environ, **paths}
+
+    def metafont(self, font, dpi, room):
+        """The GF file that METAFONT makes, or None; not where gftopk is, by which mktexpk makes a PK file."""
+        program = shutil.which('mf-nowin') or shutil.which('mf')
+        if shutil.which('gftopk') or not program or dpi < FEWEST:
+            return None
+        mode, base, _ = mode_of(self.resolution)
+        name = ['-progname=mf'] if program.endswith('mf-nowin') else []
+        run(program, *name, rf'\mode:={mode}; mag:={dpi // base}+{dpi % base}/{base}; nonstopmode; input {font}', cwd=room, env=self.environment())
+        path = os.path.join(room, f'{font}.{dpi}gf')
+        return path if os.path.isfile(path) else None
 
     def made(self, font, dpi, room):
         """As mktexpk, and at few dots to the inch a file that is reduced from one of more dots."""

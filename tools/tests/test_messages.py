@@ -27,6 +27,7 @@ class Messages(unittest.TestCase):
             ('| WidthZero |', '| WidthOdd(c) | it is odd |\n| WidthZero |', 'tfm width odd C'),
             ('Overrun (a run', 'Loop(row) (it turns), Overrun (a run', 'pk runs C loop ROW'),
             ('FontTooBig (the rasters of all packets', 'NoGlyphs (none is there), FontTooBig (the rasters of all packets', 'pk no glyphs'),
+            ('Outside(code) (a paint', 'Loose(code) (it floats), Outside(code) (a paint', 'gf loose C'),
             ('| 6 | `dvipbm: input failed` |', '| 6 | `dvipbm: input failed` | . |\n| 8 | `dvipbm: lost` |', 'dvipbm: lost'),
         ):
             self.assertEqual(formats.count(old), 1, old)

@@ -7,7 +7,7 @@ use Rattle.outside.specs.Library.{FileTable}
 use Rattle.cache_core.specs.declared.calls.Call.{Call}
 use Rattle.cache_core.specs.Histories.{own}
 use Rattle.font_decode.specs.Desks.{misses}
-use Rattle.font_decode.specs.Loads.{RoseUpTo}
+use Rattle.font_decode.specs.Loads.{RoseUpTo, MAX_LOADS}
 use Rattle.page_index.specs.Document.{Reading}
 use Rattle.page_workers.specs.declared.worker.Worker.{Worker}
 use Rattle.sample_maker.specs.Sample.{sample_files}
@@ -51,7 +51,7 @@ module _ {F G : Type 0} (mine : Worker G) (was now : Worker F) (h : TookResults 
     answered = w.answered;
     last = w.last;
     kept = w.kept;
-    loaded = subst (λ (m : ℕ). RoseUpTo (5 * misses calls) m now.loads) (none ∙ sym ready.fresh.loads) (subst (λ (m : ℕ). RoseUpTo (5 * misses calls) first.loads m) (sym h.loads) w.loaded.counted);
+    loaded = subst (λ (m : ℕ). RoseUpTo (MAX_LOADS * misses calls) m now.loads) (none ∙ sym ready.fresh.loads) (subst (λ (m : ℕ). RoseUpTo (MAX_LOADS * misses calls) first.loads m) (sym h.loads) w.loaded.counted);
   }
 
   answered_handed : (known : Option FileTable) (pages : ℕ) (settings : Settings) (reading : Reading) (history : List Call) (status k : ℕ) → Answered (task_for_sample None (Some sample_files) settings) reading history status k mine

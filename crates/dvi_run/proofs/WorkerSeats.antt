@@ -11,6 +11,7 @@ use Rattle.page_index.specs.Pages.{document_units}
 use Rattle.turn_lock.specs.Seats.{SeatView}
 use Rattle.pixel_round.specs.Preamble.{AreUnits}
 use Rattle.font_decode.specs.Desks.{Trail, TrailGrew, SeatAnsweredFor, ReleasedLast, Loaded, misses}
+use Rattle.font_decode.specs.Loads.{MAX_LOADS}
 use Rattle.page_workers.specs.declared.worker.Worker.{Worker}
 use Rattle.page_workers.specs.Seats.{SeatFits, BenchFits, own_calls, asked_at, trail_at, room_at, library_at, units_at}
 use Rattle.page_workers.specs.Seating.{WasSeated, MayLeave}
@@ -131,11 +132,11 @@ module _ {F : Type 0} (s : Site F) (part : Common) (known : part.library ≡ s.g
             subst (λ (ps : List ℕ). WholeLooks (finding s.given s.reading) (indexed_of s.given s.reading) s.given.sheet ps answers.keys) (sym pages)
             (subst (λ (ks : List FontKey). WholeLooks (finding s.given s.reading) (indexed_of s.given s.reading) s.given.sheet now.pages.items ks) keys_here (through e));
         loaded =
-            subst (λ (l : List Call). Loaded (5 * misses l) (s.loads w.source) (s.loads after.source) w.loads after.loads) (sym own_here)
-            (subst (λ (x : F). Loaded (5 * misses answers.answers.calls) (s.loads w.source) (s.loads x) w.loads after.loads) (sym source)
-            (subst (λ (x : F). Loaded (5 * misses answers.answers.calls) (s.loads x) (s.loads now.source) w.loads after.loads) seated.same.source
-            (subst (λ (n : ℕ). Loaded (5 * misses answers.answers.calls) (s.loads start.source) (s.loads now.source) w.loads n) (sym loads)
-            (subst (λ (n : ℕ). Loaded (5 * misses answers.answers.calls) (s.loads start.source) (s.loads now.source) n now.loads) seated.same.loads answers.answers.loaded))));
+            subst (λ (l : List Call). Loaded (MAX_LOADS * misses l) (s.loads w.source) (s.loads after.source) w.loads after.loads) (sym own_here)
+            (subst (λ (x : F). Loaded (MAX_LOADS * misses answers.answers.calls) (s.loads w.source) (s.loads x) w.loads after.loads) (sym source)
+            (subst (λ (x : F). Loaded (MAX_LOADS * misses answers.answers.calls) (s.loads x) (s.loads now.source) w.loads after.loads) seated.same.source
+            (subst (λ (n : ℕ). Loaded (MAX_LOADS * misses answers.answers.calls) (s.loads start.source) (s.loads now.source) w.loads n) (sym loads)
+            (subst (λ (n : ℕ). Loaded (MAX_LOADS * misses answers.answers.calls) (s.loads start.source) (s.loads now.source) n now.loads) seated.same.loads answers.answers.loaded))));
       }
 
   leaves : (now : Worker F) (ended : AfterRounds s start now) (o : Option SeatView) → now.seat ≡ o → BenchFits (s.library now.source) s.bench o → MayLeave s.bench.cache k now

@@ -1,11 +1,14 @@
 -- What is wrong with a font's files, in words.
 use Rattle.std.specs.Prelude.{ℕ, List, ◌++◌, codes, decimal}
+use Rattle.std.specs.Fmt.{signed_decimal}
 use Rattle.tfm_reader.specs.declared.faults.TfmFault.{TfmFault}
 use Rattle.tfm_reader.specs.declared.faults.TfmFault.TheVariants as tfm
 use Rattle.pk_runs.specs.declared.faults.RunFault.{RunFault}
 use Rattle.pk_runs.specs.declared.faults.RunFault.TheVariants as runs
 use Rattle.pk_packets.specs.declared.faults.PkFault.{PkFault}
 use Rattle.pk_packets.specs.declared.faults.PkFault.TheVariants as pk
+use Rattle.gf_reader.specs.declared.faults.GfFault.{GfFault}
+use Rattle.gf_reader.specs.declared.faults.GfFault.TheVariants as gf
 use Rattle.font_decode.specs.declared.faults.FileKind.{FileKind}
 use Rattle.font_decode.specs.declared.faults.FileKind.TheVariants as kind
 use Rattle.font_decode.specs.declared.faults.FontFault.{FontFault}
@@ -34,16 +37,26 @@ pk_text (pk.Runs c fault) = codes "runs " ++ decimal c ++ codes " " ++ raster_te
 pk_text pk.FontTooBig = codes "font too big"
 pk_text (pk.Length c) = codes "length " ++ decimal c
 
+abbrev pub gf_text : GfFault → List ℕ
+gf_text gf.Short = codes "short"
+gf_text gf.Preamble = codes "preamble"
+gf_text (gf.Misplaced op) = codes "misplaced " ++ decimal op
+gf_text (gf.TooBig c) = codes "too big " ++ signed_decimal c
+gf_text (gf.Outside c) = codes "outside " ++ signed_decimal c
+gf_text gf.FontTooBig = codes "font too big"
+
 abbrev pub kind_text : FileKind → List ℕ
 kind_text kind.Tfm = codes "tfm"
 kind_text kind.Vf = codes "vf"
 kind_text kind.Pk = codes "pk"
+kind_text kind.Gf = codes "gf"
 
 abbrev pub font_text : FontFault → List ℕ
 font_text (font.Missing kind) = codes "missing " ++ kind_text kind
 font_text (font.Tfm fault) = codes "tfm " ++ tfm_text fault
 font_text (font.Vf fault) = codes "vf " ++ vf_text fault
 font_text (font.Pk fault) = codes "pk " ++ pk_text fault
+font_text (font.Gf fault) = codes "gf " ++ gf_text fault
 font_text font.Name = codes "name"
 font_text font.Size = codes "size"
 font_text (font.TooLong kind) = codes "too long " ++ kind_text kind

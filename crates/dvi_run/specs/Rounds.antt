@@ -13,6 +13,7 @@ use Rattle.turn_lock.specs.Seats.{SeatView}
 use Rattle.cache_core.specs.declared.calls.Call.{Call}
 use Rattle.cache_core.specs.Histories.{own, SeatCalls, NoneReleased, looks}
 use Rattle.font_decode.specs.Desks.{TrailGrew, ReleasedLast, Loaded, misses}
+use Rattle.font_decode.specs.Loads.{MAX_LOADS}
 use Rattle.vf_expand.specs.Faults.{value_of_fault}
 use Rattle.page_draw.specs.Values.{fault_at}
 use Rattle.page_draw.specs.declared.sheet.Sheet.{Sheet}
@@ -164,7 +165,7 @@ pub record IsFresh {F : Type 0} (library : F → Option FileTable) (known : Opti
 
 -- what a worker did in a run, by the calls of its seat in the history: they answer the look-ups of
 -- the pages that it drew, a claim is given up at their end alone, and nowhere where the run is
--- whole, nor is a page broken off then, and it loaded at most five files for each look that was no
+-- whole, nor is a page broken off then, and it loaded at most eight files for each look that was no
 -- hit. It has neither a seat nor a result any more, and its source has the library that the run
 -- knows
 pub record WorkerRan {F : Type 0} (Whole : Type 0) (library : F → Option FileTable)
@@ -184,5 +185,5 @@ pub record WorkerRan {F : Type 0} (Whole : Type 0) (library : F → Option FileT
   pub whole : Whole → NoneReleased (own number history)
   pub drawn_out : Whole → WholeLooks (finding g reading) (indexed_of g reading)
       g.sheet after.pages.items keys
-  pub loaded : Loaded (5 * misses (own number history)) (loads before.source)
+  pub loaded : Loaded (MAX_LOADS * misses (own number history)) (loads before.source)
       (loads after.source) before.loads after.loads

@@ -10,6 +10,7 @@ use Rattle.cache_core.specs.Machine.{Legal}
 use Rattle.cache_core.specs.Solo.{solo_history}
 use Rattle.turn_lock.specs.Histories.{AllMade}
 use Rattle.font_decode.specs.Desks.{ReleasedLast, misses}
+use Rattle.font_decode.specs.Loads.{MAX_LOADS}
 use Rattle.page_index.specs.Document.{Reading, pages_begun}
 use Rattle.page_draw.specs.Values.{PageValue}
 use Rattle.page_workers.specs.SparePages.{HasNoSparePages}
@@ -94,10 +95,10 @@ pub record WorkerDone {F : Type 0} (task : Task) (sources : Sources F) (status :
   -- a claim is given up at their end alone, and nowhere in a run that ends well
   pub last : ReleasedLast calls
   pub kept : EveryPageCameToItsEndBy task.settings.workers status → NoneReleased calls
-  -- it loaded at most five files for each look that was no hit, and its source counts as many,
+  -- it loaded at most eight files for each look that was no hit, and its source counts as many,
   -- other than for the sample
-  pub loaded : LoadedForSample task.settings.sample (5 * misses calls) (sources.loads before.source)
-      (sources.loads after.source) before.loads after.loads
+  pub loaded : LoadedForSample task.settings.sample (MAX_LOADS * misses calls)
+      (sources.loads before.source) (sources.loads after.source) before.loads after.loads
 
 -- the calls of a used worker's seat answer the look-ups of the pages that it drew, one page after
 -- another; its place among the workers is counted from 0

@@ -5,6 +5,8 @@ use Rattle.std.proofs.lemmas.Bool.{true≢false}
 use Rattle.outside.specs.declared.keys.FontKey.{FontKey}
 use Rattle.pixel_round.specs.declared.units.Units.{Units}
 use Rattle.pk_packets.proofs.OneMeaning.{answers_are_one, files_have_no_fault, first_faults_are_one}
+use Rattle.gf_reader.proofs.OneMeaning as gf_file
+use Rattle.gf_reader.specs.Characters.{Character, glyph_for}
 use Rattle.tfm_reader.specs.Tfm.{tfm_fault}
 use Rattle.vf_reader.specs.declared.faults.VfFault.{VfFault}
 use Rattle.vf_reader.proofs.OneMeaning as vf_file
@@ -12,9 +14,9 @@ use Rattle.font_decode.specs.Names.{is_valid_name, dpi, is_resolution}
 use Rattle.font_decode.specs.Files.{FontFiles}
 use Rattle.font_decode.specs.Fonts.{FontValue, first_in, glyph_at, glyph_in, is_virtual_shape, local_in, packet_in}
 use Rattle.font_decode.specs.declared.shapes.Shapes.{Shapes}
-use Rattle.font_decode.specs.declared.shapes.Shapes.TheVariants.{Packed, Virtual}
+use Rattle.font_decode.specs.declared.shapes.Shapes.TheVariants.{Packed, Generic, Virtual}
 use Rattle.font_decode.specs.Laws.{OneIsFound, OneOfItsFiles, OneInALibrary}
-use Rattle.font_decode.specs.Decoding.{IsPackedFont, IsVirtualFont, is_too_long, DecodesPk, DecodesShortPk, DecodesPacked, DecodesItems, DecodesVf, DecodesShortVf, DecodesSound, DecodesTfm, IsDecodingOf, AreAlike, AreAlikeFonts}
+use Rattle.font_decode.specs.Decoding.{IsPackedFont, IsGenericFont, IsVirtualFont, is_too_long, DecodesPk, DecodesShortPk, DecodesGf, DecodesShortGf, DecodesGlyphs, DecodesPacked, DecodesItems, DecodesVf, DecodesShortVf, DecodesSound, DecodesTfm, IsDecodingOf, AreAlike, AreAlikeFonts}
 use Rattle.font_decode.specs.declared.font_or_fault.Decoded.{Decoded}
 use Rattle.font_decode.specs.declared.font_or_fault.Decoded.TheVariants.{Font, Fault}
 use Rattle.font_decode.specs.declared.faults.FontFault.{FontFault}
@@ -42,18 +44,22 @@ one_of_option (Some a) P Q p q d e x y = q a d e x y
 -- a packed font has no packets and no local fonts, and a virtual font no glyphs
 no_packet : (s : Shapes) (c : ℕ) → is_virtual_shape s ≡ false → packet_in s c ≡ None
 no_packet (Packed glyphs) c packed = refl
+no_packet (Generic glyphs) c packed = refl
 no_packet (Virtual file keys) c packed = cc
 
 no_local : (s : Shapes) (n : ℤ) → is_virtual_shape s ≡ false → local_in s n ≡ None
 no_local (Packed glyphs) n packed = refl
+no_local (Generic glyphs) n packed = refl
 no_local (Virtual file keys) n packed = cc
 
 no_first : (s : Shapes) → is_virtual_shape s ≡ false → first_in s ≡ None
 no_first (Packed glyphs) packed = refl
+no_first (Generic glyphs) packed = refl
 no_first (Virtual file keys) packed = cc
 
 no_glyph : (s : Shapes) (c : ℕ) → is_virtual_shape s ≡ true → glyph_in s c ≡ None
 no_glyph (Packed glyphs) c virtual = cc
+no_glyph (Generic glyphs) c virtual = cc
 no_glyph (Virtual file keys) c virtual = refl
 
 -- the fonts of two sound files are alike
@@ -63,6 +69,19 @@ alike_fonts k tfm pk f g p q = record {
   widths = λ c. p.widths c ∙ sym (q.widths c);
   virtual = p.packed ∙ sym q.packed;
   glyphs = λ c. answers_are_one pk p.items q.items c (glyph_at f c) (glyph_at g c) p.file q.file (p.glyphs c) (q.glyphs c);
+  packets = λ c. no_packet f.shapes c p.packed ∙ sym (no_packet g.shapes c q.packed);
+  locals = λ n. no_local f.shapes n p.packed ∙ sym (no_local g.shapes n q.packed);
+  first = no_first f.shapes p.packed ∙ sym (no_first g.shapes q.packed);
+}
+
+alike_generic : (k : FontKey) (tfm gf : List ℕ) (f g : FontValue) → IsGenericFont k tfm gf f → IsGenericFont k tfm gf g → AreAlikeFonts f g
+alike_generic k tfm gf f g p q = record {
+  size = p.size ∙ sym q.size;
+  widths = λ c. p.widths c ∙ sym (q.widths c);
+  virtual = p.packed ∙ sym q.packed;
+  glyphs = λ c.
+      p.glyphs c ∙ ap (λ (characters : List Character). glyph_for characters c) (gf_file.characters_are_one gf p.characters q.characters p.file q.file)
+      ∙ sym (q.glyphs c);
   packets = λ c. no_packet f.shapes c p.packed ∙ sym (no_packet g.shapes c q.packed);
   locals = λ n. no_local f.shapes n p.packed ∙ sym (no_local g.shapes n q.packed);
   first = no_first f.shapes p.packed ∙ sym (no_first g.shapes q.packed);
@@ -85,12 +104,24 @@ one_of_pk k tfm pk (Font f) (Fault g) p q = files_have_no_fault pk p.items q.0 p
 one_of_pk k tfm pk (Fault f) (Font g) p q = files_have_no_fault pk q.items p.0 q.file p.1
 one_of_pk k tfm pk (Fault f) (Fault g) p q = p.2 ∙ ap fault.Pk (first_faults_are_one pk p.0 q.0 p.1 q.1) ∙ sym q.2
 
+one_of_gf : (k : FontKey) (tfm gf : List ℕ) → IsOne (DecodesGf k tfm gf)
+one_of_gf k tfm gf (Font f) (Font g) p q = alike_generic k tfm gf f g p q
+one_of_gf k tfm gf (Font f) (Fault g) p q = gf_file.files_have_no_fault gf p.characters q.0 p.file q.1
+one_of_gf k tfm gf (Fault f) (Font g) p q = gf_file.files_have_no_fault gf q.characters p.0 q.file p.1
+one_of_gf k tfm gf (Fault f) (Fault g) p q = p.2 ∙ ap fault.Gf (gf_file.first_faults_are_one gf p.0 q.0 p.1 q.1) ∙ sym q.2
+
 module _ (u : Units) (k : FontKey) where
   one_of_short_pk : (tfm pk : List ℕ) → IsOne (DecodesShortPk k tfm pk)
   one_of_short_pk tfm pk = one_of_two (is_too_long pk) _ _ (one_fault _) (one_of_pk k tfm pk)
 
-  one_of_packed : (tfm : List ℕ) (pk : Option (List ℕ)) → IsOne (DecodesPacked u k tfm pk)
-  one_of_packed tfm pk = one_of_two (is_resolution (dpi u k)) _ _ (one_of_option pk _ _ (one_fault _) (one_of_short_pk tfm)) (one_fault _)
+  one_of_short_gf : (tfm gf : List ℕ) → IsOne (DecodesShortGf k tfm gf)
+  one_of_short_gf tfm gf = one_of_two (is_too_long gf) _ _ (one_fault _) (one_of_gf k tfm gf)
+
+  one_of_glyphs : (tfm : List ℕ) (files : FontFiles) → IsOne (DecodesGlyphs k tfm files)
+  one_of_glyphs tfm files = one_of_option files.pk _ _ (one_of_option files.gf _ _ (one_fault _) (one_of_short_gf tfm)) (one_of_short_pk tfm)
+
+  one_of_packed : (tfm : List ℕ) (files : FontFiles) → IsOne (DecodesPacked u k tfm files)
+  one_of_packed tfm files = one_of_two (is_resolution (dpi u k)) _ _ (one_of_glyphs tfm files) (one_fault _)
 
   one_of_items : (tfm : List ℕ) (items : List (List ℕ)) → IsOne (DecodesItems u k tfm items)
   one_of_items tfm items (Font f) (Font g) p q = alike_virtual u k tfm items f g p.1 q.1
@@ -110,7 +141,7 @@ module _ (u : Units) (k : FontKey) where
   one_of_short_vf tfm vf = one_of_two (is_too_long vf) _ _ (one_fault _) (one_of_vf tfm vf)
 
   one_of_sound : (tfm : List ℕ) (files : FontFiles) → IsOne (DecodesSound u k tfm files)
-  one_of_sound tfm files = one_of_option files.vf _ _ (one_of_packed tfm files.pk) (one_of_short_vf tfm)
+  one_of_sound tfm files = one_of_option files.vf _ _ (one_of_packed tfm files) (one_of_short_vf tfm)
 
   one_of_tfm : (tfm : List ℕ) (files : FontFiles) → IsOne (DecodesTfm u k tfm files)
   one_of_tfm tfm files = one_of_two (is_too_long tfm) _ _ (one_fault _) (one_of_option (tfm_fault tfm) _ _ (one_of_sound tfm files) (λ f. one_fault _))

@@ -1,15 +1,15 @@
 -- The names that were asked for, call by call.
 use Rattle.std.proofs.Common.{◌≡◌, ◌∙◌, ◌≤◌, ◌+◌, inl, inr, ℕ, zero, suc, Bool, true, false, List, [], ◌∷◌, ◌++◌, length, take, Option, Some, None, refl, sym, ap, subst, append_assoc, append-nil, arith}
 use Rattle.std.specs.Option.{option_map}
-use Rattle.std.specs.Prelude.{◌-◌, ◌^◌, ◌<◌, not, min, IfOk, IfSome, OnErr, OnOk, Result, Ok, Err, IsSome, IsTrue, is_some, is_none, if◌then◌else◌}
+use Rattle.std.specs.Prelude.{◌-◌, ◌^◌, ◌<◌, not, min, IfOk, IfSome, OnErr, OnOk, Result, Ok, Err, IsSome, IsNone, IsTrue, is_some, is_none, if◌then◌else◌}
 use Rattle.std.specs.FinMap.{get}
 use Rattle.std.proofs.Math.Seq.{take-append-add}
 use Rattle.outside.specs.Library as library
 use Rattle.outside.specs.Library.{Asks, Names}
 use Rattle.outside.specs.declared.keys.FontKey.{FontKey}
 use Rattle.pixel_round.specs.declared.units.Units.{Units}
-use Rattle.font_decode.specs.Names.{is_valid_name, dpi, is_resolution, tfm_name, vf_name, pk_names}
-use Rattle.font_decode.specs.Files.{up_to_there, pk_choices, looked_for, fewest_pk, most_pk, IsInOrder}
+use Rattle.font_decode.specs.Names.{is_valid_name, dpi, is_resolution, tfm_name, vf_name}
+use Rattle.font_decode.specs.Files.{up_to_there, glyph_choices, looked_for, fewest_glyphs, most_glyphs, IsInOrder}
 use Rattle.font_decode.specs.Loads.{RoseBy, RoseUpTo, RoseWithin}
 use Rattle.font_decode.specs.Asked.{AskedFirst, AskedUntil}
 
@@ -100,7 +100,7 @@ pub on_err_then : {T E : Type 0} (r : Result T E) (P Q : Type 0) → (P → Q) �
 on_err_then (Ok x) P Q f p = tt
 on_err_then (Err e) P Q f p = f p
 
--- ---- three PK files
+-- ---- three files of glyphs
 
 pub second_until : (a b c : Names) (x y : List ℕ) (rest : List (List ℕ)) → Asks a b (x ∷ []) → AskedUntil b c (y ∷ []) → AskedUntil a c (x ∷ y ∷ rest)
 second_until a b c x y rest p q = until_later a b c (x ∷ []) (y ∷ rest) p (until_now b c y rest q)
@@ -130,13 +130,6 @@ below_asked (Ok found) a b c d x y z p q h = record {
     least true = omega arith
     least false = omega arith
 
-pub no_pk_asked : (u : Units) (k : FontKey) (a : Names) → is_resolution (dpi u k) ≡ false → AskedFirst (fewest_pk u k false) (most_pk u k) a a (pk_choices u k)
-no_pk_asked u k a e = by (is_resolution (dpi u k)) e
-  where
-    by : (near : Bool) → near ≡ false → AskedFirst (if not near then 0 else if false then 1 else 3) (if near then 3 else 0) a a (if near then pk_names u k else [])
-    by true h = absurd (cc)
-    by false h = record { count = 0; least = omega arith; most = omega arith; asked = asked_none a }
-
 -- ---- all the files of a font: by whether its name is valid, its TFM file is missing, and it has a VF file
 
 abbrev loads : Bool → Bool → Bool → ℕ → ℕ
@@ -161,15 +154,21 @@ is_there None true e f = absurd (cc)
 is_there None false e f = absurd (cc)
 is_there (Some v) r e f = refl
 
-pub pk_seen : {V : Type 0} (seen : V → List ℕ) (pk : Option V) (u : Units) (k : FontKey) (a b : Names) (names : List (List ℕ))
-    → AskedFirst (fewest_pk u k (is_some pk)) (most_pk u k) a b names → AskedFirst (fewest_pk u k (is_some (option_map seen pk))) (most_pk u k) a b names
-pk_seen seen None u k a b names p = p
-pk_seen seen (Some v) u k a b names p = p
+pub glyphs_seen : {V : Type 0} (seen : V → List ℕ) (pk gf : Option V) (u : Units) (k : FontKey) (a b : Names) (names : List (List ℕ))
+    → AskedFirst (fewest_glyphs u k (is_some pk) (is_some gf)) (most_glyphs u k (is_some pk)) a b names
+    → AskedFirst (fewest_glyphs u k (is_some (option_map seen pk)) (is_some (option_map seen gf))) (most_glyphs u k (is_some (option_map seen pk))) a b names
+glyphs_seen seen None None u k a b names p = p
+glyphs_seen seen None (Some g) u k a b names p = p
+glyphs_seen seen (Some v) None u k a b names p = p
+glyphs_seen seen (Some v) (Some g) u k a b names p = p
 
-pub pk_counted : {V : Type 0} (seen : V → List ℕ) (pk : Option V) (u : Units) (k : FontKey) (a b : ℕ)
-    → RoseWithin (fewest_pk u k (is_some pk)) (most_pk u k) a b → RoseWithin (fewest_pk u k (is_some (option_map seen pk))) (most_pk u k) a b
-pk_counted seen None u k a b p = p
-pk_counted seen (Some v) u k a b p = p
+pub glyphs_counted : {V : Type 0} (seen : V → List ℕ) (pk gf : Option V) (u : Units) (k : FontKey) (a b : ℕ)
+    → RoseWithin (fewest_glyphs u k (is_some pk) (is_some gf)) (most_glyphs u k (is_some pk)) a b
+    → RoseWithin (fewest_glyphs u k (is_some (option_map seen pk)) (is_some (option_map seen gf))) (most_glyphs u k (is_some (option_map seen pk))) a b
+glyphs_counted seen None None u k a b p = p
+glyphs_counted seen None (Some g) u k a b p = p
+glyphs_counted seen (Some v) None u k a b p = p
+glyphs_counted seen (Some v) (Some g) u k a b p = p
 
 pub nothing_asked : (valid no_tfm has_vf : Bool) (low high : ℕ) (a : Names) (x y : List ℕ) (pks : List (List ℕ)) → valid ≡ false
     → AskedFirst (loads valid no_tfm has_vf low) (loads valid no_tfm has_vf high) a a (chosen valid x y pks)
@@ -189,12 +188,12 @@ vf_asked true true has_vf low high a b c x y pks e f g p q = absurd (cc)
 vf_asked true false false low high a b c x y pks e f g p q = absurd (cc)
 vf_asked true false true low high a b c x y pks e f g p q = record { count = 2; least = omega arith; most = omega arith; asked = asked_twice a b c (x ∷ []) (y ∷ []) p q }
 
-pub pk_asked : (valid no_tfm has_vf : Bool) (low high : ℕ) (a b c d : Names) (x y : List ℕ) (pks : List (List ℕ)) → valid ≡ true → no_tfm ≡ false → has_vf ≡ false
+pub glyphs_asked : (valid no_tfm has_vf : Bool) (low high : ℕ) (a b c d : Names) (x y : List ℕ) (pks : List (List ℕ)) → valid ≡ true → no_tfm ≡ false → has_vf ≡ false
     → Asks a b (x ∷ []) → Asks b c (y ∷ []) → AskedFirst low high c d pks → AskedFirst (loads valid no_tfm has_vf low) (loads valid no_tfm has_vf high) a d (chosen valid x y pks)
-pk_asked false no_tfm has_vf low high a b c d x y pks e f g p q r = absurd (cc)
-pk_asked true true has_vf low high a b c d x y pks e f g p q r = absurd (cc)
-pk_asked true false true low high a b c d x y pks e f g p q r = absurd (cc)
-pk_asked true false false low high a b c d x y pks e f g p q r = first_later a c d (x ∷ y ∷ []) pks low high (asked_twice a b c (x ∷ []) (y ∷ []) p q) r
+glyphs_asked false no_tfm has_vf low high a b c d x y pks e f g p q r = absurd (cc)
+glyphs_asked true true has_vf low high a b c d x y pks e f g p q r = absurd (cc)
+glyphs_asked true false true low high a b c d x y pks e f g p q r = absurd (cc)
+glyphs_asked true false false low high a b c d x y pks e f g p q r = first_later a c d (x ∷ y ∷ []) pks low high (asked_twice a b c (x ∷ []) (y ∷ []) p q) r
 
 pub rose_all : (valid no_tfm has_vf : Bool) (low high a b c d : ℕ) → valid ≡ true → no_tfm ≡ false → has_vf ≡ false
     → RoseBy 1 a b → RoseUpTo 1 a b → RoseBy 1 b c → RoseUpTo 1 b c → RoseWithin low high c d → RoseWithin (loads valid no_tfm has_vf low) (loads valid no_tfm has_vf high) a d
@@ -212,12 +211,15 @@ rose_all true false false low high a b c d e f g p p2 q q2 r = record {
       omega arith;
 }
 
-pub in_order : {V : Type 0} (seen : V → List ℕ) (u : Units) (k : FontKey) (tfm vf pk : Option V) → is_valid_name k ≡ true → is_none tfm ≡ false → is_some vf ≡ false
-    → (IsSome pk → IsTrue (is_resolution (dpi u k))) → IsInOrder u k (record { tfm = option_map seen tfm; vf = option_map seen vf; pk = option_map seen pk })
-in_order seen u k None vf pk v f g r = absurd (cc)
-in_order seen u k (Some t) (Some w) pk v f g r = absurd (cc)
-in_order seen u k (Some t) None None v f g r = record { tfm = λ _. v; vf = λ no. absurd (cc); pk = λ no. absurd (cc) }
-in_order seen u k (Some t) None (Some p) v f g r = record { tfm = λ _. v; vf = λ no. absurd (cc); pk = λ _. (refl, refl, r refl) }
+pub in_order : {V : Type 0} (seen : V → List ℕ) (u : Units) (k : FontKey) (tfm vf pk gf : Option V) → is_valid_name k ≡ true → is_none tfm ≡ false → is_some vf ≡ false
+    → (IsSome pk → IsTrue (is_resolution (dpi u k))) → (IsSome gf → IsNone pk × IsTrue (is_resolution (dpi u k)))
+    → IsInOrder u k (record { tfm = option_map seen tfm; vf = option_map seen vf; pk = option_map seen pk; gf = option_map seen gf })
+in_order seen u k None vf pk gf v f g r q = absurd (cc)
+in_order seen u k (Some t) (Some w) pk gf v f g r q = absurd (cc)
+in_order seen u k (Some t) None None None v f g r q = record { tfm = λ _. v; vf = λ no. absurd (cc); pk = λ no. absurd (cc); gf = λ no. absurd (cc) }
+in_order seen u k (Some t) None None (Some h) v f g r q = record { tfm = λ _. v; vf = λ no. absurd (cc); pk = λ no. absurd (cc); gf = λ _. (refl, refl, refl, (q refl).1) }
+in_order seen u k (Some t) None (Some p) None v f g r q = record { tfm = λ _. v; vf = λ no. absurd (cc); pk = λ _. (refl, refl, r refl); gf = λ no. absurd (cc) }
+in_order seen u k (Some t) None (Some p) (Some h) v f g r q = let both = (q refl).0 in absurd (cc)
 
 -- ---- up to a stop, of all the files
 
@@ -252,20 +254,20 @@ module _ {V : Type 0} (seen : V → List ℕ) (u : Units) (k : FontKey) where
   pub told_first : (known : Option library.FileTable) (a b : Names) → is_valid_name k ≡ true → AskedUntil a b (tfm_name k ∷ []) → IfSome known (λ l. AskedUntil a b (looked_for l u k))
   told_first None a b v q = tt
   told_first (Some l) a b v q =
-      looked_first (is_valid_name k) (is_none (get l (tfm_name k))) (is_some (get l (vf_name k))) a b (tfm_name k) (vf_name k) (up_to_there l (pk_choices u k)) v q
+      looked_first (is_valid_name k) (is_none (get l (tfm_name k))) (is_some (get l (vf_name k))) a b (tfm_name k) (vf_name k) (up_to_there l (glyph_choices u k)) v q
 
   pub told_second : (known : Option library.FileTable) (tfm : Option V) (a b c : Names) → is_valid_name k ≡ true → is_none tfm ≡ false
       → IfSome known (λ l. option_map seen tfm ≡ get l (tfm_name k)) → Asks a b (tfm_name k ∷ []) → AskedUntil b c (vf_name k ∷ []) → IfSome known (λ l. AskedUntil a c (looked_for l u k))
   told_second None tfm a b c v f found p q = tt
   told_second (Some l) tfm a b c v f found p q =
       let there : is_none (get l (tfm_name k)) ≡ false = subst (λ (o : Option (List ℕ)). is_none o ≡ false) found (none_of seen tfm false f) in
-      looked_second (is_valid_name k) (is_none (get l (tfm_name k))) (is_some (get l (vf_name k))) a b c (tfm_name k) (vf_name k) (up_to_there l (pk_choices u k)) v there p q
+      looked_second (is_valid_name k) (is_none (get l (tfm_name k))) (is_some (get l (vf_name k))) a b c (tfm_name k) (vf_name k) (up_to_there l (glyph_choices u k)) v there p q
 
   pub told_third : (known : Option library.FileTable) (tfm vf : Option V) (a b c d : Names) → is_valid_name k ≡ true → is_none tfm ≡ false → is_some vf ≡ false
       → IfSome known (λ l. option_map seen tfm ≡ get l (tfm_name k)) → IfSome known (λ l. option_map seen vf ≡ get l (vf_name k))
-      → Asks a b (tfm_name k ∷ []) → Asks b c (vf_name k ∷ []) → IfSome known (λ l. AskedUntil c d (up_to_there l (pk_choices u k))) → IfSome known (λ l. AskedUntil a d (looked_for l u k))
+      → Asks a b (tfm_name k ∷ []) → Asks b c (vf_name k ∷ []) → IfSome known (λ l. AskedUntil c d (up_to_there l (glyph_choices u k))) → IfSome known (λ l. AskedUntil a d (looked_for l u k))
   told_third None tfm vf a b c d v f g found found_vf p q r = tt
   told_third (Some l) tfm vf a b c d v f g found found_vf p q r =
       let there : is_none (get l (tfm_name k)) ≡ false = subst (λ (o : Option (List ℕ)). is_none o ≡ false) found (none_of seen tfm false f) in
       let none : is_some (get l (vf_name k)) ≡ false = subst (λ (o : Option (List ℕ)). is_some o ≡ false) found_vf (some_of seen vf false g) in
-      looked_third (is_valid_name k) (is_none (get l (tfm_name k))) (is_some (get l (vf_name k))) a b c d (tfm_name k) (vf_name k) (up_to_there l (pk_choices u k)) v there none p q r
+      looked_third (is_valid_name k) (is_none (get l (tfm_name k))) (is_some (get l (vf_name k))) a b c d (tfm_name k) (vf_name k) (up_to_there l (glyph_choices u k)) v there none p q r

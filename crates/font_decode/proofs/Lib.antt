@@ -1,11 +1,14 @@
 pub mod Loaded
 pub mod Asking
+pub mod GlyphFiles
 pub mod KeyTables
 pub mod LocalKeys
 pub mod SoundVf
 pub mod VfTotal
+pub mod GfTotal
 pub mod NameBytes
 pub mod Distinct
+pub mod FewNames
 pub mod Alike
 pub mod Scaled
 pub mod Trails

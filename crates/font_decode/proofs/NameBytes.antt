@@ -10,9 +10,9 @@ use Rattle.std.proofs.lemmas.List.Elements.{All-append, All-cons, All-nil, All-s
 use Rattle.std.specs.Fmt.{digit_glyph, digits, digits_onto}
 use Rattle.outside.specs.declared.keys.FontKey.{FontKey}
 use Rattle.pixel_round.specs.declared.units.Units.{Units}
-use Rattle.font_decode.specs.Names.{is_name_byte, is_valid_name, is_resolution, tfm_name, vf_name, pk_name, pk_names, file_names, dpi}
+use Rattle.font_decode.specs.Names.{is_name_byte, is_valid_name, is_resolution, tfm_name, vf_name, glyph_name, gf_names, glyph_names, file_names, dpi}
 use Rattle.font_decode.specs.Asked.{choices}
-use Rattle.font_decode.specs.Files.{pk_choices}
+use Rattle.font_decode.specs.Files.{glyph_choices}
 use Rattle.font_decode.specs.Laws.{StaysInFolder, NamesStayInFolder, AskedNamesStayInFolder}
 
 -- texts of such bytes
@@ -78,41 +78,40 @@ with_ending xs ys (some, plain, dot) q = record {
   plain = name_append xs ys plain q;
 }
 
-packed : (k : FontKey) (n : ℕ) → is_valid_name k ≡ true → StaysInFolder (pk_name k n)
-packed k n h =
-    let ending : IsNameText (codes "." ++ (decimal n ++ codes "pk")) = name_append (codes ".") (decimal n ++ codes "pk") refl (name_append (decimal n) (codes "pk") (name_decimal n) refl) in
-    subst StaysInFolder (regrouped k.name (codes ".") (decimal n) (codes "pk")) (with_ending k.name (codes "." ++ (decimal n ++ codes "pk")) (valid k h) ending)
+at_resolution : (kind : List ℕ) (k : FontKey) (n : ℕ) → is_valid_name k ≡ true → IsNameText kind → StaysInFolder (glyph_name kind k n)
+at_resolution kind k n h plain =
+    let ending : IsNameText (codes "." ++ (decimal n ++ kind)) = name_append (codes ".") (decimal n ++ kind) refl (name_append (decimal n) kind (name_decimal n) plain) in
+    subst StaysInFolder (regrouped k.name (codes ".") (decimal n) kind) (with_ending k.name (codes "." ++ (decimal n ++ kind)) (valid k h) ending)
   where
     regrouped : (a b c d : List ℕ) → a ++ (b ++ (c ++ d)) ≡ ((a ++ b) ++ c) ++ d
     regrouped a b c d = sym (append_assoc (a ++ b) c d ∙ append_assoc a b (c ++ d))
 
-all_five : (P : List ℕ → Type 0) (a b c d e : List ℕ) → P a → P b → P c → P d → P e → All P (a ∷ b ∷ c ∷ d ∷ e ∷ [])
-all_five P a b c d e pa pb pc pd pe =
-    All-cons P a (b ∷ c ∷ d ∷ e ∷ []) pa (All-cons P b (c ∷ d ∷ e ∷ []) pb (All-cons P c (d ∷ e ∷ []) pc (All-cons P d (e ∷ []) pd (All-cons P e [] pe none))))
-  where
-    none : All P []
-    none i y lt = absurd (omega (arith, lt))
+-- three files of glyphs, and others
+three_stay : (kind : List ℕ) (k : FontKey) (n : ℕ) (names : List (List ℕ)) → is_valid_name k ≡ true → IsNameText kind → All StaysInFolder names
+    → All StaysInFolder (glyph_name kind k n ∷ glyph_name kind k (n + 1) ∷ glyph_name kind k (n - 1) ∷ names)
+three_stay kind k n names h plain rest =
+    All-cons StaysInFolder (glyph_name kind k n) (glyph_name kind k (n + 1) ∷ glyph_name kind k (n - 1) ∷ names) (at_resolution kind k n h plain)
+    (All-cons StaysInFolder (glyph_name kind k (n + 1)) (glyph_name kind k (n - 1) ∷ names) (at_resolution kind k (n + 1) h plain)
+    (All-cons StaysInFolder (glyph_name kind k (n - 1)) names (at_resolution kind k (n - 1) h plain) rest))
 
 pub names_stay_in_folder : NamesStayInFolder
 names_stay_in_folder u k h =
     let ok = valid k h in
-    all_five StaysInFolder (tfm_name k) (vf_name k) (pk_name k (dpi u k)) (pk_name k (dpi u k + 1)) (pk_name k (dpi u k - 1))
-    (with_ending k.name (codes ".tfm") ok refl)
-    (with_ending k.name (codes ".vf") ok refl)
-    (packed k (dpi u k) h)
-    (packed k (dpi u k + 1) h)
-    (packed k (dpi u k - 1) h)
+    All-cons StaysInFolder (tfm_name k) (vf_name k ∷ glyph_names u k) (with_ending k.name (codes ".tfm") ok refl)
+    (All-cons StaysInFolder (vf_name k) (glyph_names u k) (with_ending k.name (codes ".vf") ok refl)
+    (three_stay (codes "pk") k (dpi u k) (gf_names u k) h refl
+    (three_stay (codes "gf") k (dpi u k) [] h refl (All-nil StaysInFolder))))
 
 -- ---- the names that a fetch may ask for
 
-choices_near : (u : Units) (k : FontKey) → is_valid_name k ≡ true → (r : Bool) → All StaysInFolder (tfm_name k ∷ vf_name k ∷ (if r then pk_names u k else []))
+choices_near : (u : Units) (k : FontKey) → is_valid_name k ≡ true → (r : Bool) → All StaysInFolder (tfm_name k ∷ vf_name k ∷ (if r then glyph_names u k else []))
 choices_near u k h true = names_stay_in_folder u k h
 choices_near u k h false = All-take StaysInFolder 2 (file_names u k) (names_stay_in_folder u k h)
 
 choices_stay : (u : Units) (k : FontKey) → All StaysInFolder (choices u k)
 choices_stay u k = by (is_valid_name k) refl
   where
-    by : (b : Bool) → is_valid_name k ≡ b → All StaysInFolder (if b then tfm_name k ∷ vf_name k ∷ pk_choices u k else [])
+    by : (b : Bool) → is_valid_name k ≡ b → All StaysInFolder (if b then tfm_name k ∷ vf_name k ∷ glyph_choices u k else [])
     by true h = choices_near u k h (is_resolution (dpi u k))
     by false h = All-nil StaysInFolder
 

@@ -8,6 +8,8 @@ use Rattle.tfm_reader.specs.Tfm.{tfm_fault}
 use Rattle.tfm_reader.specs.declared.faults.TfmFault.{TfmFault}
 use Rattle.pk_packets.proofs.OneMeaning as pk_file
 use Rattle.pk_packets.specs.Faults.{IsFirstFault}
+use Rattle.gf_reader.proofs.OneMeaning as gf_file
+use Rattle.gf_reader.specs.FirstFault.{IsFirstFault as IsFirstGfFault}
 use Rattle.vf_reader.specs.Fonts.{IsVfFile}
 use Rattle.vf_reader.specs.Faults.{IsFirstFault as IsFirstVfFault}
 use Rattle.vf_reader.specs.Locals.{locals_of}
@@ -16,8 +18,8 @@ use Rattle.vf_reader.proofs.OneMeaning as vf_file
 use Rattle.font_decode.specs.Names.{is_valid_name, dpi, is_resolution}
 use Rattle.font_decode.specs.Files.{FontFiles}
 use Rattle.font_decode.specs.Locals.{are_local_sizes}
-use Rattle.font_decode.specs.Decoding.{is_too_long, IsPackedFont, IsVirtualFont, DecodesPk, DecodesShortPk, DecodesItems, DecodesVf, DecodesSound, DecodesTfm}
-use Rattle.font_decode.specs.Rows.{Row, WrongName, NoTfm, LongTfm, WrongTfm, LongVf, WrongVf, LocalSize, Resolution, NoPk, LongPk, WrongPk, Holds, HoldsNot, NoneHolds, FirstHolds, IsFirstOf, IsFirstRow}
+use Rattle.font_decode.specs.Decoding.{is_too_long, IsPackedFont, IsGenericFont, IsVirtualFont, DecodesPk, DecodesShortPk, DecodesGf, DecodesShortGf, DecodesGlyphs, DecodesItems, DecodesVf, DecodesSound, DecodesTfm}
+use Rattle.font_decode.specs.Rows.{Row, WrongName, NoTfm, LongTfm, WrongTfm, LongVf, WrongVf, LocalSize, Resolution, LongPk, WrongPk, LongGf, WrongGf, NoGlyphs, Holds, HoldsNot, NoneHolds, FirstHolds, IsFirstOf, IsFirstRow}
 use Rattle.font_decode.specs.Laws.{RowsDetermineTheDecoding}
 use Rattle.font_decode.specs.declared.font_or_fault.Decoded.{Decoded}
 use Rattle.font_decode.specs.declared.font_or_fault.Decoded.TheVariants.{Font, Fault}
@@ -52,58 +54,120 @@ some_is : {A : Type 0} (a b : A) → Some a ≡ Some b → b ≡ a
 some_is a b e = cc
 
 module _ (u : Units) (k : FontKey) where
-  abbrev of : Option (List ℕ) → Option (List ℕ) → Option (List ℕ) → FontFiles
-  of tfm vf pk = record { tfm = tfm; vf = vf; pk = pk }
+  abbrev of : Option (List ℕ) → Option (List ℕ) → Option (List ℕ) → Option (List ℕ) → FontFiles
+  of tfm vf pk gf = record { tfm = tfm; vf = vf; pk = pk; gf = gf }
 
   -- ---- a PK file
 
-  by_pk : (t p : List ℕ) (d : Decoded) → DecodesPk k t p d ↔ IsFirstOf u k (of (Some t) None (Some p)) (WrongPk ∷ []) d
-  by_pk t p (Font f) = (
-    λ h. (((λ g w. let same = some_is p w.1 w.2 in pk_file.files_have_no_fault p h.items w.3 h.file (subst (λ (b : List ℕ). IsFirstFault b w.3) same w.4)), tt), (t, refl, (p, refl, h))),
-    λ q. let font = q.1 in
-        let same_tfm = some_is t font.0 font.1 in
-        let same_pk = some_is p font.2.0 font.2.1 in
-        subst (λ (x : List ℕ). IsPackedFont k x p f) same_tfm (subst (λ (x : List ℕ). IsPackedFont k font.0 x f) same_pk font.2.2),
+  -- no row of the GF file holds beside it
+  abbrev gf_rows : List Row
+  gf_rows = LongGf ∷ WrongGf ∷ NoGlyphs ∷ []
+
+  none_beside_pk : (t p : List ℕ) (gf : Option (List ℕ)) → NoneHolds u k (of (Some t) None (Some p) gf) gf_rows
+  none_beside_pk t p gf = ((λ f w. some_none p w.1), ((λ f w. some_none p w.1), ((λ f w. some_none p w.1), tt)))
+
+  not_beside_pk : (t p : List ℕ) (gf : Option (List ℕ)) (f : FontFault) → FirstHolds u k (of (Some t) None (Some p) gf) gf_rows f → ⊥
+  not_beside_pk t p gf f (inl w) = some_none p w.1
+  not_beside_pk t p gf f (inr (a, inl w)) = some_none p w.1
+  not_beside_pk t p gf f (inr (a, inr (b, inl w))) = some_none p w.1
+  not_beside_pk t p gf f (inr (a, inr (b, inr later))) = later.1
+
+  by_pk : (t p : List ℕ) (gf : Option (List ℕ)) (d : Decoded) → DecodesPk k t p d ↔ IsFirstOf u k (of (Some t) None (Some p) gf) (WrongPk ∷ gf_rows) d
+  by_pk t p gf (Font f) = (
+    λ h. (((λ g w. let same = some_is p w.1 w.2 in pk_file.files_have_no_fault p h.items w.3 h.file (subst (λ (b : List ℕ). IsFirstFault b w.3) same w.4)), none_beside_pk t p gf), (t, refl, h)),
+    λ q. let font = q.1 in subst (λ (x : List ℕ). IsPackedFont k x p f) (some_is t font.0 font.1) font.2,
   )
-  by_pk t p (Fault f) = (
+  by_pk t p gf (Fault f) = (
     λ h. inl (refl, p, refl, h.0, h.1, h.2),
-    λ q. elim q [ inl w ↦ (w.3, subst (λ (b : List ℕ). IsFirstFault b w.3) (some_is p w.1 w.2) w.4, w.5) | inr later ↦ absurd later.1 ],
+    λ q. elim q [ inl w ↦ (w.3, subst (λ (b : List ℕ). IsFirstFault b w.3) (some_is p w.1 w.2) w.4, w.5) | inr later ↦ absurd (not_beside_pk t p gf f later.1) ],
   )
 
-  by_long_pk : (t p : List ℕ) (d : Decoded) (b : Bool) → is_too_long p ≡ b
-      → MatchBool b (d ≡ Fault (fault.TooLong kind.Pk)) (DecodesPk k t p d) ↔ IsFirstOf u k (of (Some t) None (Some p)) (LongPk ∷ WrongPk ∷ []) d
-  by_long_pk t p d true e = held u k (of (Some t) None (Some p)) LongPk (WrongPk ∷ []) (fault.TooLong kind.Pk) d (refl, p, refl, e, refl) (λ f w. w.4)
-  by_long_pk t p d false e =
-      passed u k (of (Some t) None (Some p)) LongPk (WrongPk ∷ []) _ d
-      (λ f w. true≢false (sym w.3 ∙ ap is_too_long (some_is p w.1 w.2) ∙ e)) (by_pk t p d)
+  by_long_pk : (t p : List ℕ) (gf : Option (List ℕ)) (d : Decoded) (b : Bool) → is_too_long p ≡ b
+      → MatchBool b (d ≡ Fault (fault.TooLong kind.Pk)) (DecodesPk k t p d) ↔ IsFirstOf u k (of (Some t) None (Some p) gf) (LongPk ∷ WrongPk ∷ gf_rows) d
+  by_long_pk t p gf d true e = held u k (of (Some t) None (Some p) gf) LongPk (WrongPk ∷ gf_rows) (fault.TooLong kind.Pk) d (refl, p, refl, e, refl) (λ f w. w.4)
+  by_long_pk t p gf d false e =
+      passed u k (of (Some t) None (Some p) gf) LongPk (WrongPk ∷ gf_rows) _ d
+      (λ f w. true≢false (sym w.3 ∙ ap is_too_long (some_is p w.1 w.2) ∙ e)) (by_pk t p gf d)
 
-  by_found_pk : (t : List ℕ) (pk : Option (List ℕ)) (d : Decoded)
-      → MatchOption pk (d ≡ Fault (fault.Missing kind.Pk)) (λ p. DecodesShortPk k t p d) ↔ IsFirstOf u k (of (Some t) None pk) (NoPk ∷ LongPk ∷ WrongPk ∷ []) d
-  by_found_pk t None d = held u k (of (Some t) None None) NoPk (LongPk ∷ WrongPk ∷ []) (fault.Missing kind.Pk) d (refl, refl, refl) (λ f w. w.2)
-  by_found_pk t (Some p) d =
-      passed u k (of (Some t) None (Some p)) NoPk (LongPk ∷ WrongPk ∷ []) _ d (λ f w. some_none p w.1) (by_long_pk t p d (is_too_long p) refl)
+  -- ---- a GF file
+
+  by_gf : (t g : List ℕ) (d : Decoded) → DecodesGf k t g d ↔ IsFirstOf u k (of (Some t) None None (Some g)) (WrongGf ∷ NoGlyphs ∷ []) d
+  by_gf t g (Font f) = (
+    λ h. (
+      (
+        (λ x w. gf_file.files_have_no_fault g h.characters w.4 h.file (subst (λ (b : List ℕ). IsFirstGfFault b w.4) (some_is g w.2 w.3) w.5)),
+        ((λ x w. some_none g w.2), tt),
+      ),
+      (t, refl, (g, refl, h)),
+    ),
+    λ q.
+        let font = q.1 in
+        let same_tfm = some_is t font.0 font.1 in
+        let same_gf = some_is g font.2.0 font.2.1 in
+        subst (λ (x : List ℕ). IsGenericFont k x g f) same_tfm (subst (λ (x : List ℕ). IsGenericFont k font.0 x f) same_gf font.2.2),
+  )
+  by_gf t g (Fault f) = (
+    λ h. inl (refl, refl, g, refl, h.0, h.1, h.2),
+    λ q. by f q,
+  )
+    where
+      by : (f : FontFault) → FirstHolds u k (of (Some t) None None (Some g)) (WrongGf ∷ NoGlyphs ∷ []) f → DecodesGf k t g (Fault f)
+      by f (inl w) = (w.4, subst (λ (b : List ℕ). IsFirstGfFault b w.4) (some_is g w.2 w.3) w.5, w.6)
+      by f (inr (a, inl w)) = absurd (some_none g w.2)
+      by f (inr (a, inr later)) = absurd later.1
+
+  by_long_gf : (t g : List ℕ) (d : Decoded) (b : Bool) → is_too_long g ≡ b
+      → MatchBool b (d ≡ Fault (fault.TooLong kind.Gf)) (DecodesGf k t g d) ↔ IsFirstOf u k (of (Some t) None None (Some g)) gf_rows d
+  by_long_gf t g d true e = held u k (of (Some t) None None (Some g)) LongGf (WrongGf ∷ NoGlyphs ∷ []) (fault.TooLong kind.Gf) d (refl, refl, g, refl, e, refl) (λ f w. w.5)
+  by_long_gf t g d false e =
+      passed u k (of (Some t) None None (Some g)) LongGf (WrongGf ∷ NoGlyphs ∷ []) _ d
+      (λ f w. true≢false (sym w.4 ∙ ap is_too_long (some_is g w.2 w.3) ∙ e)) (by_gf t g d)
+
+  by_found_gf : (t : List ℕ) (gf : Option (List ℕ)) (d : Decoded)
+      → MatchOption gf (d ≡ Fault (fault.Missing kind.Pk)) (λ g. DecodesShortGf k t g d) ↔ IsFirstOf u k (of (Some t) None None gf) gf_rows d
+  by_found_gf t None d =
+      let files = of (Some t) None None None in
+      passed u k files LongGf (WrongGf ∷ NoGlyphs ∷ []) _ d (λ f w. none_some w.2 w.3)
+      (passed u k files WrongGf (NoGlyphs ∷ []) _ d (λ f w. none_some w.2 w.3)
+      (held u k files NoGlyphs [] (fault.Missing kind.Pk) d (refl, refl, refl, refl) (λ f w. w.3)))
+  by_found_gf t (Some g) d = by_long_gf t g d (is_too_long g) refl
+
+  -- ---- the files of glyphs
+
+  abbrev glyph_rows : List Row
+  glyph_rows = LongPk ∷ WrongPk ∷ gf_rows
+
+  by_glyphs : (t : List ℕ) (pk gf : Option (List ℕ)) (d : Decoded) → DecodesGlyphs k t (of (Some t) None pk gf) d ↔ IsFirstOf u k (of (Some t) None pk gf) glyph_rows d
+  by_glyphs t None gf d =
+      let files = of (Some t) None None gf in
+      passed u k files LongPk (WrongPk ∷ gf_rows) _ d (λ f w. none_some w.1 w.2)
+      (passed u k files WrongPk gf_rows _ d (λ f w. none_some w.1 w.2) (by_found_gf t gf d))
+  by_glyphs t (Some p) gf d = by_long_pk t p gf d (is_too_long p) refl
 
   abbrev pk_rows : List Row
-  pk_rows = Resolution ∷ NoPk ∷ LongPk ∷ WrongPk ∷ []
+  pk_rows = Resolution ∷ glyph_rows
 
-  by_resolution : (t : List ℕ) (pk : Option (List ℕ)) (d : Decoded) (b : Bool) → is_resolution (dpi u k) ≡ b
-      → MatchBool b (MatchOption pk (d ≡ Fault (fault.Missing kind.Pk)) (λ p. DecodesShortPk k t p d)) (d ≡ Fault fault.Size) ↔ IsFirstOf u k (of (Some t) None pk) pk_rows d
-  by_resolution t pk d true e =
-      passed u k (of (Some t) None pk) Resolution (NoPk ∷ LongPk ∷ WrongPk ∷ []) _ d (λ f w. true≢false (sym e ∙ w.1)) (by_found_pk t pk d)
-  by_resolution t pk d false e = held u k (of (Some t) None pk) Resolution (NoPk ∷ LongPk ∷ WrongPk ∷ []) fault.Size d (refl, e, refl) (λ f w. w.2)
+  by_resolution : (t : List ℕ) (pk gf : Option (List ℕ)) (d : Decoded) (b : Bool) → is_resolution (dpi u k) ≡ b
+      → MatchBool b (DecodesGlyphs k t (of (Some t) None pk gf) d) (d ≡ Fault fault.Size) ↔ IsFirstOf u k (of (Some t) None pk gf) pk_rows d
+  by_resolution t pk gf d true e =
+      passed u k (of (Some t) None pk gf) Resolution glyph_rows _ d (λ f w. true≢false (sym e ∙ w.1)) (by_glyphs t pk gf d)
+  by_resolution t pk gf d false e = held u k (of (Some t) None pk gf) Resolution glyph_rows fault.Size d (refl, e, refl) (λ f w. w.2)
 
   -- ---- a VF file
 
-  -- no row of the PK file holds beside it
-  none_beside : (t v : List ℕ) (pk : Option (List ℕ)) → NoneHolds u k (of (Some t) (Some v) pk) pk_rows
-  none_beside t v pk = ((λ f w. some_none v w.0), ((λ f w. some_none v w.0), ((λ f w. some_none v w.0), ((λ f w. some_none v w.0), tt))))
+  -- no row of the resolution or of the files of glyphs holds beside it
+  none_beside : (t v : List ℕ) (pk gf : Option (List ℕ)) → NoneHolds u k (of (Some t) (Some v) pk gf) pk_rows
+  none_beside t v pk gf =
+      ((λ f w. some_none v w.0), ((λ f w. some_none v w.0), ((λ f w. some_none v w.0), ((λ f w. some_none v w.0), ((λ f w. some_none v w.0), ((λ f w. some_none v w.0), tt))))))
 
-  not_beside : (t v : List ℕ) (pk : Option (List ℕ)) (f : FontFault) → FirstHolds u k (of (Some t) (Some v) pk) pk_rows f → ⊥
-  not_beside t v pk f (inl w) = some_none v w.0
-  not_beside t v pk f (inr (a, inl w)) = some_none v w.0
-  not_beside t v pk f (inr (a, inr (b, inl w))) = some_none v w.0
-  not_beside t v pk f (inr (a, inr (b, inr (c, inl w)))) = some_none v w.0
-  not_beside t v pk f (inr (a, inr (b, inr (c, inr later)))) = later.1
+  not_beside : (t v : List ℕ) (pk gf : Option (List ℕ)) (f : FontFault) → FirstHolds u k (of (Some t) (Some v) pk gf) pk_rows f → ⊥
+  not_beside t v pk gf f (inl w) = some_none v w.0
+  not_beside t v pk gf f (inr (a, inl w)) = some_none v w.0
+  not_beside t v pk gf f (inr (a, inr (b, inl w))) = some_none v w.0
+  not_beside t v pk gf f (inr (a, inr (b, inr (c, inl w)))) = some_none v w.0
+  not_beside t v pk gf f (inr (a, inr (b, inr (c, inr (d, inl w))))) = some_none v w.0
+  not_beside t v pk gf f (inr (a, inr (b, inr (c, inr (d, inr (e, inl w)))))) = some_none v w.0
+  not_beside t v pk gf f (inr (a, inr (b, inr (c, inr (d, inr (e, inr later)))))) = later.1
 
   abbrev Same : List (List ℕ) → List (List ℕ) → Type 0
   Same items others = others ≡ items
@@ -112,9 +176,9 @@ module _ (u : Units) (k : FontKey) where
   one_list v w items others e a b = vf_file.files_are_read_one_way v others items (subst (λ (x : List ℕ). IsVfFile x others) (some_is v w e) b) a
 
   -- the items of a sound file
-  by_items : (t v : List ℕ) (pk : Option (List ℕ)) (items : List (List ℕ)) (d : Decoded) → IsVfFile v items → DecodesItems u k t items d ↔ IsFirstOf u k (of (Some t) (Some v) pk) (LocalSize ∷ pk_rows) d
-  by_items t v pk items (Font f) file = (
-    λ h. (((λ g w. true≢false (sym h.0 ∙ ap (λ (x : List (List ℕ)). are_local_sizes u k.size (locals_of x)) (sym (one_list v w.0 items w.2 w.1 file w.3)) ∙ w.4)), none_beside t v pk), (t, refl, (items, file, h.1))),
+  by_items : (t v : List ℕ) (pk gf : Option (List ℕ)) (items : List (List ℕ)) (d : Decoded) → IsVfFile v items → DecodesItems u k t items d ↔ IsFirstOf u k (of (Some t) (Some v) pk gf) (LocalSize ∷ pk_rows) d
+  by_items t v pk gf items (Font f) file = (
+    λ h. (((λ g w. true≢false (sym h.0 ∙ ap (λ (x : List (List ℕ)). are_local_sizes u k.size (locals_of x)) (sym (one_list v w.0 items w.2 w.1 file w.3)) ∙ w.4)), none_beside t v pk gf), (t, refl, (items, file, h.1))),
     λ q.
         let font = q.1 in
         let same : Same items font.2.0 = vf_file.files_are_read_one_way v font.2.0 items font.2.1 file in
@@ -124,83 +188,83 @@ module _ (u : Units) (k : FontKey) where
         ] in
         (right, subst (λ (x : List (List ℕ)). IsVirtualFont u k t x f) same (subst (λ (x : List ℕ). IsVirtualFont u k x font.2.0 f) (some_is t font.0 font.1) font.2.2)),
   )
-  by_items t v pk items (Fault f) file = (
+  by_items t v pk gf items (Fault f) file = (
     λ h. inl (v, refl, items, file, h.0, h.1),
     λ q. elim q [
       | inl w ↦ (ap (λ (x : List (List ℕ)). are_local_sizes u k.size (locals_of x)) (sym (one_list v w.0 items w.2 w.1 file w.3)) ∙ w.4, w.5)
-      | inr later ↦ absurd (not_beside t v pk f later.1)
+      | inr later ↦ absurd (not_beside t v pk gf f later.1)
     ],
   )
 
   -- a sound file has no fault, and a file with a fault no items
-  sound_there : (t v : List ℕ) (pk : Option (List ℕ)) (items : List (List ℕ)) → IsVfFile v items → HoldsNot u k (of (Some t) (Some v) pk) WrongVf
-  sound_there t v pk items file f w = vf_file.files_have_no_fault v items w.2 file (subst (λ (b : List ℕ). IsFirstVfFault b w.2) (some_is v w.0 w.1) w.3)
+  sound_there : (t v : List ℕ) (pk gf : Option (List ℕ)) (items : List (List ℕ)) → IsVfFile v items → HoldsNot u k (of (Some t) (Some v) pk gf) WrongVf
+  sound_there t v pk gf items file f w = vf_file.files_have_no_fault v items w.2 file (subst (λ (b : List ℕ). IsFirstVfFault b w.2) (some_is v w.0 w.1) w.3)
 
-  by_vf : (t v : List ℕ) (pk : Option (List ℕ)) (d : Decoded) → DecodesVf u k t v d ↔ IsFirstOf u k (of (Some t) (Some v) pk) (WrongVf ∷ LocalSize ∷ pk_rows) d
-  by_vf t v pk d = (to d, from d)
+  by_vf : (t v : List ℕ) (pk gf : Option (List ℕ)) (d : Decoded) → DecodesVf u k t v d ↔ IsFirstOf u k (of (Some t) (Some v) pk gf) (WrongVf ∷ LocalSize ∷ pk_rows) d
+  by_vf t v pk gf d = (to d, from d)
     where
-      to : (d : Decoded) → DecodesVf u k t v d → IsFirstOf u k (of (Some t) (Some v) pk) (WrongVf ∷ LocalSize ∷ pk_rows) d
-      to d (inl h) = (held u k (of (Some t) (Some v) pk) WrongVf (LocalSize ∷ pk_rows) (fault.Vf h.0) d (v, refl, h.0, h.1, refl)
+      to : (d : Decoded) → DecodesVf u k t v d → IsFirstOf u k (of (Some t) (Some v) pk gf) (WrongVf ∷ LocalSize ∷ pk_rows) d
+      to d (inl h) = (held u k (of (Some t) (Some v) pk gf) WrongVf (LocalSize ∷ pk_rows) (fault.Vf h.0) d (v, refl, h.0, h.1, refl)
           (λ f w. w.4 ∙ ap (λ (x : VfFault). fault.Vf x) (vf_file.first_faults_are_one v w.2 h.0 (subst (λ (b : List ℕ). IsFirstVfFault b w.2) (some_is v w.0 w.1) w.3) h.1))).0 h.2
-      to d (inr h) = (passed u k (of (Some t) (Some v) pk) WrongVf (LocalSize ∷ pk_rows) _ d (sound_there t v pk h.0 h.1) (by_items t v pk h.0 d h.1)).0 h.2
+      to d (inr h) = (passed u k (of (Some t) (Some v) pk gf) WrongVf (LocalSize ∷ pk_rows) _ d (sound_there t v pk gf h.0 h.1) (by_items t v pk gf h.0 d h.1)).0 h.2
 
-      from : (d : Decoded) → IsFirstOf u k (of (Some t) (Some v) pk) (WrongVf ∷ LocalSize ∷ pk_rows) d → DecodesVf u k t v d
-      from (Font f) q = inr (q.1.2.0, q.1.2.1, (by_items t v pk q.1.2.0 (Font f) q.1.2.1).1 (q.0.1, q.1))
+      from : (d : Decoded) → IsFirstOf u k (of (Some t) (Some v) pk gf) (WrongVf ∷ LocalSize ∷ pk_rows) d → DecodesVf u k t v d
+      from (Font f) q = inr (q.1.2.0, q.1.2.1, (by_items t v pk gf q.1.2.0 (Font f) q.1.2.1).1 (q.0.1, q.1))
       from (Fault f) (inl w) = inl (w.2, subst (λ (b : List ℕ). IsFirstVfFault b w.2) (some_is v w.0 w.1) w.3, ap (λ (x : FontFault). Fault x) w.4)
       from (Fault f) (inr (a, inl w)) =
           let file = subst (λ (x : List ℕ). IsVfFile x w.2) (some_is v w.0 w.1) w.3 in
           inr (w.2, file, (w.4, w.5))
-      from (Fault f) (inr (a, inr later)) = absurd (not_beside t v pk f later.1)
+      from (Fault f) (inr (a, inr later)) = absurd (not_beside t v pk gf f later.1)
 
-  by_long_vf : (t v : List ℕ) (pk : Option (List ℕ)) (d : Decoded) (b : Bool) → is_too_long v ≡ b
-      → MatchBool b (d ≡ Fault (fault.TooLong kind.Vf)) (DecodesVf u k t v d) ↔ IsFirstOf u k (of (Some t) (Some v) pk) (LongVf ∷ WrongVf ∷ LocalSize ∷ pk_rows) d
-  by_long_vf t v pk d true e =
-      held u k (of (Some t) (Some v) pk) LongVf (WrongVf ∷ LocalSize ∷ pk_rows) (fault.TooLong kind.Vf) d (v, refl, e, refl) (λ f w. w.3)
-  by_long_vf t v pk d false e =
-      passed u k (of (Some t) (Some v) pk) LongVf (WrongVf ∷ LocalSize ∷ pk_rows) _ d (λ f w. true≢false (sym w.2 ∙ ap is_too_long (some_is v w.0 w.1) ∙ e)) (by_vf t v pk d)
+  by_long_vf : (t v : List ℕ) (pk gf : Option (List ℕ)) (d : Decoded) (b : Bool) → is_too_long v ≡ b
+      → MatchBool b (d ≡ Fault (fault.TooLong kind.Vf)) (DecodesVf u k t v d) ↔ IsFirstOf u k (of (Some t) (Some v) pk gf) (LongVf ∷ WrongVf ∷ LocalSize ∷ pk_rows) d
+  by_long_vf t v pk gf d true e =
+      held u k (of (Some t) (Some v) pk gf) LongVf (WrongVf ∷ LocalSize ∷ pk_rows) (fault.TooLong kind.Vf) d (v, refl, e, refl) (λ f w. w.3)
+  by_long_vf t v pk gf d false e =
+      passed u k (of (Some t) (Some v) pk gf) LongVf (WrongVf ∷ LocalSize ∷ pk_rows) _ d (λ f w. true≢false (sym w.2 ∙ ap is_too_long (some_is v w.0 w.1) ∙ e)) (by_vf t v pk gf d)
 
   abbrev vf_rows : List Row
   vf_rows = LongVf ∷ WrongVf ∷ LocalSize ∷ pk_rows
 
-  by_sound : (t : List ℕ) (vf pk : Option (List ℕ)) (d : Decoded) → DecodesSound u k t (of (Some t) vf pk) d ↔ IsFirstOf u k (of (Some t) vf pk) vf_rows d
-  by_sound t None pk d =
-      let files = of (Some t) None pk in
+  by_sound : (t : List ℕ) (vf pk gf : Option (List ℕ)) (d : Decoded) → DecodesSound u k t (of (Some t) vf pk gf) d ↔ IsFirstOf u k (of (Some t) vf pk gf) vf_rows d
+  by_sound t None pk gf d =
+      let files = of (Some t) None pk gf in
       passed u k files LongVf (WrongVf ∷ LocalSize ∷ pk_rows) _ d (λ f w. none_some w.0 w.1)
       (passed u k files WrongVf (LocalSize ∷ pk_rows) _ d (λ f w. none_some w.0 w.1)
       (passed u k files LocalSize pk_rows _ d (λ f w. none_some w.0 w.1)
-      (by_resolution t pk d (is_resolution (dpi u k)) refl)))
-  by_sound t (Some v) pk d = by_long_vf t v pk d (is_too_long v) refl
+      (by_resolution t pk gf d (is_resolution (dpi u k)) refl)))
+  by_sound t (Some v) pk gf d = by_long_vf t v pk gf d (is_too_long v) refl
 
   -- ---- a TFM file
 
-  by_tfm_fault : (t : List ℕ) (vf pk : Option (List ℕ)) (d : Decoded) (o : Option TfmFault) → tfm_fault t ≡ o
-      → MatchOption o (DecodesSound u k t (of (Some t) vf pk) d) (λ found. d ≡ Fault (fault.Tfm found)) ↔ IsFirstOf u k (of (Some t) vf pk) (WrongTfm ∷ vf_rows) d
-  by_tfm_fault t vf pk d None e =
-      passed u k (of (Some t) vf pk) WrongTfm vf_rows _ d (λ f w. none_some w.2 (sym e ∙ ap tfm_fault (sym (some_is t w.0 w.1)) ∙ w.3)) (by_sound t vf pk d)
-  by_tfm_fault t vf pk d (Some found) e =
-      held u k (of (Some t) vf pk) WrongTfm vf_rows (fault.Tfm found) d (t, refl, found, e, refl)
+  by_tfm_fault : (t : List ℕ) (vf pk gf : Option (List ℕ)) (d : Decoded) (o : Option TfmFault) → tfm_fault t ≡ o
+      → MatchOption o (DecodesSound u k t (of (Some t) vf pk gf) d) (λ found. d ≡ Fault (fault.Tfm found)) ↔ IsFirstOf u k (of (Some t) vf pk gf) (WrongTfm ∷ vf_rows) d
+  by_tfm_fault t vf pk gf d None e =
+      passed u k (of (Some t) vf pk gf) WrongTfm vf_rows _ d (λ f w. none_some w.2 (sym e ∙ ap tfm_fault (sym (some_is t w.0 w.1)) ∙ w.3)) (by_sound t vf pk gf d)
+  by_tfm_fault t vf pk gf d (Some found) e =
+      held u k (of (Some t) vf pk gf) WrongTfm vf_rows (fault.Tfm found) d (t, refl, found, e, refl)
       (λ f w. w.4 ∙ ap (λ (x : TfmFault). fault.Tfm x) (some_is found w.2 (sym e ∙ ap tfm_fault (sym (some_is t w.0 w.1)) ∙ w.3)))
 
-  by_long_tfm : (t : List ℕ) (vf pk : Option (List ℕ)) (d : Decoded) (b : Bool) → is_too_long t ≡ b
-      → MatchBool b (d ≡ Fault (fault.TooLong kind.Tfm)) (MatchOption (tfm_fault t) (DecodesSound u k t (of (Some t) vf pk) d) (λ found. d ≡ Fault (fault.Tfm found)))
-      ↔ IsFirstOf u k (of (Some t) vf pk) (LongTfm ∷ WrongTfm ∷ vf_rows) d
-  by_long_tfm t vf pk d true e = held u k (of (Some t) vf pk) LongTfm (WrongTfm ∷ vf_rows) (fault.TooLong kind.Tfm) d (t, refl, e, refl) (λ f w. w.3)
-  by_long_tfm t vf pk d false e =
-      passed u k (of (Some t) vf pk) LongTfm (WrongTfm ∷ vf_rows) _ d (λ f w. true≢false (sym w.2 ∙ ap is_too_long (some_is t w.0 w.1) ∙ e))
-      (by_tfm_fault t vf pk d (tfm_fault t) refl)
+  by_long_tfm : (t : List ℕ) (vf pk gf : Option (List ℕ)) (d : Decoded) (b : Bool) → is_too_long t ≡ b
+      → MatchBool b (d ≡ Fault (fault.TooLong kind.Tfm)) (MatchOption (tfm_fault t) (DecodesSound u k t (of (Some t) vf pk gf) d) (λ found. d ≡ Fault (fault.Tfm found)))
+      ↔ IsFirstOf u k (of (Some t) vf pk gf) (LongTfm ∷ WrongTfm ∷ vf_rows) d
+  by_long_tfm t vf pk gf d true e = held u k (of (Some t) vf pk gf) LongTfm (WrongTfm ∷ vf_rows) (fault.TooLong kind.Tfm) d (t, refl, e, refl) (λ f w. w.3)
+  by_long_tfm t vf pk gf d false e =
+      passed u k (of (Some t) vf pk gf) LongTfm (WrongTfm ∷ vf_rows) _ d (λ f w. true≢false (sym w.2 ∙ ap is_too_long (some_is t w.0 w.1) ∙ e))
+      (by_tfm_fault t vf pk gf d (tfm_fault t) refl)
 
   abbrev tfm_rows : List Row
   tfm_rows = NoTfm ∷ LongTfm ∷ WrongTfm ∷ vf_rows
 
-  by_found_tfm : (tfm vf pk : Option (List ℕ)) (d : Decoded)
-      → MatchOption tfm (d ≡ Fault (fault.Missing kind.Tfm)) (λ t. DecodesTfm u k t (of tfm vf pk) d) ↔ IsFirstOf u k (of tfm vf pk) tfm_rows d
-  by_found_tfm None vf pk d = held u k (of None vf pk) NoTfm (LongTfm ∷ WrongTfm ∷ vf_rows) (fault.Missing kind.Tfm) d (refl, refl) (λ f w. w.1)
-  by_found_tfm (Some t) vf pk d =
-      passed u k (of (Some t) vf pk) NoTfm (LongTfm ∷ WrongTfm ∷ vf_rows) _ d (λ f w. some_none t w.0) (by_long_tfm t vf pk d (is_too_long t) refl)
+  by_found_tfm : (tfm vf pk gf : Option (List ℕ)) (d : Decoded)
+      → MatchOption tfm (d ≡ Fault (fault.Missing kind.Tfm)) (λ t. DecodesTfm u k t (of tfm vf pk gf) d) ↔ IsFirstOf u k (of tfm vf pk gf) tfm_rows d
+  by_found_tfm None vf pk gf d = held u k (of None vf pk gf) NoTfm (LongTfm ∷ WrongTfm ∷ vf_rows) (fault.Missing kind.Tfm) d (refl, refl) (λ f w. w.1)
+  by_found_tfm (Some t) vf pk gf d =
+      passed u k (of (Some t) vf pk gf) NoTfm (LongTfm ∷ WrongTfm ∷ vf_rows) _ d (λ f w. some_none t w.0) (by_long_tfm t vf pk gf d (is_too_long t) refl)
 
   by_name : (files : FontFiles) (d : Decoded) (b : Bool) → is_valid_name k ≡ b
       → MatchBool b (MatchOption files.tfm (d ≡ Fault (fault.Missing kind.Tfm)) (λ t. DecodesTfm u k t files d)) (d ≡ Fault fault.Name) ↔ IsFirstRow u k files d
-  by_name files d true e = passed u k files WrongName tfm_rows _ d (λ f w. true≢false (sym e ∙ w.0)) (by_found_tfm files.tfm files.vf files.pk d)
+  by_name files d true e = passed u k files WrongName tfm_rows _ d (λ f w. true≢false (sym e ∙ w.0)) (by_found_tfm files.tfm files.vf files.pk files.gf d)
   by_name files d false e = held u k files WrongName tfm_rows fault.Name d (e, refl) (λ f w. w.1)
 
 pub rows_determine_the_decoding : RowsDetermineTheDecoding

@@ -15,12 +15,13 @@ use Rattle.vf_reader.specs.Locals.{locals_of}
 use Rattle.vf_reader.specs.declared.locals.LocalDef.{LocalDef}
 use Rattle.vf_reader.proofs.Total as vf_file
 use Rattle.pk_packets.proofs.Total.{files_are_read_or_have_a_fault, sound_items_have_glyphs}
+use Rattle.gf_reader.proofs.OneMeaning as gf_file
 use Rattle.outside.specs.Library as library
 use Rattle.outside.specs.declared.keys.FontKey.{FontKey}
 use Rattle.pixel_round.specs.declared.units.Units.{Units}
 use Rattle.font_decode.specs.Names.{is_valid_name, dpi, is_resolution, tfm_name, vf_name}
-use Rattle.font_decode.specs.Files.{FontFiles, first_there, pk_choices}
-use Rattle.font_decode.specs.Decoding.{is_too_long, scaled_width, DecodesPk, DecodesShortPk, DecodesPacked, DecodesItems, DecodesVf, DecodesShortVf, DecodesSound, DecodesTfm, IsDecodingOf}
+use Rattle.font_decode.specs.Files.{FontFiles, first_there, pk_choices, gf_choices}
+use Rattle.font_decode.specs.Decoding.{is_too_long, scaled_width, DecodesPk, DecodesShortPk, DecodesGf, DecodesShortGf, DecodesGlyphs, DecodesPacked, DecodesItems, DecodesVf, DecodesShortVf, DecodesSound, DecodesTfm, IsDecodingOf}
 use Rattle.font_decode.specs.Laws.{AreByteFiles, EachKeyIsDecoded}
 use Rattle.font_decode.specs.declared.font_or_fault.Decoded.{Decoded}
 use Rattle.font_decode.specs.declared.font_or_fault.Decoded.TheVariants.{Font, Fault}
@@ -29,6 +30,7 @@ use Rattle.font_decode.specs.declared.faults.FontFault.TheVariants as fault
 use Rattle.font_decode.specs.Locals.{are_local_sizes}
 use Rattle.font_decode.specs.declared.shapes.Shapes.TheVariants as shape
 use Rattle.font_decode.proofs.Scaled.{last_code, scaled_table}
+use Rattle.font_decode.proofs.GfTotal.{characters_have_glyphs}
 use Rattle.font_decode.proofs.VfTotal.{build, keys_are, keys_of, sound_items_have_a_font}
 
 at_true : {b : Bool} (P Q : Type 0) → b ≡ true → P → MatchBool b P Q
@@ -54,6 +56,17 @@ module _ (u : Units) (k : FontKey) where
           record { size = refl; widths = widths.1; packed = refl; items = file.0; file = file.1; glyphs = glyphs.1 },
         )
     | inr wrong ↦ (Fault (fault.Pk wrong.0), (wrong.0, wrong.1, refl))
+  ]
+
+  gf_then : (tfm gf : List ℕ) → tfm_fault tfm ≡ None → (d : Decoded) × DecodesGf k tfm gf d
+  gf_then tfm gf sound = elim (gf_file.files_are_read_or_have_a_fault gf) [
+    | inl file ↦
+        let widths = widths_then tfm sound in
+        let glyphs = characters_have_glyphs file.0 in (
+          Font (record { size = k.size; widths = widths.0; shapes = shape.Generic glyphs.0 }),
+          record { size = refl; widths = widths.1; packed = refl; characters = file.0; file = file.1; glyphs = glyphs.1 },
+        )
+    | inr wrong ↦ (Fault (fault.Gf wrong.0), (wrong.0, wrong.1, refl))
   ]
 
   items_then : (tfm : List ℕ) (items : List (List ℕ)) → tfm_fault tfm ≡ None → AreSound items → (d : Decoded) × DecodesItems u k tfm items d
@@ -96,20 +109,31 @@ module _ (u : Units) (k : FontKey) where
     | inr fits ↦ let r = pk_then tfm pk sound few in (r.0, at_false (r.0 ≡ Fault (fault.TooLong kind.Pk)) _ fits r.1)
   ]
 
-  there_then : (tfm : List ℕ) (pk : Option (List ℕ)) → tfm_fault tfm ≡ None → IfSome pk AreBytes → (d : Decoded) × MatchOption pk (d ≡ Fault (fault.Missing kind.Pk)) (λ p. DecodesShortPk k tfm p d)
-  there_then tfm None sound few = (Fault (fault.Missing kind.Pk), refl)
-  there_then tfm (Some pk) sound few = short_then tfm pk sound few
-
-  packed_then : (tfm : List ℕ) (pk : Option (List ℕ)) → tfm_fault tfm ≡ None → IfSome pk AreBytes → (d : Decoded) × DecodesPacked u k tfm pk d
-  packed_then tfm pk sound few = elim (cases_Bool (is_resolution (dpi u k))) [
-    | inl near ↦ let r = there_then tfm pk sound few in (r.0, at_true _ (r.0 ≡ Fault fault.Size) near r.1)
-    | inr far ↦ (Fault fault.Size, at_false (MatchOption pk (Fault fault.Size ≡ Fault (fault.Missing kind.Pk)) (λ p. DecodesShortPk k tfm p (Fault fault.Size))) _ far refl)
+  short_gf_then : (tfm gf : List ℕ) → tfm_fault tfm ≡ None → (d : Decoded) × DecodesShortGf k tfm gf d
+  short_gf_then tfm gf sound = elim (cases_Bool (is_too_long gf)) [
+    | inl long ↦ (Fault (fault.TooLong kind.Gf), at_true _ (DecodesGf k tfm gf (Fault (fault.TooLong kind.Gf))) long refl)
+    | inr fits ↦ let r = gf_then tfm gf sound in (r.0, at_false (r.0 ≡ Fault (fault.TooLong kind.Gf)) _ fits r.1)
   ]
 
-  sound_then : (tfm : List ℕ) (vf pk : Option (List ℕ)) → tfm_fault tfm ≡ None → IfSome vf AreBytes → IfSome pk AreBytes
-      → (d : Decoded) × MatchOption vf (DecodesPacked u k tfm pk d) (λ vf. DecodesShortVf u k tfm vf d)
-  sound_then tfm None pk sound few_vf few = packed_then tfm pk sound few
-  sound_then tfm (Some vf) pk sound few_vf few = short_vf_then tfm vf sound few_vf
+  gf_file_then : (tfm : List ℕ) (gf : Option (List ℕ)) → tfm_fault tfm ≡ None → (d : Decoded) × MatchOption gf (d ≡ Fault (fault.Missing kind.Pk)) (λ g. DecodesShortGf k tfm g d)
+  gf_file_then tfm None sound = (Fault (fault.Missing kind.Pk), refl)
+  gf_file_then tfm (Some gf) sound = short_gf_then tfm gf sound
+
+  glyphs_then : (tfm : List ℕ) (pk gf : Option (List ℕ)) → tfm_fault tfm ≡ None → IfSome pk AreBytes
+      → (d : Decoded) × MatchOption pk (MatchOption gf (d ≡ Fault (fault.Missing kind.Pk)) (λ g. DecodesShortGf k tfm g d)) (λ p. DecodesShortPk k tfm p d)
+  glyphs_then tfm None gf sound few = gf_file_then tfm gf sound
+  glyphs_then tfm (Some pk) gf sound few = short_then tfm pk sound few
+
+  packed_then : (tfm : List ℕ) (files : FontFiles) → tfm_fault tfm ≡ None → IfSome files.pk AreBytes → (d : Decoded) × DecodesPacked u k tfm files d
+  packed_then tfm files sound few = elim (cases_Bool (is_resolution (dpi u k))) [
+    | inl near ↦ let r = glyphs_then tfm files.pk files.gf sound few in (r.0, at_true _ (r.0 ≡ Fault fault.Size) near r.1)
+    | inr far ↦ (Fault fault.Size, at_false (DecodesGlyphs k tfm files (Fault fault.Size)) _ far refl)
+  ]
+
+  sound_then : (tfm : List ℕ) (vf : Option (List ℕ)) (files : FontFiles) → tfm_fault tfm ≡ None → IfSome vf AreBytes → IfSome files.pk AreBytes
+      → (d : Decoded) × MatchOption vf (DecodesPacked u k tfm files d) (λ vf. DecodesShortVf u k tfm vf d)
+  sound_then tfm None files sound few_vf few = packed_then tfm files sound few
+  sound_then tfm (Some vf) files sound few_vf few = short_vf_then tfm vf sound few_vf
 
   tfm_then : (tfm : List ℕ) (files : FontFiles) → IfSome files.vf AreBytes → IfSome files.pk AreBytes → (d : Decoded) × DecodesTfm u k tfm files d
   tfm_then tfm files few_vf few = elim (cases_Bool (is_too_long tfm)) [
@@ -118,7 +142,7 @@ module _ (u : Units) (k : FontKey) where
   ]
     where
       by : (o : Option TfmFault) → tfm_fault tfm ≡ o → (d : Decoded) × MatchOption (tfm_fault tfm) (DecodesSound u k tfm files d) (λ found. d ≡ Fault (fault.Tfm found))
-      by None e = let r = sound_then tfm files.vf files.pk e few_vf few in (r.0, subst (λ (o : Option TfmFault). MatchOption o (DecodesSound u k tfm files r.0) (λ found. r.0 ≡ Fault (fault.Tfm found))) (sym e) r.1)
+      by None e = let r = sound_then tfm files.vf files e few_vf few in (r.0, subst (λ (o : Option TfmFault). MatchOption o (DecodesSound u k tfm files r.0) (λ found. r.0 ≡ Fault (fault.Tfm found))) (sym e) r.1)
       by (Some f) e = (Fault (fault.Tfm f), subst (λ (o : Option TfmFault). MatchOption o (DecodesSound u k tfm files (Fault (fault.Tfm f))) (λ found. Fault (fault.Tfm f) ≡ Fault (fault.Tfm found))) (sym e) refl)
 
   file_then : (tfm : Option (List ℕ)) (files : FontFiles) → IfSome files.vf AreBytes → IfSome files.pk AreBytes → (d : Decoded) × MatchOption tfm (d ≡ Fault (fault.Missing kind.Tfm)) (λ t. DecodesTfm u k t files d)
@@ -150,6 +174,7 @@ each_key_is_decoded l u k bytes =
     let tfm : Option (List ℕ) = if is_valid_name k then get l (tfm_name k) else None in
     let vf : Option (List ℕ) = if is_some tfm then get l (vf_name k) else None in
     let pk : Option (List ℕ) = if is_some tfm && is_none vf then first_there l (pk_choices u k) else None in
-    let files : FontFiles = record { tfm = tfm; vf = vf; pk = pk } in
+    let gf : Option (List ℕ) = if is_some tfm && is_none vf && is_none pk then first_there l (gf_choices u k) else None in
+    let files : FontFiles = record { tfm = tfm; vf = vf; pk = pk; gf = gf } in
     let r = decoded_then u k files (if_bytes (is_some tfm) (get l (vf_name k)) (bytes (vf_name k))) (if_bytes (is_some tfm && is_none vf) (first_there l (pk_choices u k)) (first_bytes l (pk_choices u k) bytes)) in
-    (r.0, record { files = files; found = record { tfm = refl; vf = refl; pk = refl }; decoding = r.1 })
+    (r.0, record { files = files; found = record { tfm = refl; vf = refl; pk = refl; gf = refl }; decoding = r.1 })

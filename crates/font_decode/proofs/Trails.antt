@@ -5,6 +5,7 @@ use Rattle.outside.specs.declared.keys.FontKey.{FontKey}
 use Rattle.cache_core.specs.declared.calls.Call.{Call}
 use Rattle.cache_core.specs.Histories.{SeatCalls, AreOf, NoneReleased}
 use Rattle.font_decode.specs.Desks.{GrewBy, Trail, ReleasedLast, misses, Loaded, SeatAnswered, TrailGrew}
+use Rattle.font_decode.specs.Loads.{MAX_LOADS}
 
 -- ---- the keys asked
 
@@ -62,7 +63,7 @@ module _ (W : Type 0) where
     for_keys = for_more a b p.calls q.calls p.for_keys q.for_keys;
     last = last_more p.calls q.calls (p.answered tt) q.last;
     answered = λ w. none_more p.calls q.calls (p.answered tt) (q.answered w);
-    loaded = loaded_more (5 * misses p.calls) (5 * misses q.calls) (5 * misses (p.calls ++ q.calls)) _ _ _ _ _ _
+    loaded = loaded_more (MAX_LOADS * misses p.calls) (MAX_LOADS * misses q.calls) (MAX_LOADS * misses (p.calls ++ q.calls)) _ _ _ _ _ _
         (let e = misses_more p.calls q.calls in omega arith) p.loaded q.loaded;
   }
 

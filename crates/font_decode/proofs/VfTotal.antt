@@ -31,7 +31,7 @@ build f d (suc n) =
 
 -- ---- packets
 
-same_way : (a b : ℕ) → (a == b) ≡ (b == a)
+pub same_way : (a b : ℕ) → (a == b) ≡ (b == a)
 same_way a b = elim (cases_eq a b) [
   | inl e ↦ eq-eqb a b e ∙ sym (eq-eqb b a (sym e))
   | inr other ↦ ne_eqb a b other ∙ sym (ne_eqb b a (λ e. other (sym e)))

@@ -1,6 +1,7 @@
 -- What the font of a key is, by its files, or what is wrong with it first. The order in which name
--- and files are judged is this driver's own; what the files hold is told by Knuth's TFtoPL and
--- VFtoVP and Rokicki's PKtype, and the widths by DVItype, "Reading the font information".
+-- and files are judged is this driver's own; what the files hold is defined by Knuth's TFtoPL,
+-- VFtoVP and GFtype and Rokicki's PKtype, and the widths by DVItype, "Reading the font
+-- information".
 use Rattle.std.specs.Prelude.{◌≡◌, ◌⊎◌, ℕ, ℤ, Bool, List, length, nat_lt, slice_get, Option, IfSome, IsFalse, IsTrue, MatchBool, MatchOption}
 use Rattle.std.specs.Option.{option_map}
 use Rattle.fix_word.specs.Scale.{scale}
@@ -8,6 +9,10 @@ use Rattle.tfm_reader.specs.Tfm.{tfm_fault, tfm_width}
 use Rattle.pk_packets.specs.Fonts.{IsPkFile, IsAnswer}
 use Rattle.pk_packets.specs.Faults.{IsFirstFault}
 use Rattle.pk_packets.specs.declared.faults.PkFault.{PkFault}
+use Rattle.gf_reader.specs.Characters.{Character, glyph_for}
+use Rattle.gf_reader.specs.Fonts.{IsGfFile}
+use Rattle.gf_reader.specs.FirstFault as gf_file
+use Rattle.gf_reader.specs.declared.faults.GfFault.{GfFault}
 use Rattle.vf_reader.specs.Fonts.{IsVfFile, program_with}
 use Rattle.vf_reader.specs.Locals.{local_with, locals_of}
 use Rattle.vf_reader.specs.Faults as vf_file
@@ -39,6 +44,15 @@ pub record IsPackedFont (k : FontKey) (tfm pk : List ℕ) (f : FontValue) : Type
   pub file : IsPkFile pk items
   pub glyphs : (c : ℕ) → IsAnswer items c (glyph_at f c)
 
+-- the same with a GF file in place of the PK file
+pub record IsGenericFont (k : FontKey) (tfm gf : List ℕ) (f : FontValue) : Type 0 where
+  pub size : f.size ≡ k.size
+  pub widths : (c : ℤ) → scaled_width_of f c ≡ scaled_width k.size tfm c
+  pub packed : IsFalse (is_virtual_of f)
+  pub characters : List Character
+  pub file : IsGfFile gf characters
+  pub glyphs : (c : ℕ) → glyph_at f c ≡ glyph_for characters c
+
 -- the font of a key with a sound TFM file and these items of a sound VF file, whose local fonts
 -- have sizes in range
 pub record IsVirtualFont (u : Units) (k : FontKey) (tfm : List ℕ) (items : List (List ℕ))
@@ -67,11 +81,26 @@ abbrev pub DecodesShortPk : FontKey → List ℕ → List ℕ → Decoded → Ty
 DecodesShortPk k tfm pk d =
     MatchBool (is_too_long pk) (d ≡ Fault (fault.TooLong kind.Pk)) (DecodesPk k tfm pk d)
 
--- without a VF file: the resolution before the PK file
-abbrev pub DecodesPacked : Units → FontKey → List ℕ → Option (List ℕ) → Decoded → Type 0
-DecodesPacked u k tfm pk d = MatchBool (is_resolution (dpi u k))
-    (MatchOption pk (d ≡ Fault (fault.Missing kind.Pk)) (λ pk. DecodesShortPk k tfm pk d))
-    (d ≡ Fault fault.Size)
+-- a GF file: the font, or the file's first fault
+abbrev pub DecodesGf : FontKey → List ℕ → List ℕ → Decoded → Type 0
+DecodesGf k tfm gf (Font f) = IsGenericFont k tfm gf f
+DecodesGf k tfm gf (Fault f) =
+    (found : GfFault) × gf_file.IsFirstFault gf found × (f ≡ fault.Gf found)
+
+abbrev pub DecodesShortGf : FontKey → List ℕ → List ℕ → Decoded → Type 0
+DecodesShortGf k tfm gf d =
+    MatchBool (is_too_long gf) (d ≡ Fault (fault.TooLong kind.Gf)) (DecodesGf k tfm gf d)
+
+-- where there is a PK file, no GF file is looked at; without either, the PK file is missing
+abbrev pub DecodesGlyphs : FontKey → List ℕ → FontFiles → Decoded → Type 0
+DecodesGlyphs k tfm files d = MatchOption files.pk
+    (MatchOption files.gf (d ≡ Fault (fault.Missing kind.Pk)) (λ gf. DecodesShortGf k tfm gf d))
+    (λ pk. DecodesShortPk k tfm pk d)
+
+-- without a VF file: the resolution before the files of glyphs
+abbrev pub DecodesPacked : Units → FontKey → List ℕ → FontFiles → Decoded → Type 0
+DecodesPacked u k tfm files d =
+    MatchBool (is_resolution (dpi u k)) (DecodesGlyphs k tfm files d) (d ≡ Fault fault.Size)
 
 -- the items of a sound VF file: the font, or a local font's size or design size out of range
 abbrev pub DecodesItems : Units → FontKey → List ℕ → List (List ℕ) → Decoded → Type 0
@@ -90,10 +119,10 @@ abbrev pub DecodesShortVf : Units → FontKey → List ℕ → List ℕ → Deco
 DecodesShortVf u k tfm vf d =
     MatchBool (is_too_long vf) (d ≡ Fault (fault.TooLong kind.Vf)) (DecodesVf u k tfm vf d)
 
--- after a sound TFM file: where there is a VF file, no PK file is looked at
+-- after a sound TFM file: where there is a VF file, no file of glyphs is looked at
 abbrev pub DecodesSound : Units → FontKey → List ℕ → FontFiles → Decoded → Type 0
 DecodesSound u k tfm files d =
-    MatchOption files.vf (DecodesPacked u k tfm files.pk d) (λ vf. DecodesShortVf u k tfm vf d)
+    MatchOption files.vf (DecodesPacked u k tfm files d) (λ vf. DecodesShortVf u k tfm vf d)
 
 -- a TFM file: too long before what it holds
 abbrev pub DecodesTfm : Units → FontKey → List ℕ → FontFiles → Decoded → Type 0

@@ -7,7 +7,7 @@ use Rattle.cache_core.specs.declared.calls.Call.{Call}
 use Rattle.cache_core.specs.declared.calls.Done.{Done}
 use Rattle.cache_core.specs.declared.calls.Done.TheVariants.{Hit, Claimed, Busy, Filled, Released}
 use Rattle.cache_core.specs.Histories.{SeatCalls, AreOf, NoneReleased}
-use Rattle.font_decode.specs.Loads.{RoseUpTo}
+use Rattle.font_decode.specs.Loads.{RoseUpTo, MAX_LOADS}
 
 -- ---- the keys asked
 
@@ -67,7 +67,8 @@ pub record SeatAnswered (Answered : Type 0) (keys : List FontKey) (before after 
   pub for_keys : SeatCalls keys calls
   pub last : ReleasedLast calls
   pub answered : Answered → NoneReleased calls
-  pub loaded : Loaded (5 * misses calls) before.loads after.loads before.counted after.counted
+  pub loaded : Loaded (MAX_LOADS * misses calls) before.loads after.loads before.counted
+      after.counted
 
 -- the same with the keys that were asked in the meantime
 pub record SeatAnsweredFor (Answered : Type 0) (asked asked_now : Option (List FontKey))

@@ -10,6 +10,7 @@ use Rattle.pixel_round.specs.declared.units.Units.{Units}
 use Rattle.font_decode.specs.Names.{is_name_byte, is_valid_name, is_resolution, dpi, file_names}
 use Rattle.font_decode.specs.Files.{FontFiles, IsFound, looked_for}
 use Rattle.font_decode.specs.Asked.{choices}
+use Rattle.font_decode.specs.Loads.{MAX_LOADS}
 use Rattle.font_decode.specs.Rows.{IsFirstRow}
 use Rattle.font_decode.specs.Decoding.{IsDecodingOf, IsFontIn, AreAlike}
 use Rattle.font_decode.specs.declared.font_or_fault.Decoded.{Decoded}
@@ -45,8 +46,10 @@ abbrev pub OneIsFound : Type 0
 OneIsFound = (l : library.FileTable) (u : Units) (k : FontKey) (f g : FontFiles) → IsFound l u k f
     → IsFound l u k g → f ≡ g
 
-abbrev pub FiveAtMost : Type 0
-FiveAtMost = (l : library.FileTable) (u : Units) (k : FontKey) → length (looked_for l u k) ≤ 5
+-- and looks for few names
+abbrev pub FewAreLookedFor : Type 0
+FewAreLookedFor =
+    (l : library.FileTable) (u : Units) (k : FontKey) → length (looked_for l u k) ≤ MAX_LOADS
 
 -- files come to one font, or have one first fault
 abbrev pub OneOfItsFiles : Type 0

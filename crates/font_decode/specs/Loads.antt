@@ -1,5 +1,10 @@
--- How a count of loads grows. It is kept in a `u64`, and stays at its last number.
+-- How many loads a font takes, and how a count of them grows. It is kept in a `u64`, and stays at
+-- its last number.
 use Rattle.std.specs.Prelude.{◌≡◌, ℕ, ◌+◌, ◌-◌, ◌^◌, ◌<◌, ◌≤◌, min}
+
+-- the most loads of one font: a file of widths, a VF file, three PK files and three GF files
+abbrev pub MAX_LOADS : ℕ
+MAX_LOADS = 8
 
 -- it rose by k
 abbrev pub RoseBy : ℕ → ℕ → ℕ → Type 0

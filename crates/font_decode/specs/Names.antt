@@ -1,7 +1,8 @@
--- The names of a font's files: `name.tfm` (Knuth, TFtoPL), `name.vf` (Knuth, VFtoVP), and
--- `name.300pk` for a PK font of 300 dots to the inch (Rokicki, PKtype; the name is that of dvips).
--- Which names are looked for is this driver's own choice: those that stay in a folder.
-use Rattle.std.specs.Prelude.{ℕ, List, [], ◌∷◌, ◌++◌, ◌+◌, ◌-◌, ◌*◌, Bool, not, ◌&&◌, ◌||◌, ◌==◌, length, slice_index, codes, decimal}
+-- The names of a font's files: `name.tfm` (Knuth, TFtoPL), `name.vf` (Knuth, VFtoVP), and for the
+-- glyphs at 300 dots to the inch `name.300pk` (Rokicki, PKtype; the name is that of dvips) and
+-- `name.300gf` (Knuth, GFtype; the name is that of METAFONT). Which names are looked for is this
+-- driver's own choice: those that stay in a folder.
+use Rattle.std.specs.Prelude.{ℕ, List, [], ◌∷◌, ◌++◌, ◌+◌, ◌-◌, ◌*◌, Bool, not, ◌&&◌, ◌||◌, ◌==◌, length, slice_index, slice_index_or, codes, decimal}
 use Rattle.std.specs.List.{list_all}
 use Rattle.std.specs.Int.{is_in_range}
 use Rattle.fix_word.specs.Scale.{half_up}
@@ -22,13 +23,13 @@ is_valid_name k =
     k.area == 0 && is_in_range 1 100 (length k.name) && list_all is_name_byte k.name
     && not (slice_index k.name 0 == 46)
 
--- ---- the resolution of a PK font
+-- ---- the resolution of a font's glyphs
 
 -- the dots to the inch of a font at its size, to the nearest whole number, halves up
 abbrev pub dpi : Units → FontKey → ℕ
 dpi u k = half_up (u.res * u.mag * k.size) (1000 * k.design)
 
--- the resolutions of PK files that are looked for
+-- the resolutions of PK and GF files that are looked for
 abbrev pub is_resolution : ℕ → Bool
 is_resolution n = is_in_range 1 1000000 n
 
@@ -40,14 +41,34 @@ tfm_name k = k.name ++ codes ".tfm"
 abbrev pub vf_name : FontKey → List ℕ
 vf_name k = k.name ++ codes ".vf"
 
-abbrev pub pk_name : FontKey → ℕ → List ℕ
-pk_name k resolution = k.name ++ codes "." ++ decimal resolution ++ codes "pk"
+-- a file of glyphs at a resolution, of the kind that two letters name
+abbrev pub glyph_name : List ℕ → FontKey → ℕ → List ℕ
+glyph_name kind k resolution = k.name ++ codes "." ++ decimal resolution ++ kind
 
--- PK files at the font's resolution and, since it was rounded, at the two next to it: one above
+-- such files at the font's resolution and, since it was rounded, at the two next to it: one above
 -- before one below
+abbrev pub nearest_names : List ℕ → Units → FontKey → List (List ℕ)
+nearest_names kind u k =
+    glyph_name kind k (dpi u k) ∷ glyph_name kind k (dpi u k + 1)
+    ∷ glyph_name kind k (dpi u k - 1) ∷ []
+
 abbrev pub pk_names : Units → FontKey → List (List ℕ)
-pk_names u k = pk_name k (dpi u k) ∷ pk_name k (dpi u k + 1) ∷ pk_name k (dpi u k - 1) ∷ []
+pk_names u k = nearest_names (codes "pk") u k
+
+abbrev pub gf_names : Units → FontKey → List (List ℕ)
+gf_names u k = nearest_names (codes "gf") u k
+
+-- PK files before GF files
+abbrev pub glyph_names : Units → FontKey → List (List ℕ)
+glyph_names u k = pk_names u k ++ gf_names u k
 
 -- all the names of a font's files, in the order in which they are looked for
 abbrev pub file_names : Units → FontKey → List (List ℕ)
-file_names u k = tfm_name k ∷ vf_name k ∷ pk_names u k
+file_names u k = tfm_name k ∷ vf_name k ∷ glyph_names u k
+
+-- one of them by its place, and three that follow one another
+abbrev pub name_at : Units → FontKey → ℕ → List ℕ
+name_at u k n = slice_index_or (file_names u k) n []
+
+abbrev pub three_names : Units → FontKey → ℕ → List (List ℕ)
+three_names u k n = name_at u k n ∷ name_at u k (n + 1) ∷ name_at u k (n + 2) ∷ []

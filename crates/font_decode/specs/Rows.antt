@@ -5,6 +5,8 @@ use Rattle.tfm_reader.specs.Tfm.{tfm_fault}
 use Rattle.tfm_reader.specs.declared.faults.TfmFault.{TfmFault}
 use Rattle.pk_packets.specs.Faults as pk_file
 use Rattle.pk_packets.specs.declared.faults.PkFault.{PkFault}
+use Rattle.gf_reader.specs.FirstFault as gf_file
+use Rattle.gf_reader.specs.declared.faults.GfFault.{GfFault}
 use Rattle.vf_reader.specs.Faults as vf_file
 use Rattle.vf_reader.specs.Fonts.{IsVfFile}
 use Rattle.vf_reader.specs.Locals.{locals_of}
@@ -15,7 +17,7 @@ use Rattle.font_decode.specs.Names.{is_valid_name, dpi, is_resolution}
 use Rattle.font_decode.specs.Files.{FontFiles}
 use Rattle.font_decode.specs.Fonts.{FontValue}
 use Rattle.font_decode.specs.Locals.{are_local_sizes}
-use Rattle.font_decode.specs.Decoding.{is_too_long, IsPackedFont, IsVirtualFont}
+use Rattle.font_decode.specs.Decoding.{is_too_long, IsPackedFont, IsGenericFont, IsVirtualFont}
 use Rattle.font_decode.specs.declared.font_or_fault.Decoded.{Decoded}
 use Rattle.font_decode.specs.declared.font_or_fault.Decoded.TheVariants.{Font, Fault}
 use Rattle.font_decode.specs.declared.faults.FileKind.TheVariants as kind
@@ -33,16 +35,18 @@ pub data Row : Type 0 where
   WrongVf : Row
   LocalSize : Row
   Resolution : Row
-  NoPk : Row
   LongPk : Row
   WrongPk : Row
+  LongGf : Row
+  WrongGf : Row
+  NoGlyphs : Row
 
 abbrev pub rows : List Row
-rows = WrongName ∷ NoTfm ∷ LongTfm ∷ WrongTfm ∷ LongVf ∷ WrongVf ∷ LocalSize ∷ Resolution ∷ NoPk
-    ∷ LongPk ∷ WrongPk ∷ []
+rows = WrongName ∷ NoTfm ∷ LongTfm ∷ WrongTfm ∷ LongVf ∷ WrongVf ∷ LocalSize ∷ Resolution
+    ∷ LongPk ∷ WrongPk ∷ LongGf ∷ WrongGf ∷ NoGlyphs ∷ []
 
 -- a row holds of a key and its files, with this fault; those of a PK file only where there is no VF
--- file
+-- file, and those of a GF file only where there is no PK file either
 abbrev pub Holds : Units → FontKey → FontFiles → Row → FontFault → Type 0
 Holds u k files WrongName f = IsFalse (is_valid_name k) × (f ≡ fault.Name)
 Holds u k files NoTfm f = (files.tfm ≡ None) × (f ≡ fault.Missing kind.Tfm)
@@ -63,13 +67,20 @@ Holds u k files LocalSize f =
     × IsFalse (are_local_sizes u k.size (locals_of items)) × (f ≡ fault.Size)
 Holds u k files Resolution f =
     (files.vf ≡ None) × IsFalse (is_resolution (dpi u k)) × (f ≡ fault.Size)
-Holds u k files NoPk f = (files.vf ≡ None) × (files.pk ≡ None) × (f ≡ fault.Missing kind.Pk)
 Holds u k files LongPk f =
     (files.vf ≡ None) × (bytes : List ℕ) × (files.pk ≡ Some bytes) × IsTrue (is_too_long bytes)
     × (f ≡ fault.TooLong kind.Pk)
 Holds u k files WrongPk f =
     (files.vf ≡ None) × (bytes : List ℕ) × (files.pk ≡ Some bytes) × (found : PkFault)
     × pk_file.IsFirstFault bytes found × (f ≡ fault.Pk found)
+Holds u k files LongGf f =
+    (files.vf ≡ None) × (files.pk ≡ None) × (bytes : List ℕ) × (files.gf ≡ Some bytes)
+    × IsTrue (is_too_long bytes) × (f ≡ fault.TooLong kind.Gf)
+Holds u k files WrongGf f =
+    (files.vf ≡ None) × (files.pk ≡ None) × (bytes : List ℕ) × (files.gf ≡ Some bytes)
+    × (found : GfFault) × gf_file.IsFirstFault bytes found × (f ≡ fault.Gf found)
+Holds u k files NoGlyphs f =
+    (files.vf ≡ None) × (files.pk ≡ None) × (files.gf ≡ None) × (f ≡ fault.Missing kind.Pk)
 
 -- ---- the first row that holds, else the font
 
@@ -87,8 +98,10 @@ FirstHolds u k files (row ∷ others) f =
     Holds u k files row f ⊎ (HoldsNot u k files row × FirstHolds u k files others f)
 
 -- the font that the files make
-abbrev pub IsPackedOf : FontKey → List ℕ → Option (List ℕ) → FontValue → Type 0
-IsPackedOf k tfm pk f = (bytes : List ℕ) × (pk ≡ Some bytes) × IsPackedFont k tfm bytes f
+abbrev pub IsPackedOf : FontKey → List ℕ → FontFiles → FontValue → Type 0
+IsPackedOf k tfm files f = MatchOption files.pk
+    ((gf : List ℕ) × (files.gf ≡ Some gf) × IsGenericFont k tfm gf f)
+    (λ pk. IsPackedFont k tfm pk f)
 
 abbrev pub IsVirtualOf : Units → FontKey → List ℕ → List ℕ → FontValue → Type 0
 IsVirtualOf u k tfm vf f =
@@ -96,7 +109,7 @@ IsVirtualOf u k tfm vf f =
 
 abbrev pub IsFontOfFiles : Units → FontKey → FontFiles → FontValue → Type 0
 IsFontOfFiles u k files f =
-    (tfm : List ℕ) × (files.tfm ≡ Some tfm) × MatchOption files.vf (IsPackedOf k tfm files.pk f)
+    (tfm : List ℕ) × (files.tfm ≡ Some tfm) × MatchOption files.vf (IsPackedOf k tfm files f)
     (λ vf. IsVirtualOf u k tfm vf f)
 
 -- the fault of the first row that holds, else the font

@@ -3,7 +3,7 @@ ghost use Rattle.std.specs.Prelude.{◌≡◌, List, ℕ, IfOk};
 ghost use Rattle.outside.specs.FontKeys.{IsFontKey};
 ghost use Rattle.pixel_round.specs.Preamble.{AreUnits};
 ghost use Rattle.font_decode.specs.Files.{bytes_of};
-ghost use Rattle.font_decode.specs.Decoding.{is_too_long, DecodesShortPk, DecodesPacked, DecodesItems, DecodesShortVf, DecodesSound, DecodesTfm, IsDecodingOf};
+ghost use Rattle.font_decode.specs.Decoding.{is_too_long, DecodesShortPk, DecodesShortGf, DecodesGlyphs, DecodesPacked, DecodesItems, DecodesShortVf, DecodesSound, DecodesTfm, IsDecodingOf};
 ghost use Rattle.font_decode.specs.Reading.{IsTfmOf, IsVfRead};
 ghost use Rattle.vf_reader.specs.Fonts.{HasPacketsOf};
 
@@ -12,6 +12,7 @@ use crate::names::{dpi, is_resolution, is_valid_name};
 use crate::shapes::Shapes;
 use crate::widths::scaled_widths;
 use crate::{Decoded, FileKind, Files, Font, FontFault};
+use gf_reader::{GfFont, GfStop};
 use outside::FontKey;
 use pixel_round::Units;
 use pk_packets::{PkFont, PkStop};
@@ -32,13 +33,16 @@ fn is_too_long(bytes: &[u8]) -> bool
 /// The font of a key, by its files, or its first fault: `Name`; then `Missing`, `TooLong` and `Tfm`
 /// of the TFM file. Where there is a VF file, its `TooLong` and `Vf` follow, and `Size` where the
 /// size or the design size of a local font lies outside 1 to 2^27 - 1 DVI units; where there is
-/// none, `Size` of the resolution, and `Missing`, `TooLong` and `Pk` of the PK file. A file after
-/// the first fault isn't looked at, nor is a PK file beside a VF file.
+/// none, `Size` of the resolution; then `TooLong` and `Pk` of the PK file or, where there is none,
+/// `TooLong` and `Gf` of the GF file; and where there is neither, `Missing` of the PK file. A file
+/// after the first fault isn't looked at, nor a PK or GF file beside a VF file, nor a GF file
+/// beside a PK file.
 ///
 /// The widths are those of the TFM file (Knuth, TFtoPL, "Font metric data"), scaled to the key's
-/// size, the glyphs those of the PK file (Rokicki, PKtype, "Packed file format"), and the packets
-/// those of the VF file (Knuth, VFtoVP, "Virtual fonts"). A local font's key has the size that its
-/// factor makes of the key's size, and its design size in DVI units; both are scaled here, once.
+/// size, the glyphs those of the PK file (Rokicki, PKtype, "Packed file format") or of the GF file
+/// (Knuth, GFtype, "Generic font file format"), and the packets those of the VF file (Knuth,
+/// VFtoVP, "Virtual fonts"). A local font's key has the size that its factor makes of the key's
+/// size, and its design size in DVI units; both are scaled here, once.
 pub fn decode(
     alloc: Global,
     key: &FontKey,
@@ -146,7 +150,7 @@ fn decode_locals(
     }
 }
 
-// Without a VF file: judges the resolution, and looks for a PK file.
+// Without a VF file: judges the resolution.
 fn decode_packed(
     alloc: Global,
     key: &FontKey,
@@ -157,14 +161,30 @@ fn decode_packed(
     requires units { AreUnits units.now }
     requires key { IsFontKey key.now }
     ensures { IfOk result (λ d. (bytes : List ℕ) → IsTfmOf bytes tfm.now →
-        DecodesPacked units.now key.now bytes (bytes_of files.now).pk d) }
+        DecodesPacked units.now key.now bytes (bytes_of files.now) d) }
 {
-    if !is_resolution(dpi(units, key)) {
-        return Ok(Decoded::Fault(FontFault::Size));
+    if is_resolution(dpi(units, key)) {
+        decode_glyphs(alloc, key, tfm, files)
+    } else {
+        Ok(Decoded::Fault(FontFault::Size))
     }
-    match &files.pk {
-        Some(pk) => decode_pk(alloc, key, tfm, pk),
-        None => Ok(Decoded::Fault(FontFault::Missing(FileKind::Pk))),
+}
+
+// At a resolution in range: looks for a PK file, and then for a GF file.
+fn decode_glyphs(
+    alloc: Global,
+    key: &FontKey,
+    tfm: &Tfm,
+    files: &Files,
+) -> Result<Decoded, NoMemory>
+    requires key { IsFontKey key.now }
+    ensures { IfOk result (λ d. (bytes : List ℕ) → IsTfmOf bytes tfm.now →
+        DecodesGlyphs key.now bytes (bytes_of files.now) d) }
+{
+    match (&files.pk, &files.gf) {
+        (Some(pk), _) => decode_pk(alloc, key, tfm, pk),
+        (None, Some(gf)) => decode_gf(alloc, key, tfm, gf),
+        (None, None) => Ok(Decoded::Fault(FontFault::Missing(FileKind::Pk))),
     }
 }
 
@@ -184,5 +204,24 @@ fn decode_pk(alloc: Global, key: &FontKey, tfm: &Tfm, pk: &[u8]) -> Result<Decod
         }
         Err(PkStop::Fault(fault)) => Ok(Decoded::Fault(FontFault::Pk(fault))),
         Err(PkStop::NoMemory) => Err(NoMemory),
+    }
+}
+
+// Judges the GF file, and makes the font.
+fn decode_gf(alloc: Global, key: &FontKey, tfm: &Tfm, gf: &[u8]) -> Result<Decoded, NoMemory>
+    requires key { IsFontKey key.now }
+    ensures { IfOk result (λ d. (bytes : List ℕ) → IsTfmOf bytes tfm.now →
+        DecodesShortGf key.now bytes gf.now d) }
+{
+    if is_too_long(gf) {
+        return Ok(Decoded::Fault(FontFault::TooLong(FileKind::Gf)));
+    }
+    match GfFont::read(alloc, gf) {
+        Ok(glyphs) => {
+            let widths = scaled_widths(alloc, tfm, key.size)?;
+            Ok(Decoded::Font(Font::new(key.size, widths, Shapes::Generic(glyphs))))
+        }
+        Err(GfStop::Fault(fault)) => Ok(Decoded::Fault(FontFault::Gf(fault))),
+        Err(GfStop::NoMemory) => Err(NoMemory),
     }
 }

@@ -9,4 +9,6 @@ pub struct Files {
     pub vf: Option<Vec<u8>>,
     /// `name.300pk`, for 300 dots to the inch, with glyphs.
     pub pk: Option<Vec<u8>>,
+    /// `name.300gf`, for 300 dots to the inch, with glyphs.
+    pub gf: Option<Vec<u8>>,
 }

@@ -5,7 +5,7 @@ ghost use Rattle.outside.specs.Counts.{HasCause};
 ghost use Rattle.outside.specs.FontKeys.{IsFontKey};
 ghost use Rattle.pixel_round.specs.Preamble.{AreUnits};
 ghost use Rattle.font_decode.specs.Decoding.{IsFontOf};
-ghost use Rattle.font_decode.specs.Loads.{RoseUpTo};
+ghost use Rattle.font_decode.specs.Loads.{RoseUpTo, MAX_LOADS};
 
 use crate::loading::fetch;
 use crate::{Decoded, DeskStop, decode};
@@ -14,7 +14,7 @@ use pixel_round::Units;
 use std::alloc::Global;
 use std::sync::Arc;
 
-/// Fetches and decodes the font of a key, by five loads at most. A fault of the font is an answer.
+/// Fetches and decodes the font of a key, by eight loads at most. A fault of the font is an answer.
 /// `SourceFault` comes only where the source failed in this call, and `NoMemory` where memory ran
 /// out.
 pub fn load<F: FontSource>(
@@ -30,7 +30,7 @@ pub fn load<F: FontSource>(
     ensures library { F.library source.new ≡ F.library source.old }
     ensures cause { HasCause (F.faults source.old) (F.faults source.new)
         (IsErrOf result DeskStop.SourceFault) }
-    ensures loads { RoseUpTo 5 (F.loads source.old) (F.loads source.new) }
+    ensures loads { RoseUpTo MAX_LOADS (F.loads source.old) (F.loads source.new) }
 {
     let files = fetch(alloc, source, key, units)?;
     let decoded = decode(alloc, key, &files, units)?;

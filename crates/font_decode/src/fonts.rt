@@ -70,13 +70,13 @@ impl Font {
         ensures { result ≡ is_virtual_of self.now }
     {
         match &self.shapes {
-            Shapes::Packed(_) => false,
+            Shapes::Packed(_) | Shapes::Generic(_) => false,
             Shapes::Virtual { .. } => true,
         }
     }
 
-    /// The glyph of a character: that of the last packet with its code. `None` where no packet has
-    /// the code, and in a virtual font.
+    /// The glyph of a character: that of the last packet of the PK file, or of the last character
+    /// of the GF file, with its code. `None` where none has the code, and in a virtual font.
     #[inline(always)]
     pub fn glyph(&self, c: u32) -> Option<&Glyph>
         ensures { MatchOption result (glyph_at self.now c ≡ None)
@@ -84,6 +84,7 @@ impl Font {
     {
         match &self.shapes {
             Shapes::Packed(glyphs) => glyphs.glyph(c),
+            Shapes::Generic(glyphs) => glyphs.glyph(c),
             Shapes::Virtual { .. } => None,
         }
     }
@@ -98,7 +99,7 @@ impl Font {
         ensures commands { IfSome result (λ packet. IsProgram c packet.now) }
     {
         match &self.shapes {
-            Shapes::Packed(_) => None,
+            Shapes::Packed(_) | Shapes::Generic(_) => None,
             Shapes::Virtual { file, .. } => file.packet(c),
         }
     }
@@ -111,7 +112,7 @@ impl Font {
         ensures fits { IfSome result (λ key. IsFontKey (arc_value key.now)) }
     {
         match &self.shapes {
-            Shapes::Packed(_) => None,
+            Shapes::Packed(_) | Shapes::Generic(_) => None,
             Shapes::Virtual { keys, .. } => keys.get(k),
         }
     }
@@ -123,7 +124,7 @@ impl Font {
         ensures there { IfSome result (λ k. IsSome (local_of self.now k)) }
     {
         match &self.shapes {
-            Shapes::Packed(_) => None,
+            Shapes::Packed(_) | Shapes::Generic(_) => None,
             Shapes::Virtual { file, .. } => file.first_local(),
         }
     }

@@ -1,5 +1,5 @@
 //! Laws of the names of a font's files, and of what is found.
-ghost use Rattle.font_decode.specs.Laws.{NamesStayInFolder, AskedNamesStayInFolder, NamesAreDistinct, OneIsFound, FiveAtMost, OneOfItsFiles, OneInALibrary, EachKeyIsDecoded, RowsDetermineTheDecoding};
+ghost use Rattle.font_decode.specs.Laws.{NamesStayInFolder, AskedNamesStayInFolder, NamesAreDistinct, OneIsFound, FewAreLookedFor, OneOfItsFiles, OneInALibrary, EachKeyIsDecoded, RowsDetermineTheDecoding};
 
 /// No name of a font's files leads out of the folder, so none that is asked for does, whatever the
 /// key; and no two of them are the same.
@@ -9,10 +9,10 @@ pub fn names()
     ensures distinct { NamesAreDistinct }
 {}
 
-/// A library has one answer to a key, which is known after at most five names.
+/// A library has one answer to a key, which is known after at most eight names.
 pub fn answers()
     ensures one { OneIsFound }
-    ensures five { FiveAtMost }
+    ensures few { FewAreLookedFor }
 {}
 
 /// Files come to one font or have one first fault, and so does a key in a library: two decodings

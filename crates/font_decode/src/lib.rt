@@ -1,8 +1,8 @@
 //! Fonts from their files. A font's key, that is its name and its sizes, says which files it may
-//! have: a TFM file with its widths, and a VF file with packets of DVI commands or else a PK file
-//! with its glyphs. `fetch` loads those that are there from a source of files, and `decode` makes
-//! the font of them, or answers what is wrong with it first. A `Desk` is where a page asks for its
-//! fonts, however they are kept.
+//! have: a TFM file with its widths, and a VF file with packets of DVI commands or else a PK or GF
+//! file with its glyphs. `fetch` loads those that are there from a source of files, and `decode`
+//! makes the font of them, or answers what is wrong with it first. A `Desk` is where a page asks
+//! for its fonts, however they are kept.
 #![tactic(auto)]
 
 mod decoding;

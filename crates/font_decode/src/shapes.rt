@@ -1,11 +1,14 @@
 //! What the characters of a font are.
 use crate::local_keys::LocalKeys;
+use gf_reader::GfFont;
 use pk_packets::PkFont;
 use vf_reader::VfFont;
 
-/// The glyphs of a packed font, or the packets of a virtual font and the keys of its local fonts.
+/// The glyphs of a packed font, by its PK or its GF file, or the packets of a virtual font and the
+/// keys of its local fonts.
 #[derive(Drop)]
 pub enum Shapes {
     Packed(PkFont),
+    Generic(GfFont),
     Virtual { file: VfFont, keys: LocalKeys },
 }

@@ -6,6 +6,7 @@ mod faults;
 mod fetches;
 mod files;
 mod fonts;
+mod generic_fonts;
 mod names;
 mod sources;
 

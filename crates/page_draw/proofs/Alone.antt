@@ -12,7 +12,7 @@ use Rattle.cache_core.specs.Machine.{claim_of, Legal}
 use Rattle.cache_core.specs.Histories.{AreOf, NoneReleased, NoneBusy, SeatCalls, look_of, looks}
 use Rattle.cache_core.specs.States.{Cache, IsReached, StateStands, call}
 use Rattle.font_decode.specs.Desks.{GrewBy, ReleasedLast, misses, Loaded, TrailGrew}
-use Rattle.font_decode.specs.Loads.{RoseUpTo}
+use Rattle.font_decode.specs.Loads.{RoseUpTo, MAX_LOADS}
 use Rattle.font_decode.specs.declared.font_or_fault.Decoded.{Decoded}
 use Rattle.page_draw.specs.SoloDesks.{IsAlone, asked_by, common_part, stands_for_key, trail_by}
 
@@ -31,7 +31,7 @@ module _ (c d : Cache Decoded) (calls : List Call) (grew : d.history ≡ c.histo
   asked_grew keys e = ap Some (ap looks grew ∙ looks-append c.history calls ∙ ap (λ (l : List FontKey). looks c.history ++ l) e)
 
   trail_grew : (W : Type 0) (keys : List FontKey) (l m : ℕ) → looks calls ≡ keys → AreOf 1 calls → SeatCalls keys calls → ReleasedLast calls
-      → (W → NoneReleased calls) → Loaded (5 * misses calls) l m l m → TrailGrew W (asked_by c) (asked_by d) (trail_by l c) (trail_by m d)
+      → (W → NoneReleased calls) → Loaded (MAX_LOADS * misses calls) l m l m → TrailGrew W (asked_by c) (asked_by d) (trail_by l c) (trail_by m d)
   trail_grew W keys l m looked mine for_keys last answered loaded = (
     record { seat = 1; capacity = d.capacity; calls = d.history; loads = m; counted = m },
     refl,
@@ -82,20 +82,20 @@ pub two_calls : (k : FontKey) (done : Done) (c u d : Cache Decoded) → u.histor
 two_calls k done c u d first second =
     second ∙ ap (λ (l : List Call). l ++ call 1 k done ∷ []) first ∙ append_assoc c.history (call 1 k Claimed ∷ []) (call 1 k done ∷ [])
 
-module _ (W : Type 0) (k : FontKey) (c u d : Cache Decoded) (l m : ℕ) (claimed : u.history ≡ c.history ++ call 1 k Claimed ∷ []) (capacity : d.capacity ≡ c.capacity) (loads : RoseUpTo 5 l m) where
+module _ (W : Type 0) (k : FontKey) (c u d : Cache Decoded) (l m : ℕ) (claimed : u.history ≡ c.history ++ call 1 k Claimed ∷ []) (capacity : d.capacity ≡ c.capacity) (loads : RoseUpTo MAX_LOADS l m) where
   pub filled_trail : (gone : Option FontKey) → d.history ≡ u.history ++ call 1 k (Filled gone) ∷ [] → TrailGrew W (asked_by c) (asked_by d) (trail_by l c) (trail_by m d)
   filled_trail gone filled =
       let f = call 1 k Claimed in
       let s = call 1 k (Filled gone) in
       trail_grew c d (f ∷ s ∷ []) (two_calls k (Filled gone) c u d claimed filled) capacity W (k ∷ []) l m refl (refl, (refl, tt))
-      (f ∷ s ∷ [], [], refl, inr (f, s, refl, refl, refl, refl, inl (gone, refl)), refl) (inr ((λ e. cc), inl refl)) (λ w. ((λ e. cc), ((λ e. cc), tt))) (both_loaded 5 l m loads)
+      (f ∷ s ∷ [], [], refl, inr (f, s, refl, refl, refl, refl, inl (gone, refl)), refl) (inr ((λ e. cc), inl refl)) (λ w. ((λ e. cc), ((λ e. cc), tt))) (both_loaded MAX_LOADS l m loads)
 
   pub released_trail : (W → ⊥) → d.history ≡ u.history ++ call 1 k Released ∷ [] → TrailGrew W (asked_by c) (asked_by d) (trail_by l c) (trail_by m d)
   released_trail never released =
       let f = call 1 k Claimed in
       let s = call 1 k Released in
       trail_grew c d (f ∷ s ∷ []) (two_calls k Released c u d claimed released) capacity W (k ∷ []) l m refl (refl, (refl, tt))
-      (f ∷ s ∷ [], [], refl, inr (f, s, refl, refl, refl, refl, inr refl), refl) (inr ((λ e. cc), inl refl)) (λ w. absurd (never w)) (both_loaded 5 l m loads)
+      (f ∷ s ∷ [], [], refl, inr (f, s, refl, refl, refl, refl, inr refl), refl) (inr ((λ e. cc), inl refl)) (λ w. absurd (never w)) (both_loaded MAX_LOADS l m loads)
 
 -- ---- however a claim was ended
 
@@ -125,7 +125,7 @@ module _ (k : FontKey) (c u d : Cache Decoded) (claimed : u.history ≡ c.histor
           | Err e ↦ λ f r. (Released, refl, r)
         ] filled released
 
-    pub kept_trail : (l m : ℕ) → RoseUpTo 5 l m → TrailGrew (IsOk result) (asked_by c) (asked_by d) (trail_by l c) (trail_by m d)
+    pub kept_trail : (l m : ℕ) → RoseUpTo MAX_LOADS l m → TrailGrew (IsOk result) (asked_by c) (asked_by d) (trail_by l c) (trail_by m d)
     kept_trail l m loads =
         elim result as (λ (r : Result A E). IfOk r (λ _. (gone : Option FontKey) × (d.history ≡ u.history ++ call 1 k (Filled gone) ∷ []))
         → OnErr r (d.history ≡ u.history ++ call 1 k Released ∷ []) → TrailGrew (IsOk r) (asked_by c) (asked_by d) (trail_by l c) (trail_by m d)) [

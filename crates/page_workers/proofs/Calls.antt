@@ -10,6 +10,7 @@ use Rattle.cache_core.specs.Histories.{own, SeatCalls, AreOf, NoneReleased, look
 use Rattle.cache_core.specs.States.{call}
 use Rattle.turn_lock.specs.Seats.{SeatView}
 use Rattle.font_decode.specs.Desks.{GrewBy, ReleasedLast, misses, Loaded, TrailGrew}
+use Rattle.font_decode.specs.Loads.{MAX_LOADS}
 use Rattle.page_workers.specs.Seats.{own_calls, asked_at, trail_at}
 
 looks-append : (xs ys : List Call) → looks (xs ++ ys) ≡ looks xs ++ looks ys
@@ -30,7 +31,7 @@ module _ (s t : SeatView) (calls : List Call) (grew : Grew s t calls) where
   asked_grew keys e = ap Some (ap looks own_grew ∙ looks-append (own_calls s) calls ∙ ap (λ (l : List FontKey). looks (own_calls s) ++ l) e)
 
   pub trail_grew : (W : Type 0) (keys : List FontKey) (l m c d : ℕ) → looks calls ≡ keys → AreOf s.view.number calls → SeatCalls keys calls → ReleasedLast calls
-      → (W → NoneReleased calls) → Loaded (5 * misses calls) l m c d → TrailGrew W (asked_at (Some s)) (asked_at (Some t)) (trail_at l c (Some s)) (trail_at m d (Some t))
+      → (W → NoneReleased calls) → Loaded (MAX_LOADS * misses calls) l m c d → TrailGrew W (asked_at (Some s)) (asked_at (Some t)) (trail_at l c (Some s)) (trail_at m d (Some t))
   trail_grew W keys l m c d looked mine for_keys last answered loaded = (
     record { seat = t.view.number; capacity = t.view.part.capacity; calls = own_calls t; loads = m; counted = d },
     refl,
@@ -67,19 +68,19 @@ module _ (W : Type 0) (k : FontKey) (s t : SeatView) (l m c d : ℕ) where
       (call s.view.number k Hit ∷ [], [], refl, inl (call s.view.number k Hit, refl, refl, inl refl), refl) (inl refl) (λ w. ((λ e. cc), tt))
       (subst (λ (x : ℕ). Loaded 0 l x c d) (sym same) (subst (λ (x : ℕ). Loaded 0 l l c x) (sym counted) (nothing_loaded l c)))
 
-  pub busy_grew : Grew s t (call s.view.number k Busy ∷ []) → Loaded 5 l m c d → Knows
+  pub busy_grew : Grew s t (call s.view.number k Busy ∷ []) → Loaded MAX_LOADS l m c d → Knows
   busy_grew grew loaded =
       trail_grew s t (call s.view.number k Busy ∷ []) grew W (k ∷ []) l m c d refl (refl, tt)
       (call s.view.number k Busy ∷ [], [], refl, inl (call s.view.number k Busy, refl, refl, inr refl), refl) (inl refl) (λ w. ((λ e. cc), tt)) loaded
 
-  pub filled_grew : (gone : Option FontKey) → Grew s t (call s.view.number k Claimed ∷ call s.view.number k (Filled gone) ∷ []) → Loaded 5 l m c d → Knows
+  pub filled_grew : (gone : Option FontKey) → Grew s t (call s.view.number k Claimed ∷ call s.view.number k (Filled gone) ∷ []) → Loaded MAX_LOADS l m c d → Knows
   filled_grew gone grew loaded =
       let first = call s.view.number k Claimed in
       let second = call s.view.number k (Filled gone) in
       trail_grew s t (first ∷ second ∷ []) grew W (k ∷ []) l m c d refl (refl, (refl, tt))
       (first ∷ second ∷ [], [], refl, inr (first, second, refl, refl, refl, refl, inl (gone, refl)), refl) (inr ((λ e. cc), inl refl)) (λ w. ((λ e. cc), ((λ e. cc), tt))) loaded
 
-  pub released_grew : (W → ⊥) → Grew s t (call s.view.number k Claimed ∷ call s.view.number k Released ∷ []) → Loaded 5 l m c d → Knows
+  pub released_grew : (W → ⊥) → Grew s t (call s.view.number k Claimed ∷ call s.view.number k Released ∷ []) → Loaded MAX_LOADS l m c d → Knows
   released_grew never grew loaded =
       let first = call s.view.number k Claimed in
       let second = call s.view.number k Released in
@@ -136,7 +137,7 @@ module _ (k : FontKey) (s u t : SeatView) (first : Grew s u (call s.view.number 
 
     pub kept_trail : (l m c d : ℕ)
         → IfOk result (λ _. (gone : Option FontKey) × (own u.view.number t.view.seen ≡ own u.view.number u.view.seen ++ call u.view.number k (Filled gone) ∷ []))
-        → OnErr result (own u.view.number t.view.seen ≡ own u.view.number u.view.seen ++ call u.view.number k Released ∷ []) → Loaded 5 l m c d
+        → OnErr result (own u.view.number t.view.seen ≡ own u.view.number u.view.seen ++ call u.view.number k Released ∷ []) → Loaded MAX_LOADS l m c d
         → TrailGrew (IsOk result) (asked_at (Some s)) (asked_at (Some t)) (trail_at l c (Some s)) (trail_at m d (Some t))
     kept_trail l m c d filled released loaded =
         elim result as (λ (r : Result A E). IfOk r (λ _. (gone : Option FontKey) × (own u.view.number t.view.seen ≡ own u.view.number u.view.seen ++ call u.view.number k (Filled gone) ∷ []))

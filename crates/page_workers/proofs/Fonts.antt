@@ -5,8 +5,8 @@ use Rattle.std.specs.FinMap.{get}
 use Rattle.outside.specs.Library as library
 use Rattle.outside.specs.declared.keys.FontKey.{FontKey}
 use Rattle.pixel_round.specs.declared.units.Units.{Units}
-use Rattle.font_decode.specs.Names.{is_valid_name, dpi, is_resolution, tfm_name, vf_name, pk_names}
-use Rattle.font_decode.specs.Files.{FontFiles, IsFound, IsInOrder, first_there, pk_choices}
+use Rattle.font_decode.specs.Names.{is_valid_name, dpi, is_resolution, tfm_name, vf_name, gf_names, pk_names}
+use Rattle.font_decode.specs.Files.{FontFiles, IsFound, IsInOrder, first_there, gf_choices, pk_choices}
 use Rattle.font_decode.specs.Decoding.{IsFontOf, IsFontBySome}
 use Rattle.font_decode.specs.declared.font_or_fault.Decoded.{Decoded}
 
@@ -38,6 +38,12 @@ in_order l u k f found = record {
       let parts = both (is_some f.tfm) (is_none f.vf) asked in
       let pk = found.pk ∙ ap (λ (b : Bool). if b then first_there l (pk_choices u k) else None) asked in
       (parts.0, none_of f.vf parts.1, only_near l (is_resolution (dpi u k)) (pk_names u k) f.pk pk some);
+  gf = λ some.
+      let asked = only_where (is_some f.tfm && is_none f.vf && is_none f.pk) f.gf (first_there l (gf_choices u k)) found.gf some in
+      let parts = both (is_some f.tfm && is_none f.vf) (is_none f.pk) asked in
+      let first = both (is_some f.tfm) (is_none f.vf) parts.0 in
+      let gf = found.gf ∙ ap (λ (b : Bool). if b then first_there l (gf_choices u k) else None) asked in
+      (first.0, none_of f.vf first.1, none_of f.pk parts.1, only_near l (is_resolution (dpi u k)) (gf_names u k) f.gf gf some);
 }
 
 -- a font of a library is one by some files

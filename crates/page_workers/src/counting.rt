@@ -6,6 +6,7 @@ ghost use Rattle.outside.specs.FontKeys.{IsFontKey};
 ghost use Rattle.pixel_round.specs.Preamble.{AreUnits};
 ghost use Rattle.font_decode.specs.Decoding.{IsFontOf};
 ghost use Rattle.font_decode.specs.Desks.{Loaded};
+ghost use Rattle.font_decode.specs.Loads.{MAX_LOADS};
 ghost use Rattle.page_workers.specs.Counts.{CountedLoads};
 
 use font_decode::{Decoded, DeskStop, load};
@@ -84,7 +85,7 @@ fn load_lent<'a, K: Loan, F: FontSource>(
     ensures library { F.library result.now ≡ F.library source.old }
     ensures cause { HasCause (F.faults source.old) (F.faults result.now)
         (IsErrOf loaded.new.font DeskStop.SourceFault) }
-    ensures few { loaded.new.loads ≤ 5 }
+    ensures few { loaded.new.loads ≤ MAX_LOADS }
     ensures counted { CountedLoads (F.loads source.old) loaded.new.loads (F.loads result.now) }
 {
     let mut counting = Counting::<F, K> {
@@ -102,7 +103,7 @@ fn load_lent<'a, K: Loan, F: FontSource>(
     source
 }
 
-/// Loads and decodes the font of a key, and adds the loads that it asked for, at most five, to the
+/// Loads and decodes the font of a key, and adds the loads that it asked for, at most eight, to the
 /// count. A fault of the font is an answer. `SourceFault` comes only where the source's count of
 /// faults rose, `NoMemory` where memory ran out.
 pub fn load_counted<F: FontSource>(
@@ -120,8 +121,9 @@ pub fn load_counted<F: FontSource>(
     ensures library { F.library source.new ≡ F.library source.old }
     ensures cause { HasCause (F.faults source.old) (F.faults source.new)
         (IsErrOf result DeskStop.SourceFault) }
-    ensures loaded { Loaded 5 (F.loads source.old) (F.loads source.new) loads.old loads.new }
-    ensures few { loads.new ≤ loads.old + 5 }
+    ensures loaded { Loaded MAX_LOADS (F.loads source.old) (F.loads source.new) loads.old
+        loads.new }
+    ensures few { loads.new ≤ loads.old + MAX_LOADS }
 {
     let mut loaded = CountedLoad {
         font: Err(DeskStop::NoMemory),

@@ -21,6 +21,7 @@ use Rattle.vf_expand.specs.Laws.{ThePageIsWorked, worked}
 -- a font with a glyph is no virtual one
 packed_shape : (s : Shapes) (c : ℕ) (g : Glyph) → glyph_in s c ≡ Some g → is_virtual_shape s ≡ false
 packed_shape (shapes.Packed glyphs) c g e = refl
+packed_shape (shapes.Generic glyphs) c g e = refl
 packed_shape (shapes.Virtual file keys) c g e = absurd cc
 
 is_packed : (f : FontValue) (c : ℕ) (g : Glyph) → glyph_at f c ≡ Some g → is_virtual_of f ≡ false

@@ -1,11 +1,12 @@
 //! What is wrong with a font's files, in words.
 ghost use Rattle.std.specs.Prelude.{◌≡◌, ◌++◌, codes};
-ghost use Rattle.dvi_run.specs.FontTexts.{font_text, kind_text, pk_text, raster_text, tfm_text};
+ghost use Rattle.dvi_run.specs.FontTexts.{font_text, gf_text, kind_text, pk_text, raster_text, tfm_text};
 ghost use Rattle.dvi_run.specs.Names.{name_text};
 
 use crate::texts::name::Name;
 use crate::texts::virtual_font::vf_name;
 use font_decode::{FileKind, FontFault};
+use gf_reader::GfFault;
 use pk_packets::PkFault;
 use pk_runs::RunFault;
 use tfm_reader::TfmFault;
@@ -54,6 +55,20 @@ fn pk_name(fault: PkFault) -> Name
     }
 }
 
+// The name of a GF file's fault.
+fn gf_name(fault: GfFault) -> Name
+    ensures { name_text result ≡ codes "gf " ++ gf_text fault }
+{
+    match fault {
+        GfFault::Short => Name::text_only(b"gf short"),
+        GfFault::Preamble => Name::text_only(b"gf preamble"),
+        GfFault::Misplaced(opcode) => Name::numbered(b"gf misplaced ", i64::from(opcode)),
+        GfFault::TooBig(code) => Name::numbered(b"gf too big ", i64::from(code)),
+        GfFault::Outside(code) => Name::numbered(b"gf outside ", i64::from(code)),
+        GfFault::FontTooBig => Name::text_only(b"gf font too big"),
+    }
+}
+
 // The name of the want of a file.
 fn missing_name(kind: FileKind) -> Name
     ensures { name_text result ≡ codes "missing " ++ kind_text kind }
@@ -62,6 +77,7 @@ fn missing_name(kind: FileKind) -> Name
         FileKind::Tfm => b"missing tfm",
         FileKind::Vf => b"missing vf",
         FileKind::Pk => b"missing pk",
+        FileKind::Gf => b"missing gf",
     })
 }
 
@@ -73,6 +89,7 @@ fn too_long_name(kind: FileKind) -> Name
         FileKind::Tfm => b"too long tfm",
         FileKind::Vf => b"too long vf",
         FileKind::Pk => b"too long pk",
+        FileKind::Gf => b"too long gf",
     })
 }
 
@@ -85,6 +102,7 @@ pub fn font_name(fault: FontFault) -> Name
         FontFault::Tfm(fault) => tfm_name(fault),
         FontFault::Vf(fault) => vf_name(fault),
         FontFault::Pk(fault) => pk_name(fault),
+        FontFault::Gf(fault) => gf_name(fault),
         FontFault::Name => Name::text_only(b"name"),
         FontFault::Size => Name::text_only(b"size"),
         FontFault::TooLong(kind) => too_long_name(kind),

@@ -7,17 +7,26 @@ use std::alloc::{AllocError as NoMemory, Global};
 use std::str;
 use std::test::Fail;
 
-const MANY: [&str; 10] = [
+const MANY: [&str; 19] = [
     "dot.tfm",
     "dot.300pk",
+    "dot.300gf",
     "near.tfm",
     "near.301pk",
     "near.299pk",
     "low.tfm",
     "low.299pk",
+    "low.300gf",
     "duo.tfm",
     "duo.vf",
     "duo.300pk",
+    "gen.tfm",
+    "gen.300gf",
+    "up.tfm",
+    "up.301gf",
+    "up.299gf",
+    "o.tfm",
+    "o.299gf",
 ];
 
 const DOT: Named = (b"dot", 128, 128);
@@ -27,10 +36,11 @@ const TWICE: Named = (b"dot", 256, 128);
 
 // A font, the files that are there, and the number of the load that fails, from 1, or 0. Then what
 // a fetch comes to: the names that it asks for, and after a bar the TFM, the VF and the PK file
-// that it finds. `!` stands at the end where the next load is the one that fails.
+// that it finds, and a GF file where it finds one. `!` stands at the end where the next load is the
+// one that fails.
 type Fetch = (Named, &'static [&'static str], u64, &'static str);
 
-static FETCHES: [Fetch; 28] = [
+static FETCHES: [Fetch; 37] = [
     (
         DOT,
         &MANY,
@@ -51,13 +61,38 @@ static FETCHES: [Fetch; 28] = [
         "low.tfm low.vf low.300pk low.301pk low.299pk | low.tfm - low.299pk !",
     ),
     (
-        TWICE,
+        (b"up", 256, 128),
         &MANY,
-        6,
-        "dot.tfm dot.vf dot.600pk dot.601pk dot.599pk | dot.tfm - - !",
+        9,
+        "up.tfm up.vf up.600pk up.601pk up.599pk up.600gf up.601gf up.599gf | up.tfm - - !",
     ),
-    // No packed file is looked for: beside a VF file, without a TFM file, and at 1,171,875 dots to
-    // the inch.
+    // GF files come after the three PK files, at the same three resolutions.
+    (
+        (b"gen", 128, 128),
+        &MANY,
+        7,
+        "gen.tfm gen.vf gen.300pk gen.301pk gen.299pk gen.300gf | gen.tfm - - gen.300gf !",
+    ),
+    (
+        (b"up", 128, 128),
+        &MANY,
+        8,
+        "up.tfm up.vf up.300pk up.301pk up.299pk up.300gf up.301gf | up.tfm - - up.301gf !",
+    ),
+    (
+        (b"o", 128, 128),
+        &MANY,
+        9,
+        "o.tfm o.vf o.300pk o.301pk o.299pk o.300gf o.301gf o.299gf | o.tfm - - o.299gf !",
+    ),
+    (
+        (b"dot", 256, 128),
+        &["dot.tfm", "dot.600gf", "dot.599pk"],
+        0,
+        "dot.tfm dot.vf dot.600pk dot.601pk dot.599pk | dot.tfm - dot.599pk",
+    ),
+    // No file of glyphs is looked for: beside a VF file, without a TFM file, and at 1,171,875 dots
+    // to the inch.
     (
         (b"duo", 128, 128),
         &MANY,
@@ -156,6 +191,36 @@ static FETCHES: [Fetch; 28] = [
         5,
         "dot.tfm dot.vf dot.600pk dot.601pk dot.599pk | failed",
     ),
+    (
+        TWICE,
+        &MANY,
+        6,
+        "dot.tfm dot.vf dot.600pk dot.601pk dot.599pk dot.600gf | failed",
+    ),
+    (
+        TWICE,
+        &MANY,
+        7,
+        "dot.tfm dot.vf dot.600pk dot.601pk dot.599pk dot.600gf dot.601gf | failed",
+    ),
+    (
+        TWICE,
+        &MANY,
+        8,
+        "dot.tfm dot.vf dot.600pk dot.601pk dot.599pk dot.600gf dot.601gf dot.599gf | failed",
+    ),
+    (
+        DOT,
+        &["dot.tfm", "dot.301gf"],
+        6,
+        "dot.tfm dot.vf dot.300pk dot.301pk dot.299pk dot.300gf | failed",
+    ),
+    (
+        (b"dot", 1, 601),
+        &["dot.tfm", "dot.0gf"],
+        0,
+        "dot.tfm dot.vf | dot.tfm - -",
+    ),
 ];
 
 // Appends the names that a source was asked for, each with a space after it.
@@ -175,6 +240,10 @@ fn put_found(text: &mut Vec<u8>, files: &Files) -> Result<(), NoMemory> {
             Some(bytes) => text.extend_from_slice(bytes)?,
             None => text.push(b'-')?,
         }
+    }
+    if let Some(bytes) = &files.gf {
+        text.push(b' ')?;
+        text.extend_from_slice(bytes)?;
     }
     Ok(())
 }

@@ -39,11 +39,19 @@ pub const BOX_VF: [u8; 32] = [
     0x41, 0x09, 0x42, 0x01, 0x00, 0x00, 0x84, 0x00, 0x01, 0x00, 0x00, 0x00, 0x01, 0x00, 0x00, 0xf8,
 ];
 
+// The code 65 alone, two by two black dots, as METAFONT writes it.
+pub const DOT_GF: [u8; 15] = [
+    0xf7, 0x83, 0x00, 0x44, 0x41, 0x01, 0x01, 0x01, 0x01, 0x00, 0x02, 0x4a, 0x02, 0x45, 0xf8,
+];
+
 /// The TFM file of one character.
 pub const TFM: File = (&DOT_TFM, 56, 0, &[]);
 
 /// The PK file of one character.
 pub const PK: File = (&DOT_PK, 32, 0, &[]);
+
+/// The GF file of one character.
+pub const GF: File = (&DOT_GF, 15, 0, &[]);
 
 // A file's bytes.
 fn bytes_of(alloc: Global, file: &File) -> Result<Option<Vec<u8>>, NoMemory> {
@@ -61,11 +69,18 @@ fn bytes_of(alloc: Global, file: &File) -> Result<Option<Vec<u8>>, NoMemory> {
 
 /// What the files of a font come to, the TFM, the VF and the PK file.
 pub fn decoded(alloc: Global, font: &Named, files: &[File; 3]) -> Result<Decoded, Fail> {
-    let [tfm, vf, pk] = files;
+    let [tfm, vf, pk] = *files;
+    decoded_of_four(alloc, font, &[tfm, vf, pk, NONE])
+}
+
+/// What the files of a font come to, with the GF file as the fourth.
+pub fn decoded_of_four(alloc: Global, font: &Named, files: &[File; 4]) -> Result<Decoded, Fail> {
+    let [tfm, vf, pk, gf] = files;
     let files = Files {
         tfm: bytes_of(alloc, tfm)?,
         vf: bytes_of(alloc, vf)?,
         pk: bytes_of(alloc, pk)?,
+        gf: bytes_of(alloc, gf)?,
     };
     Ok(decode(alloc, &key(alloc, font)?, &files, &UNITS)?)
 }

@@ -1,7 +1,7 @@
 //! Fonts by their files: widths, glyphs, packets and local fonts.
 
 use super::Named;
-use super::files::{BOX_VF, DOT_TFM, DUO_VF, File, NONE, PK, TFM, decoded};
+use super::files::{BOX_VF, DOT_GF, DOT_TFM, DUO_VF, File, GF, NONE, PK, TFM, decoded_of_four};
 use font_decode::{Decoded, Font, laws};
 use outside::FontKey;
 use pk_runs::Glyph;
@@ -16,11 +16,16 @@ const DUO: Named = (b"duo", 128, 128);
 const BOX: Named = (b"box", 128, 128);
 
 // The files of these three fonts.
-const DOTS: [File; 3] = [TFM, NONE, PK];
+const DOTS: [File; 4] = [TFM, NONE, PK, NONE];
 
-const DUOS: [File; 3] = [TFM, (&DUO_VF, 60, 0, &[]), PK];
+const DUOS: [File; 4] = [TFM, (&DUO_VF, 60, 0, &[]), PK, GF];
 
-const RULES: [File; 3] = [TFM, (&BOX_VF, 32, 0, &[]), NONE];
+const RULES: [File; 4] = [TFM, (&BOX_VF, 32, 0, &[]), NONE, NONE];
+
+// `dot` with a GF file, and with one whose third column is white.
+const GENERIC: [File; 4] = [TFM, NONE, NONE, GF];
+
+const WIDE: [File; 4] = [TFM, NONE, NONE, (&DOT_GF, 15, 5, &[2, 2])];
 
 // A character: its width, how many pixels of its glyph are black, with the glyph's sides, the
 // glyph's offsets, and the packet or `none`.
@@ -30,8 +35,11 @@ const GLYPH: (u32, u32, u32) = (4, 2, 2);
 
 const BLANK: (u32, u32, u32) = (0, 0, 0);
 
-static CHARACTERS: [(Named, &'static [File; 3], i32, Character<'static>); 13] = [
+static CHARACTERS: [(Named, &'static [File; 4], i32, Character<'static>); 16] = [
     (DOT, &DOTS, 65, (Some(8), GLYPH, Some((0, 1)), b"none")),
+    (DOT, &GENERIC, 65, (Some(8), GLYPH, Some((0, 1)), b"none")),
+    (DOT, &WIDE, 65, (Some(8), (4, 3, 2), Some((0, 1)), b"none")),
+    (DOT, &GENERIC, 66, (None, BLANK, None, b"none")),
     (DOT, &DOTS, 64, (None, BLANK, None, b"none")),
     (DOT, &DOTS, 66, (None, BLANK, None, b"none")),
     (DOT, &DOTS, -1, (None, BLANK, None, b"none")),
@@ -46,13 +54,13 @@ static CHARACTERS: [(Named, &'static [File; 3], i32, Character<'static>); 13] = 
     // 3/128 of a size of 100 units is 2.34, and as much to the left is rounded down, too.
     (
         (b"dot", 100, 128),
-        &[(&DOT_TFM, 56, 41, &[0, 96]), NONE, PK],
+        &[(&DOT_TFM, 56, 41, &[0, 96]), NONE, PK, NONE],
         65,
         (Some(2), GLYPH, Some((0, 1)), b"none"),
     ),
     (
         (b"dot", 100, 128),
-        &[(&DOT_TFM, 56, 40, &[255, 255, 160]), NONE, PK],
+        &[(&DOT_TFM, 56, 40, &[255, 255, 160]), NONE, PK, NONE],
         65,
         (Some(-3), GLYPH, Some((0, 1)), b"none"),
     ),
@@ -68,8 +76,8 @@ static CHARACTERS: [(Named, &'static [File; 3], i32, Character<'static>); 13] = 
 ];
 
 // The font of these files.
-fn font(alloc: Global, named: &Named, files: &[File; 3]) -> Result<Font, Fail> {
-    match decoded(alloc, named, files)? {
+fn font(alloc: Global, named: &Named, files: &[File; 4]) -> Result<Font, Fail> {
+    match decoded_of_four(alloc, named, files)? {
         Decoded::Font(font) => Ok(font),
         Decoded::Fault(_) => Err("a fault")?,
     }
@@ -120,7 +128,7 @@ type Shape = (bool, u32, Option<i32>);
 // A local font: its name, its area's length, its size and its design size.
 type Local<'a> = Option<(&'a [u8], u8, u32, u32)>;
 
-static LOCALS: [(Named, &'static [File; 3], i32, Shape, Local<'static>); 6] = [
+static LOCALS: [(Named, &'static [File; 4], i32, Shape, Local<'static>); 7] = [
     (
         DUO,
         &DUOS,
@@ -145,6 +153,7 @@ static LOCALS: [(Named, &'static [File; 3], i32, Shape, Local<'static>); 6] = [
     ),
     (BOX, &RULES, 0, (true, 128, None), None),
     (DOT, &DOTS, 0, (false, 128, None), None),
+    (DOT, &GENERIC, 0, (false, 128, None), None),
 ];
 
 fn fields(key: Option<&Arc<FontKey>>) -> Local<'_> {

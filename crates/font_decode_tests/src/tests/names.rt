@@ -9,7 +9,7 @@ use std::alloc::Global;
 use std::str;
 use std::test::Fail;
 
-// A magnification, a font, and the resolution of its PK file.
+// A magnification, a font, and the resolution of its glyphs.
 static RESOLUTIONS: [(u32, Named, u128); 3] = [
     (1000, (b"dot", 128, 128), 300),
     (2000, (b"dot", 128, 128), 600),
@@ -17,7 +17,7 @@ static RESOLUTIONS: [(u32, Named, u128); 3] = [
     (1000, (b"dot", 1, 600), 1),
 ];
 
-// The resolution of a font's PK file at a magnification.
+// The resolution of a font's glyphs at a magnification.
 fn resolution(alloc: Global, mag: u32, font: &Named) -> Result<u128, Fail> {
     if !matches!(mag, 1..=2000) {
         return Err(Fail::from("a magnification out of range"));
@@ -32,7 +32,7 @@ fn resolution(alloc: Global, mag: u32, font: &Named) -> Result<u128, Fail> {
 }
 
 #[test]
-fn resolutions_of_packed_fonts(rt: HostRuntime) -> Result<(), Fail> {
+fn resolutions_of_glyphs(rt: HostRuntime) -> Result<(), Fail> {
     laws::names();
     laws::answers();
     for (row, (mag, font, want)) in RESOLUTIONS.iter().enumerate() {
@@ -41,12 +41,21 @@ fn resolutions_of_packed_fonts(rt: HostRuntime) -> Result<(), Fail> {
     Ok(())
 }
 
-static NAMES: [&str; 5] = ["dot.tfm", "dot.vf", "dot.300pk", "dot.301pk", "dot.299pk"];
+static NAMES: [&str; 8] = [
+    "dot.tfm",
+    "dot.vf",
+    "dot.300pk",
+    "dot.301pk",
+    "dot.299pk",
+    "dot.300gf",
+    "dot.301gf",
+    "dot.299gf",
+];
 
 // The name of one of the files of `dot`.
 fn name_of(alloc: Global, which: usize) -> Result<FileName, Fail> {
     let dot = key(alloc, &(b"dot", 128, 128))?;
-    if which >= 5 || !is_valid_name(&dot) || !matches!(dpi(&UNITS, &dot), 1..=1_000_000) {
+    if which >= 8 || !is_valid_name(&dot) || !matches!(dpi(&UNITS, &dot), 1..=1_000_000) {
         return Err(Fail::from("no such file of the font is looked for"));
     }
     Ok(file_name(alloc, &dot, &UNITS, which)?)

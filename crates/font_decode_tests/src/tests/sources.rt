@@ -8,13 +8,13 @@ use std::alloc::Global;
 use std::sync::Arc;
 use std::test::Fail;
 
-// A source with a TFM file, and with the file of the load numbered `pk_at`, from 1. The load
+// A source with a TFM file, and with the file of the load numbered `glyphs_at`, from 1. The load
 // numbered `fails` wants memory. It hears whether the names come in this order.
 #[derive(Drop)]
 struct Listening {
     alloc: Global,
-    order: &'static [&'static [u8]; 5],
-    pk_at: u64,
+    order: &'static [&'static [u8]; 8],
+    glyphs_at: u64,
     fails: u64,
     loads: u64,
     in_order: bool,
@@ -29,52 +29,64 @@ impl FontSource for Listening {
     ghost loads_fit = { λ s. s.loads_fit };
 
     fn load(&mut self, name: &FileName) -> Result<Option<Vec<u8>>, LoadStop> {
-        let at = self.loads.min(4) as usize;
+        let at = self.loads.min(7) as usize;
         self.in_order = self.in_order && name.bytes() == self.order[at];
         self.loads = self.loads.saturating_add(1);
         if self.loads == self.fails {
             return Err(LoadStop::NoMemory);
         }
-        if self.loads == 1 || self.loads == self.pk_at {
+        if self.loads == 1 || self.loads == self.glyphs_at {
             return Ok(Some(Vec::new(self.alloc)));
         }
         Ok(None)
     }
 }
 
-const AT_300: [&[u8]; 5] = [
+const AT_300: [&[u8]; 8] = [
     b"dot.tfm",
     b"dot.vf",
     b"dot.300pk",
     b"dot.301pk",
     b"dot.299pk",
+    b"dot.300gf",
+    b"dot.301gf",
+    b"dot.299gf",
 ];
 
-const AT_600: [&[u8]; 5] = [
+const AT_600: [&[u8]; 8] = [
     b"dot.tfm",
     b"dot.vf",
     b"dot.600pk",
     b"dot.601pk",
     b"dot.599pk",
+    b"dot.600gf",
+    b"dot.601gf",
+    b"dot.599gf",
 ];
 
-// How a fetch stops, how many loads there were, whether a PK file was found, and whether the names
-// came in their order.
+// How a fetch stops, how many loads there were, whether a PK or GF file was found, and whether the
+// names came in their order.
 type Heard = (Option<LoadStop>, u64, bool, bool);
 
 const NO_MEMORY: Option<LoadStop> = Some(LoadStop::NoMemory);
 
-// The size of `dot`, the names, `pk_at` and `fails`, and what is heard.
-static HEARD: [(u32, &'static [&'static [u8]; 5], u64, u64, Heard); 9] = [
+// The size of `dot`, the names, `glyphs_at` and `fails`, and what is heard.
+static HEARD: [(u32, &'static [&'static [u8]; 8], u64, u64, Heard); 15] = [
     (128, &AT_300, 3, 0, (None, 3, true, true)),
     (128, &AT_300, 4, 0, (None, 4, true, true)),
     (128, &AT_300, 5, 0, (None, 5, true, true)),
-    (128, &AT_300, 6, 0, (None, 5, false, true)),
+    (128, &AT_300, 6, 0, (None, 6, true, true)),
+    (128, &AT_300, 7, 0, (None, 7, true, true)),
+    (128, &AT_300, 8, 0, (None, 8, true, true)),
+    (128, &AT_300, 9, 0, (None, 8, false, true)),
     (256, &AT_600, 0, 1, (NO_MEMORY, 1, false, true)),
     (256, &AT_600, 0, 2, (NO_MEMORY, 2, false, true)),
     (256, &AT_600, 0, 3, (NO_MEMORY, 3, false, true)),
     (256, &AT_600, 0, 4, (NO_MEMORY, 4, false, true)),
     (256, &AT_600, 0, 5, (NO_MEMORY, 5, false, true)),
+    (256, &AT_600, 0, 6, (NO_MEMORY, 6, false, true)),
+    (256, &AT_600, 0, 7, (NO_MEMORY, 7, false, true)),
+    (256, &AT_600, 0, 8, (NO_MEMORY, 8, false, true)),
 ];
 
 // What a fetch of `dot` at a size comes to.
@@ -82,7 +94,7 @@ fn heard(source: &mut Listening, size: u32) -> Result<Heard, Fail> {
     let alloc = source.alloc;
     let fetched = fetch(alloc, source, &key(alloc, &(b"dot", size, 128))?, &UNITS);
     let (stop, is_found) = match &fetched {
-        Ok(files) => (None, files.pk.is_some()),
+        Ok(files) => (None, files.pk.is_some() || files.gf.is_some()),
         Err(stop) => (Some(*stop), false),
     };
     Ok((stop, source.loads, is_found, source.in_order))
@@ -90,11 +102,11 @@ fn heard(source: &mut Listening, size: u32) -> Result<Heard, Fail> {
 
 #[test]
 fn files_are_asked_for_in_order(rt: HostRuntime) -> Result<(), Fail> {
-    for (row, (size, order, pk_at, fails, want)) in HEARD.iter().enumerate() {
+    for (row, (size, order, glyphs_at, fails, want)) in HEARD.iter().enumerate() {
         let mut source = Listening {
             alloc: rt.alloc(),
             order: *order,
-            pk_at: *pk_at,
+            glyphs_at: *glyphs_at,
             fails: *fails,
             loads: 0,
             in_order: true,

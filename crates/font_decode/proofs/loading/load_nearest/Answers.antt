@@ -1,7 +1,7 @@
-use Rattle.std.proofs.Common.{◌≡◌, true, false, ◌+◌, ◌-◌, [], ◌∷◌, ℕ, Vec, Global}
+use Rattle.std.proofs.Common.{◌≡◌, true, false, ◌+◌, [], ◌∷◌, ℕ, Vec, Global}
 use Rattle.std.specs.Prelude.{is_some}
 use Rattle.font_decode.proofs.Asking.{until_now, second_until, third_until, exact_asked, above_asked, below_asked, moved, named_until, named_until_now, on_err, on_err_then}
-use Rattle.font_decode.specs.Names.{dpi, pk_name}
+use Rattle.font_decode.specs.Names.{name_at}
 use Rattle.font_decode.proofs.loading.load_nearest.Goals as goal
 
 pub returns-in_err-exact-clause-stopped : goal.returns-in_err-exact-clause-stopped
@@ -10,8 +10,9 @@ returns-in_err-exact-clause-stopped g c = on_err c.from_residual.result _ (until
 pub returns-in_err-exact-clause-named_until : goal.returns-in_err-exact-clause-named_until
 returns-in_err-exact-clause-named_until g c =
     let k = c.args.key.now in
-    let n = dpi c.args.units.now k in
-    on_err c.from_residual.result _ (named_until_now (g.F.FontSource.library c.args.source.now) (pk_name k n) (pk_name k (n + 1) ∷ pk_name k (n - 1) ∷ []) _ _ c.in_err-exact.ensures.stopped)
+    let name = name_at c.args.units.now k in
+    let n = c.args.first in
+    on_err c.from_residual.result _ (named_until_now (g.F.FontSource.library c.args.source.now) (name n) (name (n + 1) ∷ name (n + 2) ∷ []) _ _ c.in_err-exact.ensures.stopped)
 
 pub returns-then-is_some-clause-asked : goal.returns-then-is_some-clause-asked
 returns-then-is_some-clause-asked g c =
@@ -24,10 +25,11 @@ returns-in_err-above-clause-stopped g c = on_err c.from_residual-in_err-above.re
 pub returns-in_err-above-clause-named_until : goal.returns-in_err-above-clause-named_until
 returns-in_err-above-clause-named_until g c =
     let k = c.args.key.now in
-    let n = dpi c.args.units.now k in
+    let name = name_at c.args.units.now k in
+    let n = c.args.first in
     let gone : is_some c.in_ok-exact.exact ≡ false = let h = c.if-is_some.false in let e = c.is_some.ensures in cc in
-    on_err c.from_residual-in_err-above.result _ (named_until (λ (v : Vec ℕ Global). v.items) (g.F.FontSource.library c.args.source.now) (pk_name k n) (pk_name k (n + 1) ∷ pk_name k (n - 1) ∷ []) c.in_ok-exact.exact _ _ _
-    c.in_ok-exact.ensures.file gone c.in_ok-exact.ensures.asked (named_until_now (g.F.FontSource.library c.args.source.now) (pk_name k (n + 1)) (pk_name k (n - 1) ∷ []) _ _ c.in_err-above.ensures.stopped))
+    on_err c.from_residual-in_err-above.result _ (named_until (λ (v : Vec ℕ Global). v.items) (g.F.FontSource.library c.args.source.now) (name n) (name (n + 1) ∷ name (n + 2) ∷ []) c.in_ok-exact.exact _ _ _
+    c.in_ok-exact.ensures.file gone c.in_ok-exact.ensures.asked (named_until_now (g.F.FontSource.library c.args.source.now) (name (n + 1)) (name (n + 2) ∷ []) _ _ c.in_err-above.ensures.stopped))
 
 pub returns-then-is_some-2-clause-asked : goal.returns-then-is_some-2-clause-asked
 returns-then-is_some-2-clause-asked g c =
@@ -43,12 +45,13 @@ returns-clause-stopped g c = on_err_then c.load_file-3.result _ _ (third_until _
 pub returns-clause-named_until : goal.returns-clause-named_until
 returns-clause-named_until g c =
     let k = c.args.key.now in
-    let n = dpi c.args.units.now k in
+    let name = name_at c.args.units.now k in
+    let n = c.args.first in
     let gone : is_some c.in_ok-exact.exact ≡ false = let h = c.if-is_some.false in let e = c.is_some.ensures in cc in
     let gone_too : is_some c.in_ok-above.above ≡ false = let h = c.if-is_some-2.false in let e = c.is_some-2.ensures in cc in
     let known = g.F.FontSource.library c.args.source.now in
     on_err_then c.load_file-3.result _ _
-    (λ last. named_until (λ (v : Vec ℕ Global). v.items) known (pk_name k n) (pk_name k (n + 1) ∷ pk_name k (n - 1) ∷ []) c.in_ok-exact.exact _ _ _ c.in_ok-exact.ensures.file gone c.in_ok-exact.ensures.asked
-    (named_until (λ (v : Vec ℕ Global). v.items) known (pk_name k (n + 1)) (pk_name k (n - 1) ∷ []) c.in_ok-above.above _ _ _ (moved known _ _ c.in_ok-exact.ensures.library c.in_ok-above.ensures.file) gone_too c.in_ok-above.ensures.asked
-    (named_until_now known (pk_name k (n - 1)) [] _ _ last)))
+    (λ last. named_until (λ (v : Vec ℕ Global). v.items) known (name n) (name (n + 1) ∷ name (n + 2) ∷ []) c.in_ok-exact.exact _ _ _ c.in_ok-exact.ensures.file gone c.in_ok-exact.ensures.asked
+    (named_until (λ (v : Vec ℕ Global). v.items) known (name (n + 1)) (name (n + 2) ∷ []) c.in_ok-above.above _ _ _ (moved known _ _ c.in_ok-exact.ensures.library c.in_ok-above.ensures.file) gone_too c.in_ok-above.ensures.asked
+    (named_until_now known (name (n + 2)) [] _ _ last)))
     c.load_file-3.ensures.stopped
