@@ -2,5 +2,6 @@
 mod documents;
 mod fonts;
 mod packed_fonts;
+mod packed_glyphs;
 mod samples;
 mod virtual_fonts;

@@ -8,7 +8,7 @@ use std::alloc::Global;
 use std::test::Fail;
 
 // The preamble that each file begins with.
-const PREAMBLE: [u8; 19] = [
+pub const PREAMBLE: [u8; 19] = [
     0xf7, 0x59, 0, 0, 0xa0, 0, 0, 0, 0, 0, 0, 0, 0x04, 0x26, 0xae, 0, 0x04, 0x26, 0xae,
 ];
 
@@ -36,7 +36,14 @@ static SHAPES: [Shape; 4] = [
 ];
 
 // The glyph, at most 1024 pixels wide and high.
-fn drawn(alloc: Global, bytes: &[u8], w: u32, h: u32, hoff: i32, voff: i32) -> Result<Glyph, Fail>
+pub fn drawn(
+    alloc: Global,
+    bytes: &[u8],
+    w: u32,
+    h: u32,
+    hoff: i32,
+    voff: i32,
+) -> Result<Glyph, Fail>
     ensures width { IfOk result (λ glyph. glyph.raster.width ≤ 1024) }
     ensures height { IfOk result (λ glyph. glyph.raster.height ≤ 1024) }
 {
@@ -47,13 +54,20 @@ fn drawn(alloc: Global, bytes: &[u8], w: u32, h: u32, hoff: i32, voff: i32) -> R
     Ok(Glyph { raster, hoff, voff })
 }
 
-// The file of one of the shapes.
-fn file(alloc: Global, place: usize) -> Result<Vec<u8>, Fail> {
+// One of the shapes with its code.
+pub fn shape(alloc: Global, place: usize) -> Result<(u8, Glyph), Fail>
+    ensures width { IfOk result (λ shape. shape.1.raster.width ≤ 1024) }
+    ensures height { IfOk result (λ shape. shape.1.raster.height ≤ 1024) }
+{
     let Some((code, bytes, w, h, hoff, voff)) = SHAPES.get(place) else {
         return Err(Fail::from("no shape"));
     };
-    let glyph = drawn(alloc, bytes, *w, *h, *hoff, *voff)?;
-    Ok(pk_bytes(alloc, &[(*code, glyph)])?)
+    Ok((*code, drawn(alloc, bytes, *w, *h, *hoff, *voff)?))
+}
+
+// Its file.
+fn file(alloc: Global, place: usize) -> Result<Vec<u8>, Fail> {
+    Ok(pk_bytes(alloc, &[shape(alloc, place)?])?)
 }
 
 // Shapes, how long their files are, and bytes of the files from one place up to another.
@@ -118,7 +132,7 @@ fn files_have_these_bytes(rt: HostRuntime) -> Result<(), Fail> {
 }
 
 // Size, offsets and how many pixels are black, of the glyph of a code.
-fn told(font: &PkFont, code: u32) -> Option<(u32, u32, i32, i32, u32)> {
+pub fn told(font: &PkFont, code: u32) -> Option<(u32, u32, i32, i32, u32)> {
     let glyph = font.glyph(code)?;
     let mut count = 0u32;
     for y in 0..glyph.raster.height() {
