@@ -14,11 +14,11 @@ use Rattle.sample_maker.specs.Sample.{made_files}
 use Rattle.command_line.specs.declared.settings.Settings.{Settings}
 use Rattle.dvi_run.specs.Pages.{finding, setup_with}
 use Rattle.dvi_run.specs.Endings.{EndingValue, status_of}
-use Rattle.dvi_run.specs.Looked.{BrokenLooks, WholeLooks}
+use Rattle.dvi_run.specs.Looked.{BrokenLooks, EndsBroken, MayBreakOff, WholeLooks}
 use Rattle.dvi_run.specs.Rounds.{indexed_of}
 use Rattle.dvi_run.specs.Sampled.{SourcesAreKept, TookResults}
 use Rattle.dvi_run.specs.Outside.{Drawing, Sources, StreamChange, task_for_sample}
-use Rattle.dvi_run.specs.Together.{Answered, WorkersAreDone, PagesMatchHistory, IsReadyWorker, RestIsKept, SomeUsed, SourceRose, WorkerDone}
+use Rattle.dvi_run.specs.Together.{Answered, GaveUpOnlyBroken, WorkersAreDone, PagesMatchHistory, IsReadyWorker, RestIsKept, SomeUsed, SourceRose, WorkerDone}
 use Rattle.dvi_run.specs.declared.tally.Tally.{Tally}
 use Rattle.dvi_run.specs.Shares.{PartitionPages}
 use Rattle.dvi_run.proofs.Shares.{shared_as}
@@ -54,13 +54,22 @@ module _ {F G : Type 0} (mine : Worker G) (was now : Worker F) (h : TookResults 
     loaded = subst (λ (m : ℕ). RoseUpTo (5 * misses calls) m now.loads) (none ∙ sym ready.fresh.loads) (subst (λ (m : ℕ). RoseUpTo (5 * misses calls) first.loads m) (sym h.loads) w.loaded.counted);
   }
 
-  answered_handed : (known : Option FileTable) (pages : ℕ) (settings : Settings) (reading : Reading) (history : List Call) (status k : ℕ) → Answered (task_for_sample None (Some (made_files settings.packed)) settings) reading history status k mine
-      → Answered (task_for_sample (Some pages) known settings) reading history status k now
-  answered_handed known pages settings reading history status k a =
+  gave_up_handed : (e : EndingValue) (tally : Option Tally) (calls : List Call) → GaveUpOnlyBroken e tally calls mine → GaveUpOnlyBroken e tally calls now
+  gave_up_handed e tally calls gave = elim gave [
+    | inl none ↦ inl none
+    | inr b ↦ inr (subst (λ (ps : List ℕ). EndsBroken (MayBreakOff e tally) ps) (sym h.pages) b)
+  ]
+
+  answered_handed : (known : Option FileTable) (pages : ℕ) (settings : Settings) (reading : Reading) (history : List Call) (status : ℕ) (e : EndingValue) (tally : Option Tally) (k : ℕ)
+      → Answered (task_for_sample None (Some (made_files settings.packed)) settings) reading history status e tally k mine → Answered (task_for_sample (Some pages) known settings) reading history status e tally k now
+  answered_handed known pages settings reading history status e tally k a =
       let g = setup_with (Some (made_files settings.packed)) settings in
       record {
         keys = a.keys;
-        looked = subst (λ (ps : List ℕ). WholeLooks (finding g reading) (indexed_of g reading) g.sheet ps a.keys ⊎ BrokenLooks (finding g reading) (indexed_of g reading) g.sheet ps a.keys) (sym h.pages) a.looked;
+        looked = elim a.looked [
+          | inl w ↦ inl (w.0, subst (λ (ps : List ℕ). WholeLooks (finding g reading) (indexed_of g reading) g.sheet ps a.keys) (sym h.pages) w.1)
+          | inr b ↦ inr (subst (λ (ps : List ℕ). BrokenLooks (MayBreakOff e tally) (finding g reading) (indexed_of g reading) g.sheet ps a.keys) (sym h.pages) b)
+        ];
         through = λ is. subst (λ (ps : List ℕ). WholeLooks (finding g reading) (indexed_of g reading) g.sheet ps a.keys) (sym h.pages) (a.through is);
         answered = a.answered;
         one = a.one;
@@ -137,7 +146,7 @@ module _ {F G : Type 0} (settings : Settings) (first last : List (Worker G)) (be
                   written = run.3.2.written;
                 },
                 λ k d lt.
-                    answered_handed (get_or last k (at_last k lt)) (get_or before k d) (get_or after k d) (handed k (at_last k lt) d lt) known pages settings run.0 history status k (run.3.3 k (at_last k lt) lt),
+                    answered_handed (get_or last k (at_last k lt)) (get_or before k d) (get_or after k d) (handed k (at_last k lt) d lt) known pages settings run.0 history status e tally k (run.3.3 k (at_last k lt) lt),
               ),
             )
 
@@ -146,6 +155,8 @@ module _ {F G : Type 0} (settings : Settings) (first last : List (Worker G)) (be
           counts = done.counts;
           failed = λ page is. absurd (none_rose gfaults sure (some_rose gfaults n first last page (done.failed page is)));
           one = history_for_sample (Some pages) (task_for_sample None (Some (made_files settings.packed)) settings).settings (status_of e) history done.one;
+          gave_up = λ k d lt.
+              gave_up_handed (get_or last k (at_last k lt)) (get_or before k d) (get_or after k d) (handed k (at_last k lt) d lt) e tally (own (k + 1) history) (done.gave_up k (at_last k lt) lt);
           worked = λ k d lt.
               worked_handed (get_or last k (at_last k lt)) (get_or before k d) (get_or after k d) (handed k (at_last k lt) d lt) (Some (made_files settings.packed)) known pages settings mine.sources theirs.sources (status_of e)
               (own (k + 1) history) (get_or first k (at_last k lt)) (own_ready k (at_last k lt) lt).fresh.loads (ready k d lt) (done.worked k (at_last k lt) lt);
