@@ -80,7 +80,7 @@ class Contributing(unittest.TestCase):
     def test_the_packages_of_all_tools_that_tests_look_for(self):
         """Each tool that a test asks for by needs(..), and where Debian has it."""
         packages = {
-            'texlive-latex-base': 'tex latex mktexpk mf kpsewhich', 'netpbm': 'pamsplit pnmtopng pngtopam pnmtops pamtotiff tifftopnm',
+            'texlive-latex-base': 'tex latex mktexpk mf gftopk kpsewhich', 'netpbm': 'pamsplit pnmtopng pngtopam pnmtops pamtotiff tifftopnm',
             'ghostscript': 'gs', 'cups': 'cupsfilter', 'parallel': 'parallel', 'rsync': 'rsync', 'mandoc': 'mandoc', 'man-db': 'man', 'groff': 'groff',
             'make': 'make', 'gcc': 'gcc cc', 'coreutils': 'timeout', 'binutils': 'objdump',
         }

@@ -18,12 +18,14 @@ use Rattle.dvi_run.specs.Report.{report_text, trace_and_summary}
 use Rattle.dvi_run.specs.Tally.{CountsTo, TallyMatchesRun}
 use Rattle.dvi_run.specs.Sampled.{UsesTheSample}
 use Rattle.dvi_run.specs.Outside.{Drawing, Task}
-use Rattle.dvi_run.specs.Together.{Answered, WorkersAreDone, PagesMatchHistory, IsOneHistory, WorkerDone}
+use Rattle.dvi_run.specs.Looked.{MayBreakOff}
+use Rattle.dvi_run.specs.Together.{Answered, GaveUpOnlyBroken, WorkersAreDone, PagesMatchHistory, IsOneHistory, WorkerDone}
 use Rattle.dvi_run.specs.declared.ending.Ending.{Ending}
 use Rattle.dvi_run.specs.declared.ending.Ending.TheVariants as code
 use Rattle.command_line.specs.declared.settings.Settings.{Settings}
 use Rattle.dvi_run.specs.declared.tally.Tally.{Tally}
 use Rattle.dvi_run.proofs.Clauses.{AtPage, at_page, of_each}
+use Rattle.dvi_run.proofs.Looks.{broken_as}
 
 -- ---- how it ended
 
@@ -106,13 +108,14 @@ not_idle (inr (inl is)) = cc
 not_idle (inr (inr (inl is))) = cc
 not_idle (inr (inr (inr none))) = none
 
-counts_8 : (tally : Option Tally) → CountsTo tally Written → CountsTo tally Notes
-counts_8 None h = h
-counts_8 (Some t) h = h
+counts_8 : (history : List Call) (tally : Option Tally) → CountsTo history tally Written → CountsTo history tally Notes
+counts_8 history None h = h
+counts_8 history (Some t) h = h
 
-tallied_8 : (counted : Bool) (old new : Option (List ℕ)) (tally : Option Tally) (values : List PageValue) → TallyMatchesRun counted old new tally Written values → TallyMatchesRun counted old new tally Notes values
-tallied_8 counted old new None values h = let is = h.0 in absurd cc
-tallied_8 counted old new (Some t) values h = record { few = h.few; black = h.black; next = tt; written = h.written }
+tallied_8 : (counted : Bool) (old new : Option (List ℕ)) (history : List Call) (tally : Option Tally) (values : List PageValue) → TallyMatchesRun counted old new history tally Written values
+    → TallyMatchesRun counted old new history tally Notes values
+tallied_8 counted old new history None values h = let is = h.0 in absurd cc
+tallied_8 counted old new history (Some t) values h = record { few = h.few; black = h.black; next = tt; written = h.written }
 
 one_8 : (settings : Settings) (history : List Call) → IsOneHistory settings 0 history → IsOneHistory settings 8 history
 one_8 settings history one = record {
@@ -123,6 +126,16 @@ one_8 settings history one = record {
   kept = λ is. one.kept (inl refl);
   idle = λ among. absurd (not_idle among);
 }
+
+may_break_8 : (tally : Option Tally) (p : ℕ) → MayBreakOff Written tally p → MayBreakOff Notes tally p
+may_break_8 None p may = may
+may_break_8 (Some t) p may = may
+
+gave_up_8 : {F : Type 0} (tally : Option Tally) (calls : List Call) (w : Worker F) → GaveUpOnlyBroken Written tally calls w → GaveUpOnlyBroken Notes tally calls w
+gave_up_8 tally calls w gave = elim gave [
+  | inl none ↦ inl none
+  | inr b ↦ inr (record { before = b.before; page = b.page; pages_are = b.pages_are; may_break = may_break_8 tally b.page b.may_break })
+]
 
 module _ {F : Type 0} (task : Task) (drawing : Drawing F) (tally : Option Tally) where
   worked_8 : (calls : List Call) (was now : Worker F) → WorkerDone task drawing.sources 0 calls was now → WorkerDone task drawing.sources 8 calls was now
@@ -143,9 +156,10 @@ module _ {F : Type 0} (task : Task) (drawing : Drawing F) (tally : Option Tally)
   pub done_on : (x : Ending) (taken : Bool) → WorkersAreDone task drawing (value_of_ending x) tally → WorkersAreDone task drawing (with_notes (value_of_ending x) taken) tally
   done_on code.Written true h = h
   done_on code.Written false h = record {
-    counts = counts_8 tally h.counts;
+    counts = counts_8 drawing.history tally h.counts;
     failed = λ page is. absurd cc;
     one = one_8 task.settings drawing.history h.one;
+    gave_up = λ k d lt. gave_up_8 tally (own (k + 1) drawing.history) (get_or drawing.after k d) (h.gave_up k d lt);
     worked = λ k d lt. worked_8 (own (k + 1) drawing.history) (get_or drawing.before k d) (get_or drawing.after k d) (h.worked k d lt);
     shares = h.shares;
     rest = h.rest;
@@ -161,10 +175,13 @@ module _ {F : Type 0} (task : Task) (drawing : Drawing F) (tally : Option Tally)
   abbrev Drew : EndingValue → List ℕ → Type 0
   Drew e bytes = PagesMatchHistory task drawing (status_of e) e tally bytes
 
-  answered_8 : (reading : Reading) (k : ℕ) (w : Worker F) → Answered task reading drawing.history 0 k w → Answered task reading drawing.history 8 k w
+  answered_8 : (reading : Reading) (k : ℕ) (w : Worker F) → Answered task reading drawing.history 0 Written tally k w → Answered task reading drawing.history 8 Notes tally k w
   answered_8 reading k w a = record {
     keys = a.keys;
-    looked = a.looked;
+    looked = elim a.looked [
+      | inl whole ↦ inl whole
+      | inr b ↦ inr (broken_as (MayBreakOff Written tally) (MayBreakOff Notes tally) _ _ _ _ _ (may_break_8 tally) b)
+    ];
     through = λ is. a.through (inl (inl refl));
     answered = a.answered;
     one = λ single unbroken. a.one single (λ is. cc, λ is. cc);
@@ -179,7 +196,7 @@ module _ {F : Type 0} (task : Task) (drawing : Drawing F) (tally : Option Tally)
         run.2,
         (
           run.3.0,
-          tallied_8 task.settings.summary drawing.output.before.bytes drawing.output.after.bytes tally run.1 run.3.1,
+          tallied_8 task.settings.summary drawing.output.before.bytes drawing.output.after.bytes drawing.history tally run.1 run.3.1,
           record { drawn = run.3.2.drawn; few = run.3.2.few; shares = run.3.2.shares; reach = run.3.2.reach; written = run.3.2.written },
           λ k d lt. answered_8 run.0 k (get_or drawing.after k d) (run.3.3 k d lt),
         ),

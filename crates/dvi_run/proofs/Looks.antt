@@ -20,10 +20,25 @@ whole_more Finds indexed sheet [] keys p more none one = (more, [], ap (λ (l : 
 whole_more Finds indexed sheet (q ∷ pages) keys p more w one =
     (w.0, w.1 ++ more, ap (λ (l : List FontKey). l ++ more) w.2 ∙ append_assoc w.0 w.1 more, w.3, whole_more Finds indexed sheet pages w.1 p more w.4 one)
 
-pub broken_more : (Finds : Finding) (indexed : Indexed) (sheet : Sheet) (pages : List ℕ) (keys : List FontKey) (p : ℕ) (more : List FontKey) → WholeLooks Finds indexed sheet pages keys
-    → IsLookedUpSoFar Finds indexed p more → BrokenLooks Finds indexed sheet (pages ++ p ∷ []) (keys ++ more)
-broken_more Finds indexed sheet pages keys p more w one =
-    record { before = pages; page = p; pages_are = refl; first = keys; others = more; keys_are = refl; whole = w; broken = one }
+pub broken_more : (MayBreak : ℕ → Type 0) (Finds : Finding) (indexed : Indexed) (sheet : Sheet) (pages : List ℕ) (keys : List FontKey) (p : ℕ) (more : List FontKey) → MayBreak p → WholeLooks Finds indexed sheet pages keys
+    → IsLookedUpSoFar Finds indexed p more → BrokenLooks MayBreak Finds indexed sheet (pages ++ p ∷ []) (keys ++ more)
+broken_more MayBreak Finds indexed sheet pages keys p more may w one =
+    record { before = pages; page = p; pages_are = refl; may_break = may; first = keys; others = more; keys_are = refl; whole = w; broken = one }
+
+-- where each page that may be cut off may be broken off
+pub broken_as : (Cut MayBreak : ℕ → Type 0) (Finds : Finding) (indexed : Indexed) (sheet : Sheet) (pages : List ℕ) (keys : List FontKey) → ((p : ℕ) → Cut p → MayBreak p) → BrokenLooks Cut Finds indexed sheet pages keys
+    → BrokenLooks MayBreak Finds indexed sheet pages keys
+broken_as Cut MayBreak Finds indexed sheet pages keys f b = record {
+  before = b.before;
+  page = b.page;
+  pages_are = b.pages_are;
+  may_break = f b.page b.may_break;
+  first = b.first;
+  others = b.others;
+  keys_are = b.keys_are;
+  whole = b.whole;
+  broken = b.broken;
+}
 
 -- ---- the keys of a seat
 

@@ -10,15 +10,15 @@ use Rattle.font_decode.specs.Desks.{misses}
 use Rattle.font_decode.specs.Loads.{RoseUpTo, MAX_LOADS}
 use Rattle.page_index.specs.Document.{Reading}
 use Rattle.page_workers.specs.declared.worker.Worker.{Worker}
-use Rattle.sample_maker.specs.Sample.{sample_files}
+use Rattle.sample_maker.specs.Sample.{made_files}
 use Rattle.command_line.specs.declared.settings.Settings.{Settings}
 use Rattle.dvi_run.specs.Pages.{finding, setup_with}
 use Rattle.dvi_run.specs.Endings.{EndingValue, status_of}
-use Rattle.dvi_run.specs.Looked.{BrokenLooks, WholeLooks}
+use Rattle.dvi_run.specs.Looked.{BrokenLooks, EndsBroken, MayBreakOff, WholeLooks}
 use Rattle.dvi_run.specs.Rounds.{indexed_of}
 use Rattle.dvi_run.specs.Sampled.{SourcesAreKept, TookResults}
 use Rattle.dvi_run.specs.Outside.{Drawing, Sources, StreamChange, task_for_sample}
-use Rattle.dvi_run.specs.Together.{Answered, WorkersAreDone, PagesMatchHistory, IsReadyWorker, RestIsKept, SomeUsed, SourceRose, WorkerDone}
+use Rattle.dvi_run.specs.Together.{Answered, GaveUpOnlyBroken, WorkersAreDone, PagesMatchHistory, IsReadyWorker, RestIsKept, SomeUsed, SourceRose, WorkerDone}
 use Rattle.dvi_run.specs.declared.tally.Tally.{Tally}
 use Rattle.dvi_run.specs.Shares.{PartitionPages}
 use Rattle.dvi_run.proofs.Shares.{shared_as}
@@ -54,13 +54,22 @@ module _ {F G : Type 0} (mine : Worker G) (was now : Worker F) (h : TookResults 
     loaded = subst (λ (m : ℕ). RoseUpTo (MAX_LOADS * misses calls) m now.loads) (none ∙ sym ready.fresh.loads) (subst (λ (m : ℕ). RoseUpTo (MAX_LOADS * misses calls) first.loads m) (sym h.loads) w.loaded.counted);
   }
 
-  answered_handed : (known : Option FileTable) (pages : ℕ) (settings : Settings) (reading : Reading) (history : List Call) (status k : ℕ) → Answered (task_for_sample None (Some sample_files) settings) reading history status k mine
-      → Answered (task_for_sample (Some pages) known settings) reading history status k now
-  answered_handed known pages settings reading history status k a =
-      let g = setup_with (Some sample_files) settings in
+  gave_up_handed : (e : EndingValue) (tally : Option Tally) (calls : List Call) → GaveUpOnlyBroken e tally calls mine → GaveUpOnlyBroken e tally calls now
+  gave_up_handed e tally calls gave = elim gave [
+    | inl none ↦ inl none
+    | inr b ↦ inr (subst (λ (ps : List ℕ). EndsBroken (MayBreakOff e tally) ps) (sym h.pages) b)
+  ]
+
+  answered_handed : (known : Option FileTable) (pages : ℕ) (settings : Settings) (reading : Reading) (history : List Call) (status : ℕ) (e : EndingValue) (tally : Option Tally) (k : ℕ)
+      → Answered (task_for_sample None (Some (made_files settings.packed)) settings) reading history status e tally k mine → Answered (task_for_sample (Some pages) known settings) reading history status e tally k now
+  answered_handed known pages settings reading history status e tally k a =
+      let g = setup_with (Some (made_files settings.packed)) settings in
       record {
         keys = a.keys;
-        looked = subst (λ (ps : List ℕ). WholeLooks (finding g reading) (indexed_of g reading) g.sheet ps a.keys ⊎ BrokenLooks (finding g reading) (indexed_of g reading) g.sheet ps a.keys) (sym h.pages) a.looked;
+        looked = elim a.looked [
+          | inl w ↦ inl (w.0, subst (λ (ps : List ℕ). WholeLooks (finding g reading) (indexed_of g reading) g.sheet ps a.keys) (sym h.pages) w.1)
+          | inr b ↦ inr (subst (λ (ps : List ℕ). BrokenLooks (MayBreakOff e tally) (finding g reading) (indexed_of g reading) g.sheet ps a.keys) (sym h.pages) b)
+        ];
         through = λ is. subst (λ (ps : List ℕ). WholeLooks (finding g reading) (indexed_of g reading) g.sheet ps a.keys) (sym h.pages) (a.through is);
         answered = a.answered;
         one = a.one;
@@ -90,7 +99,7 @@ module _ {F G : Type 0} (settings : Settings) (first last : List (Worker G)) (be
     ]
 
     module _ (library : F → Option FileTable) (known : Option FileTable) (ready : (k : ℕ) (d : Worker F) → k < n → IsReadyWorker library known (get_or before k d))
-        (glibrary : G → Option FileTable) (own_ready : (k : ℕ) (d : Worker G) → k < n → IsReadyWorker glibrary (Some sample_files) (get_or first k d)) where
+        (glibrary : G → Option FileTable) (own_ready : (k : ℕ) (d : Worker G) → k < n → IsReadyWorker glibrary (Some (made_files settings.packed)) (get_or first k d)) where
       -- where the run's own workers are as they were, the others are too
       same_workers : length before ≡ length after → last ≡ first → after ≡ before
       same_workers sizes same =
@@ -118,7 +127,7 @@ module _ {F G : Type 0} (settings : Settings) (first last : List (Worker G)) (be
         abbrev theirs : Drawing F
         theirs = record { sources = record { library = library; faults = faults; loads = loads }; output = output; before = before; after = after; history = history }
 
-        pub drew_handed : length before ≡ length after → (pages status : ℕ) (bytes : List ℕ) → PagesMatchHistory (task_for_sample None (Some sample_files) settings) mine status e tally bytes
+        pub drew_handed : length before ≡ length after → (pages status : ℕ) (bytes : List ℕ) → PagesMatchHistory (task_for_sample None (Some (made_files settings.packed)) settings) mine status e tally bytes
             → PagesMatchHistory (task_for_sample (Some pages) known settings) theirs status e tally bytes
         drew_handed sizes pages status bytes (inl idle) = inl (idle.0, idle.1, idle.2, same_workers sizes idle.3)
         drew_handed sizes pages status bytes (inr run) =
@@ -137,17 +146,19 @@ module _ {F G : Type 0} (settings : Settings) (first last : List (Worker G)) (be
                   written = run.3.2.written;
                 },
                 λ k d lt.
-                    answered_handed (get_or last k (at_last k lt)) (get_or before k d) (get_or after k d) (handed k (at_last k lt) d lt) known pages settings run.0 history status k (run.3.3 k (at_last k lt) lt),
+                    answered_handed (get_or last k (at_last k lt)) (get_or before k d) (get_or after k d) (handed k (at_last k lt) d lt) known pages settings run.0 history status e tally k (run.3.3 k (at_last k lt) lt),
               ),
             )
 
-        pub done_handed : ((s : G) → gfaults s ≡ 0) → (pages : ℕ) → WorkersAreDone (task_for_sample None (Some sample_files) settings) mine e tally → WorkersAreDone (task_for_sample (Some pages) known settings) theirs e tally
+        pub done_handed : ((s : G) → gfaults s ≡ 0) → (pages : ℕ) → WorkersAreDone (task_for_sample None (Some (made_files settings.packed)) settings) mine e tally → WorkersAreDone (task_for_sample (Some pages) known settings) theirs e tally
         done_handed sure pages done = record {
           counts = done.counts;
           failed = λ page is. absurd (none_rose gfaults sure (some_rose gfaults n first last page (done.failed page is)));
-          one = history_for_sample (Some pages) (task_for_sample None (Some sample_files) settings).settings (status_of e) history done.one;
+          one = history_for_sample (Some pages) (task_for_sample None (Some (made_files settings.packed)) settings).settings (status_of e) history done.one;
+          gave_up = λ k d lt.
+              gave_up_handed (get_or last k (at_last k lt)) (get_or before k d) (get_or after k d) (handed k (at_last k lt) d lt) e tally (own (k + 1) history) (done.gave_up k (at_last k lt) lt);
           worked = λ k d lt.
-              worked_handed (get_or last k (at_last k lt)) (get_or before k d) (get_or after k d) (handed k (at_last k lt) d lt) (Some sample_files) known pages settings mine.sources theirs.sources (status_of e)
+              worked_handed (get_or last k (at_last k lt)) (get_or before k d) (get_or after k d) (handed k (at_last k lt) d lt) (Some (made_files settings.packed)) known pages settings mine.sources theirs.sources (status_of e)
               (own (k + 1) history) (get_or first k (at_last k lt)) (own_ready k (at_last k lt) lt).fresh.loads (ready k d lt) (done.worked k (at_last k lt) lt);
           shares = (done.shares.0, shares_handed some done.shares.0 done.shares.1);
           rest = rest;

@@ -15,7 +15,7 @@ use Rattle.page_workers.specs.Rounds.{HasBitmap}
 use Rattle.page_workers.specs.declared.worker.PageResult.{PageResult}
 use Rattle.dvi_run.specs.Pages.{AreValues, Setup}
 use Rattle.dvi_run.specs.Endings.{EndingValue, EndsPages, Source, ending_at}
-use Rattle.dvi_run.specs.Looked.{WasNotCutOff}
+use Rattle.dvi_run.specs.Looked.{WasNotCutOff, sure_pages}
 use Rattle.dvi_run.specs.Rounds.{IsOutcomeOf, WroteOutcome}
 use Rattle.dvi_run.specs.Stacks.{HasFewDots, WroteEach, WroteUpTo, WroteWhole}
 use Rattle.dvi_run.specs.Tally.{TallyMatches}
@@ -23,7 +23,7 @@ use Rattle.dvi_run.specs.declared.tally.Tally.{Tally}
 use Rattle.dvi_run.specs.declared.pages.WriteStop.{WriteStop}
 use Rattle.dvi_run.specs.declared.pages.WriteStop.TheVariants as stop
 use Rattle.dvi_run.proofs.Dots.{few_on_sheet}
-use Rattle.dvi_run.proofs.WorkersInRounds.{AreWhole, cons_cases, only, source_failed, whole_outcome, why_stops, wrote_it}
+use Rattle.dvi_run.proofs.WorkersInRounds.{AreWhole, CutAmong, bitmap_whole, cons_cases, few_sure, only, source_failed, sure_where_cut, whole_outcome, why_stops, wrote_it}
 use Rattle.dvi_run.proofs.PagesWritten.{IsWrittenTo, ends_at, written_more}
 
 -- ---- a stack, from its top on
@@ -65,6 +65,7 @@ module _ (g : Setup) (reading : Reading) (SomeFailed : ℕ → Type 0) where
   -- this is the result of the page with this number, from 0; where a source failed it failed at
   -- this page, from 1
   pub record IsHeld (page : ℕ) (r : PageResult) : Type 0 where
+    pub number : r.page ≡ page
     pub value : IsOutcomeOf g reading page r.outcome
     pub failed : IsErrOf r.outcome draw.SourceFault → SomeFailed (page + 1)
 
@@ -79,6 +80,18 @@ module _ (g : Setup) (reading : Reading) (SomeFailed : ℕ → Type 0) where
   held_at : (page : ℕ) (xs : List PageResult) (r : PageResult) (ys : List PageResult) → AreHeld page (xs ++ r ∷ ys) → IsHeld (page + length xs) r
   held_at page [] r ys h = let same : page ≡ page + 0 = omega arith in subst (λ (p : ℕ). IsHeld p r) same h.0
   held_at page (q ∷ xs) r ys h = let same : suc page + length xs ≡ page + length (q ∷ xs) = omega arith in subst (λ (p : ℕ). IsHeld p r) same (held_at (suc page) xs r ys h.1)
+
+  -- each of them by its place
+  pub held_in : (page : ℕ) (rs : List PageResult) → AreHeld page rs → (r : PageResult) → Contains rs r → (page ≤ r.page) × (r.page < page + length rs)
+  held_in page [] h r has = let less : has.0 < 0 = has.1 in absurd (omega arith)
+  held_in page (q ∷ rs) h r has = elim (cons_cases q rs r has) [
+    | inl same ↦ let number : r.page ≡ page = subst (λ (x : PageResult). x.page ≡ page) same h.0.number in (omega (arith, number), omega (arith, number))
+    | inr rest ↦ let there = held_in (suc page) rs h.1 r rest in (omega (arith, there.0), omega (arith, there.1))
+  ]
+
+  held_last : (page : ℕ) (xs ys : List PageResult) → AreHeld page (xs ++ ys) → AreHeld (page + length xs) ys
+  held_last page [] ys h = let same : page ≡ page + 0 = omega arith in subst (λ (p : ℕ). AreHeld p ys) same h
+  held_last page (q ∷ xs) ys h = let same : suc page + length xs ≡ page + length (q ∷ xs) = omega arith in subst (λ (p : ℕ). AreHeld p ys) same (held_last (suc page) xs ys h.1)
 
   few_of : (page : ℕ) (outcome : Result Bitmap PageStop) → IsDrawable g.sheet → IsOutcomeOf g reading page outcome → IfOk outcome (λ b. black_count b ≤ 20000 * 20000)
   few_of page (Ok b) sheet value = few_on_sheet g reading page b sheet value
@@ -161,6 +174,31 @@ module _ (g : Setup) (reading : Reading) (SomeFailed : ℕ → Type 0) where
       cause_up_to page e =
           let f = source_failed counted up.mid new P page u.pages up.refused.outcome why up.cause e in
           subst SomeFailed (sym f.1) (refused_held.failed (subst (λ (o : Result Bitmap PageStop). IsErrOf o draw.SourceFault) (sym f.0) refl))
+
+      held_rest : AreHeld (suc u.pages) up.rest
+      held_rest =
+          let pages = up.whole.pages_are in
+          let at : suc (t.pages + length up.written) ≡ suc u.pages = omega (arith, pages) in
+          subst (λ (p : ℕ). AreHeld p up.rest) at (held_last t.pages up.written (up.refused ∷ up.rest) held_here).1
+
+      -- a page that was broken off is that one, which isn't written, or one after it
+      pub cut_off : (p : ℕ) → CutAmong rs p → sure_pages (ending_at (u.pages + 1) why) u.pages ≤ p
+      cut_off p cut =
+          let number : cut.0.page ≡ p = cut.2 in
+          elim (Contains-append_cases up.written (up.refused ∷ up.rest) cut.0 (subst (λ (l : List PageResult). Contains l cut.0) up.are cut.1)) [
+            | inl before ↦ absurd (cut.3 (bitmap_whole cut.0.outcome (good_whole up.written now up.mid t u up.whole cut.0 before)))
+            | inr after ↦ elim (cons_cases up.refused up.rest cut.0 after) [
+              | inl here ↦
+                  let at : cut.0.page ≡ u.pages = subst (λ (x : PageResult). x.page ≡ u.pages) here refused_held.number in
+                  let broken : IsWhole up.refused.outcome → ⊥ = subst (λ (x : PageResult). IsWhole x.outcome → ⊥) (sym here) cut.3 in
+                  let none = sure_where_cut counted up.mid new P (u.pages + 1) u.pages up.refused.outcome why up.cause broken in
+                  omega (arith, at, number, none)
+              | inr later ↦
+                  let at = held_in (suc u.pages) up.rest held_rest cut.0 later in
+                  let most = few_sure (ending_at (u.pages + 1) why) u.pages in
+                  omega (arith, at.0, number, most)
+            ]
+          ]
 
       -- one page alone, that wasn't broken off
       pub whole_alone : length rs ≤ 1 → WasNotCutOff (ending_at (u.pages + 1) why) → AreWhole rs

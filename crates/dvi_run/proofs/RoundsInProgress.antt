@@ -19,7 +19,7 @@ use Rattle.dvi_run.specs.Stacks.{AllDrewNothing, AreFrom, DrewStack}
 use Rattle.dvi_run.specs.Rounds.{FailedAt, IsOutcomeOf, MayBegin, Site, indexed_of}
 use Rattle.dvi_run.proofs.ResultsToWrite.{AreHeld}
 use Rattle.dvi_run.proofs.Shares.{none_shared, shared_as, shared_more}
-use Rattle.dvi_run.proofs.WorkersInRounds.{AreWhole, Came, Stood, begins, bitmap_whole, came_so, room_so, stood_as, stood_on, stood_rest}
+use Rattle.dvi_run.proofs.WorkersInRounds.{AreWhole, Came, CutAmong, NeverCut, Stood, begins, bitmap_whole, came_so, none_cut, room_so, stood_as, stood_on, stood_rest}
 
 -- ---- how many pages the next round has
 
@@ -78,8 +78,8 @@ module _ {F : Type 0} (s : Site F) (n : ℕ) (xs : List (Worker F)) where
   abbrev pub SomeFailed : List (Worker F) → ℕ → Type 0
   SomeFailed ws page = (k : ℕ) × (k < n) × ((d : Worker F) → FailedAt s.faults page (get_or xs k d) (get_or ws k d))
 
-  abbrev pub AllStood : Type 0 → List (Worker F) → Type 0
-  AllStood W ws = (k : ℕ) (d : Worker F) → k < n → Stood s W (get_or xs k d) (get_or ws k d)
+  abbrev pub AllStood : (ℕ → Type 0) → List (Worker F) → Type 0
+  AllStood Cut ws = (k : ℕ) (d : Worker F) → k < n → Stood s Cut (get_or xs k d) (get_or ws k d)
 
   -- the results of the pages from `done` on are at hand, and the rounds before page `next` were
   -- drawn
@@ -91,7 +91,7 @@ module _ {F : Type 0} (s : Site F) (n : ℕ) (xs : List (Worker F)) where
     pub near : next ≤ done + 32
     pub even : 2 ≤ n → done % 32 ≡ 0
     pub steps : 2 ≤ n → (next % 32 ≡ 0) ⊎ (next ≡ pages_begun s.reading)
-    pub stand : AllStood (AreWhole rs) ws
+    pub stand : AllStood (CutAmong rs) ws
     pub room : (k : ℕ) (d : Worker F) → k < n
         → room_at (get_or xs k d).loads (get_or xs k d).seat ≤ room_at (get_or ws k d).loads (get_or ws k d).seat + next * 2 ^ 24
     pub shares : PartitionPages (done + length rs) n ws
@@ -107,7 +107,7 @@ module _ {F : Type 0} (s : Site F) (n : ℕ) (xs : List (Worker F)) where
       near = omega arith;
       even = λ two. omega arith;
       steps = λ two. inl (omega arith);
-      stand = λ k d lt. stood_as s (AreWhole []) (Unit {0}) (get_or xs k d) (get_or xs k d) (λ all. tt) (begins s (get_or xs k d) (ready k d lt));
+      stand = λ k d lt. stood_as s NeverCut (CutAmong []) (get_or xs k d) (get_or xs k d) (λ p cut. absurd cut) (begins s (get_or xs k d) (ready k d lt));
       room = λ k d lt. omega arith;
       shares = λ d. none_shared n (λ k. (get_or xs k d).pages.items) (λ k lt. (ready k d lt).pages);
       held = tt;
@@ -169,7 +169,7 @@ module _ {F : Type 0} (s : Site F) (n : ℕ) (xs : List (Worker F)) where
               k,
               lt,
               λ d. came_so s (get_or xs k d) (get_or ws k d) (get_or mid k d) (get_or now k d) (ready k d lt) (drawn k) (drew.round.each k d (in_ws k lt)) (drew.round.stopped k (in_ws k lt)) (drew.taken.cleared k d (in_mid k lt))
-                  (AreWhole rs) whole (h.stand k d lt) r (subst (λ (l : List PageResult). Contains l r) (drawn_results k d lt) (own.2 d)),
+                  (CutAmong rs) (none_cut rs whole) (h.stand k d lt) r (subst (λ (l : List PageResult). Contains l r) (drawn_results k d lt) (own.2 d)),
             )
 
         held_from : (page : ℕ) (qs : List PageResult) → AreFrom page qs → ((r : PageResult) → Contains qs r → Contains results r) → AreHeld s.given s.reading (SomeFailed now) page qs
@@ -178,6 +178,7 @@ module _ {F : Type 0} (s : Site F) (n : ℕ) (xs : List (Worker F)) where
             let c = came r (all r (0, omega arith, refl)) in
             let d : Worker F = some_of ws (omega (arith, c.1)) in (
               record {
+                number = from.0;
                 value = subst (λ (p : ℕ). IsOutcomeOf s.given s.reading p r.outcome) from.0 (c.2 d).value;
                 failed = λ f. (c.0, c.1, λ e. subst (λ (p : ℕ). FailedAt s.faults (p + 1) (get_or xs c.0 e) (get_or now c.0 e)) from.0 ((c.2 e).failed f));
               },
@@ -227,9 +228,9 @@ module _ {F : Type 0} (s : Site F) (n : ℕ) (xs : List (Worker F)) where
             even = even_now;
             steps = λ two. elim (sized.more two) [ inl all ↦ inl (let even = even_now two in omega (arith, even, all)) | inr last ↦ inr last ];
             stand = λ k d lt.
-                stood_as s (AreWhole results) (AreWhole (drawn k)) (get_or xs k d) (get_or now k d) (λ all r has. all r (in_results k r lt has))
+                stood_as s (CutAmong (drawn k)) (CutAmong results) (get_or xs k d) (get_or now k d) (λ p cut. (cut.0, in_results k cut.0 lt cut.1, cut.2, cut.3))
                 (stood_on s (get_or xs k d) (get_or ws k d) (get_or mid k d) (get_or now k d) (ready k d lt) (drawn k) (drew.round.each k d (in_ws k lt)) (drew.round.stopped k (in_ws k lt)) (drew.taken.cleared k d (in_mid k lt))
-                (AreWhole rs) whole (counters k d lt) (h.stand k d lt));
+                (CutAmong rs) (none_cut rs whole) (counters k d lt) (h.stand k d lt));
             room = λ k d lt.
                 let before = h.room k d lt in
                 let here = room_so s (get_or xs k d) (get_or ws k d) (get_or mid k d) (get_or now k d) (ready k d lt) (drawn k) (drew.round.each k d (in_ws k lt)) (drew.round.stopped k (in_ws k lt)) (drew.taken.cleared k d (in_mid k lt)) in

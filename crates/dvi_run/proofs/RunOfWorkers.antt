@@ -22,7 +22,7 @@ use Rattle.dvi_run.specs.Promises.{ReportMatchesRun, IsNoted, document_of}
 use Rattle.dvi_run.specs.Report.{loads_of, report_text}
 use Rattle.dvi_run.specs.Reading.{HoldsOfInput}
 use Rattle.dvi_run.specs.Endings.{EndingValue, Written, Usage, Document, Page, Source, Input, Output, Notes, Memory, EndsPages, WroteAll, page_status, status_of}
-use Rattle.dvi_run.specs.Looked.{IsAllWritten, EveryPageCameToItsEnd, IsIdle, WasNotCutOff, WasNotCutOffBy}
+use Rattle.dvi_run.specs.Looked.{EndsBroken, IsAllWritten, EveryPageCameToItsEnd, IsIdle, MayBreakOff, WasNotCutOff, WasNotCutOffBy}
 use Rattle.dvi_run.specs.Tally.{CountsTo, HadCache, TallyMatchesRun}
 use Rattle.command_line.specs.declared.settings.Settings.{Settings}
 use Rattle.dvi_run.specs.declared.tally.Tally.{Tally}
@@ -30,7 +30,7 @@ use Rattle.dvi_run.specs.Rounds.{FailedAt, IsFresh, WorkerRan}
 use Rattle.dvi_run.proofs.Clauses.{AtPage, at_page, ends_late}
 use Rattle.page_workers.specs.Seating.{IsUnused}
 use Rattle.dvi_run.proofs.Shares.{none_shared, shared_as}
-use Rattle.dvi_run.specs.Together.{Answered, WorkersAreDone, DrewDocument, PagesMatchHistory, EachUsed, EveryPageCameToItsEndBy, IsOneHistory, IsReadyWorker, RestIsKept, SomeUsed, SourceRose, WorkerDone}
+use Rattle.dvi_run.specs.Together.{Answered, WorkersAreDone, DrewDocument, PagesMatchHistory, EachUsed, EveryPageCameToItsEndBy, GaveUpOnlyBroken, IsOneHistory, IsReadyWorker, RestIsKept, SomeUsed, SourceRose, WorkerDone}
 
 -- ---- whose source failed
 
@@ -111,10 +111,10 @@ had_cache old new P Q reading values (Output page) h = tt
 had_cache old new P Q reading values Notes h = tt
 had_cache old new P Q reading values Memory h = tt
 
-counts_to : (counted : Bool) (old new : Option (List ℕ)) (P Q : Type 0) (reading : Reading) (values : List PageValue) (e : EndingValue) (tally : Option Tally) → EndsPages old new P Q e reading values
-    → TallyMatchesRun counted old new tally e values → CountsTo tally e
-counts_to counted old new P Q reading values e None h none = subst IsIdle (sym none.0) tt
-counts_to counted old new P Q reading values e (Some t) h tallied = (had_cache old new P Q reading values e h, tallied.next)
+counts_to : (counted : Bool) (old new : Option (List ℕ)) (history : List Call) (P Q : Type 0) (reading : Reading) (values : List PageValue) (e : EndingValue) (tally : Option Tally) → EndsPages old new P Q e reading values
+    → TallyMatchesRun counted old new history tally e values → CountsTo history tally e
+counts_to counted old new history P Q reading values e None h none = (subst IsIdle (sym none.0) tt, none.2)
+counts_to counted old new history P Q reading values e (Some t) h tallied = (had_cache old new P Q reading values e h, tallied.next)
 
 to_its_end_by : (n : ℕ) (e : EndingValue) → EveryPageCameToItsEndBy n (status_of e) → EveryPageCameToItsEnd n e
 to_its_end_by n e (inl good) = inl (is_written e good)
@@ -149,8 +149,8 @@ each_kept n (c ∷ calls) made none kept = dite (ℕ_discrete c.seat 0)
 
 -- ---- what a worker did
 
-module _ {F : Type 0} (known : Option FileTable) (settings : Settings) (sources : Sources F) (reading : Reading) (e : EndingValue) (history : List Call) (k : ℕ) (before after : Worker F)
-    (ran : WorkerRan (EveryPageCameToItsEnd settings.workers e) sources.library sources.faults sources.loads (setup_with known settings) reading history (k + 1) before after) where
+module _ {F : Type 0} (known : Option FileTable) (settings : Settings) (sources : Sources F) (reading : Reading) (e : EndingValue) (tally : Option Tally) (history : List Call) (k : ℕ) (before after : Worker F)
+    (ran : WorkerRan (MayBreakOff e tally) (EveryPageCameToItsEnd settings.workers e) sources.library sources.faults sources.loads (setup_with known settings) reading history (k + 1) before after) where
   worked : WorkerDone (task_for_sample None known settings) sources (status_of e) (own (k + 1) history) before after
   worked = record {
     seat = ran.seat;
@@ -166,6 +166,12 @@ module _ {F : Type 0} (known : Option FileTable) (settings : Settings) (sources 
     loaded = ran.loaded;
   }
 
+  gave_up : GaveUpOnlyBroken e tally (own (k + 1) history) after
+  gave_up = elim ran.looked [
+    | inl w ↦ inl w.0
+    | inr b ↦ inr (record { before = b.before; page = b.page; pages_are = b.pages_are; may_break = b.may_break })
+  ]
+
   module _ (one : IsOneHistory (task_for_sample None known settings).settings (status_of e) history) (alone : AloneIsHistory) (law : SoloIsOne) (below : k < settings.workers) where
     solo : settings.workers ≡ 1 → WasNotCutOffBy (status_of e) → history ≡ solo_history settings.cache 1 ran.keys
     solo single unbroken =
@@ -180,7 +186,7 @@ module _ {F : Type 0} (known : Option FileTable) (settings : Settings) (sources 
           kept = subst NoneReleased mine (ran.whole (inr (single, not_cut_off_by e unbroken)));
         })
 
-    answered : Answered (task_for_sample None known settings) reading history (status_of e) k after
+    answered : Answered (task_for_sample None known settings) reading history (status_of e) e tally k after
     answered = record {
       keys = ran.keys;
       looked = ran.looked;
@@ -207,11 +213,11 @@ pub one_of : {A : Type 0} (xs : List A) (k : ℕ) → k < length xs → A
 one_of [] k lt = absurd (omega arith)
 one_of (x ∷ xs) k lt = x
 
-pub one_history : {F : Type 0} (settings : Settings) (g : Setup) (reading : Reading) (drawing : Drawing F) (P : Type 0) (values : List PageValue) (e : EndingValue)
+pub one_history : {F : Type 0} (settings : Settings) (g : Setup) (reading : Reading) (drawing : Drawing F) (P : Type 0) (values : List PageValue) (e : EndingValue) (tally : Option Tally)
     → EndsPages drawing.output.before.bytes drawing.output.after.bytes P (Unit {0}) e reading values → Legal settings.cache drawing.history → AllMade (settings.workers + 1) drawing.history → own 0 drawing.history ≡ [] → FewClaims drawing.history
-    → EachUsed settings.workers drawing.before drawing.after (λ k was now. WorkerRan (EveryPageCameToItsEnd settings.workers e) drawing.sources.library drawing.sources.faults drawing.sources.loads g reading drawing.history (k + 1) was now)
+    → EachUsed settings.workers drawing.before drawing.after (λ k was now. WorkerRan (MayBreakOff e tally) (EveryPageCameToItsEnd settings.workers e) drawing.sources.library drawing.sources.faults drawing.sources.loads g reading drawing.history (k + 1) was now)
     → ((k : ℕ) → k < settings.workers → Worker F) → IsOneHistory settings (status_of e) drawing.history
-one_history settings g reading drawing P values e ends legal made first few ran some = record {
+one_history settings g reading drawing P values e tally ends legal made first few ran some = record {
   legal = legal;
   made = made;
   none_of_first = first;
@@ -231,10 +237,11 @@ module _ {F : Type 0} (known : Option FileTable) (settings : Settings) (reading 
 
   pub are_done : RestIsKept settings.workers drawing.before drawing.after → WorkersAreDone (task_for_sample None known settings) drawing e tally
   are_done rest = record {
-    counts = counts_to settings.summary old new (FaultsRose drawing.output) (Unit {0}) reading drew.ends.0 e tally drew.ends.2 drew.ends.3;
+    counts = counts_to settings.summary old new drawing.history (FaultsRose drawing.output) (Unit {0}) reading drew.ends.0 e tally drew.ends.2 drew.ends.3;
     failed = drew.failed;
     one = drew.one;
-    worked = λ k d lt. worked known settings drawing.sources reading e drawing.history k (get_or drawing.before k d) (get_or drawing.after k d) (drew.ran k d lt);
+    worked = λ k d lt. worked known settings drawing.sources reading e tally drawing.history k (get_or drawing.before k d) (get_or drawing.after k d) (drew.ran k d lt);
+    gave_up = λ k d lt. gave_up known settings drawing.sources reading e tally drawing.history k (get_or drawing.before k d) (get_or drawing.after k d) (drew.ran k d lt);
     shares = (drew.shares.drawn, drew.shares.shares);
     rest = rest;
   }
@@ -249,7 +256,7 @@ module _ {F : Type 0} (known : Option FileTable) (settings : Settings) (reading 
           ends_so old new (FaultsRose drawing.output) (Unit {0}) reading drew.ends.0 e drew.ends.2,
           drew.ends.3,
           drew.shares,
-          λ k d lt. answered known settings drawing.sources reading e drawing.history k (get_or drawing.before k d) (get_or drawing.after k d) (drew.ran k d lt) drew.one alone law lt,
+          λ k d lt. answered known settings drawing.sources reading e tally drawing.history k (get_or drawing.before k d) (get_or drawing.after k d) (drew.ran k d lt) drew.one alone law lt,
         ),
       )
 
@@ -261,7 +268,7 @@ module _ {F : Type 0} (known : Option FileTable) (settings : Settings) (reading 
 -- the end of a run
 pub ended_at : {F : Type 0} (run : Run F) (e : EndingValue) (tally : Option Tally) → IsNoted run e (report_text run.task.settings tally (loads_of run.task.settings.workers run.after) run.history e) → WorkersAreDone run.task (drawing_of run) e tally
     → HoldsOfInput (document_of run) (PagesMatchHistory run.task (drawing_of run) (status_of e) e tally) → (status : ℕ) → status ≡ status_of e → ReportMatchesRun run status e tally
-ended_at run e tally noted done drew status is = subst (λ (m : ℕ). ReportMatchesRun run m e tally) (sym is) (record { noted = noted; counted = done.counts; failed = done.failed; drew = drew })
+ended_at run e tally noted done drew status is = subst (λ (m : ℕ). ReportMatchesRun run m e tally) (sym is) (record { noted = noted; counted = done.counts; failed = done.failed; gave_up = done.gave_up; drew = drew })
 
 -- a worker as it was made is ready for a run that knows no library
 pub ready_unknown : {F : Type 0} (library : F → Option FileTable) (w : Worker F) → IsUnused w → IsReadyWorker library None w
@@ -315,9 +322,10 @@ pub idle_done : {F : Type 0} (task : Task) (sources : Sources F) (output : Strea
     → ((k : ℕ) (d : Worker F) → k < task.settings.workers → IsReadyWorker sources.library task.known (get_or ws k d)) → IsIdle e → history ≡ [] → WorkersAreDone task (no_drawing sources output ws history) e None
 idle_done task sources output ws history e ready is_idle none =
     subst (λ (h : List Call). WorkersAreDone task (no_drawing sources output ws h) e None) (sym none) (record {
-      counts = is_idle;
+      counts = (is_idle, refl);
       failed = λ page is. absurd (not_source e is_idle page is);
       one = record { legal = refl; made = tt; none_of_first = refl; few_claims = λ k. omega arith; kept = λ is. tt; idle = λ among. refl };
+      gave_up = λ k d lt. inl tt;
       worked = λ k d lt. idle_worked task sources (status_of e) (get_or ws k d) (ready k d lt);
       shares = (0, λ d. none_shared task.settings.workers (λ k. (get_or ws k d).pages.items) (λ k lt. (ready k d lt).fresh.pages));
       rest = λ k d le. refl;
@@ -362,7 +370,7 @@ module _ {F : Type 0} (task : Task) (reading : Reading) (drawing : Drawing F) (e
     };
     one = d.one;
     ran = λ k w lt.
-        let Did : Worker F → Worker F → Type 0 = WorkerRan (EveryPageCameToItsEnd n e) drawing.sources.library drawing.sources.faults drawing.sources.loads (setup_of task) reading drawing.history (k + 1) in
+        let Did : Worker F → Worker F → Type 0 = WorkerRan (MayBreakOff e tally) (EveryPageCameToItsEnd n e) drawing.sources.library drawing.sources.faults drawing.sources.loads (setup_of task) reading drawing.history (k + 1) in
         subst (λ (x : Worker F). Did x (get_or (prefix ++ rest) k w)) (was k w lt) (subst (λ (x : Worker F). Did (get_or (take n before) k w) x) (is k w lt) (d.ran k w lt));
   }
 

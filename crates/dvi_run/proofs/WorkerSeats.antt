@@ -1,5 +1,5 @@
 -- A worker from its seat to the end of the run.
-use Rattle.std.proofs.Common.{◌≡◌, ◌⊎◌, inl, ℕ, ◌*◌, ◌≤◌, List, [], ◌++◌, Option, Some, None, refl, sym, ap, subst, ◌∙◌, arith}
+use Rattle.std.proofs.Common.{◌≡◌, ◌⊎◌, inl, inr, ℕ, ◌*◌, ◌≤◌, List, [], ◌++◌, Option, Some, None, refl, sym, ap, subst, ◌∙◌, arith}
 use Rattle.std.specs.Prelude.{IfSome}
 use Rattle.outside.specs.Library.{FileTable}
 use Rattle.outside.specs.declared.keys.FontKey.{FontKey}
@@ -71,7 +71,7 @@ module _ {F : Type 0} (s : Site F) (part : Common) (known : part.library ≡ s.g
 
   -- ---- at the end
 
-  module _ (now : Worker F) (ended : AfterRounds s start now) (t : SeatView) (is : now.seat ≡ Some t) where
+  module _ (MayBreak : ℕ → Type 0) (now : Worker F) (ended : AfterRounds s MayBreak start now) (t : SeatView) (is : now.seat ≡ Some t) where
     trail_here : TrailGrew ⊥ (asked_at (Some seated.seat)) (asked_at (Some t)) (trail_at (s.loads start.source) start.loads (Some seated.seat)) (trail_at (s.loads now.source) now.loads (Some t))
     trail_here =
         subst (λ (o : Option SeatView). TrailGrew ⊥ (asked_at (Some seated.seat)) (asked_at o) (trail_at (s.loads start.source) start.loads (Some seated.seat)) (trail_at (s.loads now.source) now.loads o)) is
@@ -102,8 +102,20 @@ module _ {F : Type 0} (s : Site F) (part : Common) (known : part.library ≡ s.g
       own_here : own k history ≡ answers.answers.calls
       own_here = left ∙ calls_are
 
-      abbrev Looked : List ℕ → List FontKey → Type 0
-      Looked ps ks = WholeLooks (finding s.given s.reading) (indexed_of s.given s.reading) s.given.sheet ps ks ⊎ BrokenLooks (finding s.given s.reading) (indexed_of s.given s.reading) s.given.sheet ps ks
+      abbrev AllLooked : List ℕ → List FontKey → Type 0
+      AllLooked ps ks = WholeLooks (finding s.given s.reading) (indexed_of s.given s.reading) s.given.sheet ps ks
+
+      abbrev Broke : List ℕ → List FontKey → Type 0
+      Broke ps ks = BrokenLooks MayBreak (finding s.given s.reading) (indexed_of s.given s.reading) s.given.sheet ps ks
+
+      looked_here : (NoneReleased (own k history) × AllLooked after.pages.items answers.keys) ⊎ Broke after.pages.items answers.keys
+      looked_here = elim ended.looked [
+        | inl w ↦ inl (
+          subst NoneReleased (sym left) (none_released now w.0 t is),
+          subst (λ (ps : List ℕ). AllLooked ps answers.keys) (sym pages) (subst (λ (ks : List FontKey). AllLooked now.pages.items ks) keys_here w.1),
+        )
+        | inr b ↦ inr (subst (λ (ps : List ℕ). Broke ps answers.keys) (sym pages) (subst (λ (ks : List FontKey). Broke now.pages.items ks) keys_here b))
+      ]
 
       told_here : t.view.part.library ≡ s.given.library
       told_here = sym (ap library_at is) ∙ ended.kept.library ∙ may_begin.library
@@ -115,7 +127,7 @@ module _ {F : Type 0} (s : Site F) (part : Common) (known : part.library ≡ s.g
           (subst (λ (o : Option FileTable). IfSome o (λ l. s.library now.source ≡ Some l)) told_here fits.knows_library)
 
       pub ran : (Whole : Type 0) → (Whole → NoneReleased (own_calls t))
-          → (Whole → WholeLooks (finding s.given s.reading) (indexed_of s.given s.reading) s.given.sheet now.pages.items (keys_of now.seat)) → WorkerRan Whole s.library s.faults s.loads s.given s.reading history k w after
+          → (Whole → WholeLooks (finding s.given s.reading) (indexed_of s.given s.reading) s.given.sheet now.pages.items (keys_of now.seat)) → WorkerRan MayBreak Whole s.library s.faults s.loads s.given s.reading history k w after
       ran Whole settled through = record {
         seat = none;
         none = results ∙ ended.none;
@@ -124,7 +136,7 @@ module _ {F : Type 0} (s : Site F) (part : Common) (known : part.library ≡ s.g
         knows_library = still_tells;
         faults_rose = subst (λ (x : F). s.faults x ≤ s.faults after.source) seated.same.source (subst (λ (x : F). s.faults start.source ≤ s.faults x) (sym source) ended.kept.faults);
         keys = answers.keys;
-        looked = subst (λ (ps : List ℕ). Looked ps answers.keys) (sym pages) (subst (λ (ks : List FontKey). Looked now.pages.items ks) keys_here ended.looked);
+        looked = looked_here;
         answered = subst (λ (l : List Call). SeatCalls answers.keys l) (sym own_here) answers.answers.for_keys;
         last = subst ReleasedLast (sym own_here) answers.answers.last;
         whole = λ e. subst NoneReleased (sym left) (settled e);
@@ -139,18 +151,18 @@ module _ {F : Type 0} (s : Site F) (part : Common) (known : part.library ≡ s.g
             (subst (λ (n : ℕ). Loaded (MAX_LOADS * misses answers.answers.calls) (s.loads start.source) (s.loads now.source) n now.loads) seated.same.loads answers.answers.loaded))));
       }
 
-  leaves : (now : Worker F) (ended : AfterRounds s start now) (o : Option SeatView) → now.seat ≡ o → BenchFits (s.library now.source) s.bench o → MayLeave s.bench.cache k now
-  leaves now ended None is fits = absurd fits
-  leaves now ended (Some t) is fits = record { seat = t; is = is; lock = fits.lock; number = number now ended t is; idle = fits.idle }
+  leaves : (MayBreak : ℕ → Type 0) (now : Worker F) (ended : AfterRounds s MayBreak start now) (o : Option SeatView) → now.seat ≡ o → BenchFits (s.library now.source) s.bench o → MayLeave s.bench.cache k now
+  leaves MayBreak now ended None is fits = absurd fits
+  leaves MayBreak now ended (Some t) is fits = record { seat = t; is = is; lock = fits.lock; number = number MayBreak now ended t is; idle = fits.idle }
 
   -- a seat that the bench fits is one that may be taken in
-  pub may_leave : (now : Worker F) → AfterRounds s start now → MayLeave s.bench.cache k now
-  may_leave now ended = leaves now ended now.seat refl ended.kept.fits
+  pub may_leave : (MayBreak : ℕ → Type 0) (now : Worker F) → AfterRounds s MayBreak start now → MayLeave s.bench.cache k now
+  may_leave MayBreak now ended = leaves MayBreak now ended now.seat refl ended.kept.fits
 
 -- a worker of a run in which no cache was made
 pub unused : {F : Type 0} (library : F → Option FileTable) (faults loads : F → ℕ) (g : Setup) (reading : Reading) (number : ℕ) (w : Worker F) → IsFresh library g.library w → w.seat ≡ None
-    → (Whole : Type 0) → WorkerRan Whole library faults loads g reading [] number w w
-unused library faults loads g reading number w fresh none Whole = record {
+    → (MayBreak : ℕ → Type 0) (Whole : Type 0) → WorkerRan MayBreak Whole library faults loads g reading [] number w w
+unused library faults loads g reading number w fresh none MayBreak Whole = record {
   seat = none;
   none = fresh.none;
   counter = fresh.counter;
@@ -158,7 +170,7 @@ unused library faults loads g reading number w fresh none Whole = record {
   knows_library = fresh.knows_library;
   faults_rose = omega arith;
   keys = [];
-  looked = inl (subst (λ (ps : List ℕ). WholeLooks (finding g reading) (indexed_of g reading) g.sheet ps []) (sym fresh.pages) refl);
+  looked = inl (tt, subst (λ (ps : List ℕ). WholeLooks (finding g reading) (indexed_of g reading) g.sheet ps []) (sym fresh.pages) refl);
   answered = refl;
   last = tt;
   whole = λ e. tt;

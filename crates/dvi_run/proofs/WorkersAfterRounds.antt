@@ -11,7 +11,7 @@ use Rattle.page_workers.specs.Rounds.{HasBitmap, DrewNothing}
 use Rattle.page_workers.specs.declared.worker.PageResult.{PageResult}
 use Rattle.page_workers.specs.declared.worker.Worker.{Worker}
 use Rattle.dvi_run.specs.Endings.{EndingValue, EndsPages, Written, Source, ending_at}
-use Rattle.dvi_run.specs.Looked.{EveryPageCameToItsEnd, WasNotCutOff}
+use Rattle.dvi_run.specs.Looked.{EveryPageCameToItsEnd, MayBreakOff, WasNotCutOff}
 use Rattle.dvi_run.specs.Shares.{PartitionPages, WorkersDrew, DrewUpTo, next_end, round_end}
 use Rattle.dvi_run.specs.Stacks.{AllDrewNothing, DrewStack, StoppedAhead, WroteUpTo, WroteWhole}
 use Rattle.dvi_run.specs.Rounds.{AfterRounds, MayBegin, BetweenRounds, Site, WroteOutcome, indexed_of}
@@ -19,13 +19,13 @@ use Rattle.dvi_run.specs.declared.tally.Tally.{Tally}
 use Rattle.dvi_run.specs.declared.pages.WriteStop.{WriteStop}
 use Rattle.dvi_run.specs.declared.pages.WriteStop.TheVariants as stop
 use Rattle.dvi_run.proofs.RoundsInProgress.{RoundInProgress, IsCount, SomeFailed, next_at_hand}
-use Rattle.dvi_run.proofs.ResultsToWrite.{cause_up_to, ends_up_to, good_whole, inside_hand, whole_alone, wrote_whole}
+use Rattle.dvi_run.proofs.ResultsToWrite.{cause_up_to, cut_off, ends_up_to, good_whole, held_in, inside_hand, whole_alone, wrote_whole}
 use Rattle.dvi_run.proofs.PagesWritten.{IsWrittenTo, ends_at}
 use Rattle.page_draw.specs.Values.{PageValue}
 use Rattle.dvi_run.specs.Pages.{AreValues}
 use Rattle.dvi_run.specs.Tally.{TallyMatches}
 use Rattle.dvi_run.proofs.Shares.{shared_as}
-use Rattle.dvi_run.proofs.WorkersInRounds.{AreWhole, Stood, bitmap_whole, ends, never_written, settles, stood_rest}
+use Rattle.dvi_run.proofs.WorkersInRounds.{AreWhole, CutAmong, Stood, bitmap_whole, ends, few_sure, never_written, none_cut, settles, stood_rest}
 
 -- ---- rounds
 
@@ -86,7 +86,7 @@ module _ {F : Type 0} (s : Site F) (n : ℕ) (xs : List (Worker F)) (some : 1 �
     pub whole : EveryPageCameToItsEnd n e → (k : ℕ) (d : Worker F) → k < n → BetweenRounds s (get_or xs k d) (get_or now k d)
     pub cause : (page : ℕ) → e ≡ Source page → SomeFailed s n xs now page
     pub shares : WorkersDrew (pages_begun s.reading) n e (Some tally) now
-    pub workers : (k : ℕ) (d : Worker F) → k < n → AfterRounds s (get_or xs k d) (get_or now k d)
+    pub workers : (k : ℕ) (d : Worker F) → k < n → AfterRounds s (MayBreakOff e (Some tally)) (get_or xs k d) (get_or now k d)
 
   abbrev InProgress : List (Worker F) → ℕ → ℕ → List PageResult → Type 0
   InProgress ws next done rs = RoundInProgress s n xs ws next done rs
@@ -99,7 +99,7 @@ module _ {F : Type 0} (s : Site F) (n : ℕ) (xs : List (Worker F)) (some : 1 �
       let whole : AreWhole rs = λ r has. bitmap_whole r.outcome (good r has) in
       let all = h.full good in
       record {
-        whole = λ through k d lt. settles s (AreWhole rs) (get_or xs k d) (get_or ws k d) whole (h.stand k d lt);
+        whole = λ through k d lt. settles s (CutAmong rs) (get_or xs k d) (get_or ws k d) (none_cut rs whole) (h.stand k d lt);
         cause = λ page e. absurd cc;
         shares = record {
           drawn = t.pages + length rs;
@@ -108,7 +108,7 @@ module _ {F : Type 0} (s : Site F) (n : ℕ) (xs : List (Worker F)) (some : 1 �
           reach = omega (arith, all, last);
           written = let is = wrote.pages_are in omega (arith, is);
         };
-        workers = λ k d lt. ends s (AreWhole rs) (get_or xs k d) (get_or ws k d) (h.stand k d lt);
+        workers = λ k d lt. ends s (CutAmong rs) (MayBreakOff Written (Some u)) (get_or xs k d) (get_or ws k d) (λ p cut. absurd (none_cut rs whole p cut)) (h.stand k d lt);
       }
 
   -- at a page of the round at hand
@@ -136,7 +136,7 @@ module _ {F : Type 0} (s : Site F) (n : ℕ) (xs : List (Worker F)) (some : 1 �
             let few = h.alone alone.0 in
             let reach = h.reach in
             let whole = whole_alone s.given s.reading (SomeFailed s n xs ws) old counted rs old new t u why P h.held up (omega (arith, few, reach)) alone.1 in
-            settles s (AreWhole rs) (get_or xs k d) (get_or ws k d) whole (h.stand k d lt)
+            settles s (CutAmong rs) (get_or xs k d) (get_or ws k d) (none_cut rs whole) (h.stand k d lt)
       ];
       cause = λ page is. cause_up_to s.given s.reading (SomeFailed s n xs ws) old counted rs old new t u why P h.held up page is;
       shares = record {
@@ -146,7 +146,8 @@ module _ {F : Type 0} (s : Site F) (n : ℕ) (xs : List (Worker F)) (some : 1 �
         reach = reach_here;
         written = let i = inside in omega (arith, i.1);
       };
-      workers = λ k d lt. ends s (AreWhole rs) (get_or xs k d) (get_or ws k d) (h.stand k d lt);
+      workers = λ k d lt.
+          ends s (CutAmong rs) (MayBreakOff e (Some u)) (get_or xs k d) (get_or ws k d) (cut_off s.given s.reading (SomeFailed s n xs ws) old counted rs old new t u why P h.held up) (h.stand k d lt);
     }
 
   -- where the next round wasn't at hand
@@ -162,8 +163,8 @@ module _ {F : Type 0} (s : Site F) (n : ℕ) (xs : List (Worker F)) (some : 1 �
     whole : AreWhole rs
     whole r has = bitmap_whole r.outcome (good r has)
 
-    still : AllDrewNothing ws now → (k : ℕ) (d : Worker F) → k < n → Stood s (AreWhole rs) (get_or xs k d) (get_or now k d)
-    still rest k d lt = stood_rest s (AreWhole rs) (get_or xs k d) (get_or ws k d) (get_or now k d) (rest k d (omega arith)) (counters k d lt) (h.stand k d lt)
+    still : AllDrewNothing ws now → (k : ℕ) (d : Worker F) → k < n → Stood s (CutAmong rs) (get_or xs k d) (get_or now k d)
+    still rest k d lt = stood_rest s (CutAmong rs) (get_or xs k d) (get_or ws k d) (get_or now k d) (rest k d (omega arith)) (counters k d lt) (h.stand k d lt)
 
     -- its pages go on the output as far as they were written
     pub ends_ahead : (start : Option (List ℕ)) (Fails : Type 0) → (P → Fails) → IsWrittenTo s.given s.reading start old t.pages counted t.black → next < pages_begun s.reading
@@ -184,7 +185,7 @@ module _ {F : Type 0} (s : Site F) (n : ℕ) (xs : List (Worker F)) (some : 1 �
     -- no worker drew on
     over_rested : AllDrewNothing ws now → ((page : ℕ) → ended ≡ Source page → ⊥) → DrewUpTo (pages_begun s.reading) n (t.pages + length rs) ended → u.pages ≤ t.pages + length rs → WorkersAfterRounds now ended u
     over_rested rest sound reach few = record {
-      whole = λ through k d lt. settles s (AreWhole rs) (get_or xs k d) (get_or now k d) whole (still rest k d lt);
+      whole = λ through k d lt. settles s (CutAmong rs) (get_or xs k d) (get_or now k d) (none_cut rs whole) (still rest k d lt);
       cause = λ page is. absurd (sound page is);
       shares = record {
         drawn = t.pages + length rs;
@@ -193,7 +194,7 @@ module _ {F : Type 0} (s : Site F) (n : ℕ) (xs : List (Worker F)) (some : 1 �
         reach = reach;
         written = few;
       };
-      workers = λ k d lt. ends s (AreWhole rs) (get_or xs k d) (get_or now k d) (still rest k d lt);
+      workers = λ k d lt. ends s (CutAmong rs) (MayBreakOff ended (Some u)) (get_or xs k d) (get_or now k d) (λ p cut. absurd (none_cut rs whole p cut)) (still rest k d lt);
     }
 
     module _ (up : WroteUpTo counted old new P rs t u why) where
@@ -211,6 +212,15 @@ module _ {F : Type 0} (s : Site F) (n : ℕ) (xs : List (Worker F)) (some : 1 �
       -- while the next round was drawn
       module _ (two : 2 ≤ n) (later : List PageResult) (drew : DrewStack s.library s.faults s.loads s.bench (indexed_of s.given s.reading) s.given.sheet next count ws now later) (after : RoundInProgress s n xs now (next + count) (t.pages + length rs) (reverse later))
           (most : count ≤ 32) where
+        -- what was broken off then comes after the page that wasn't written
+        later_cut : (p : ℕ) → CutAmong (reverse later) p → MayBreakOff ended (Some u) p
+        later_cut p cut =
+            let number : cut.0.page ≡ p = cut.2 in
+            let at = held_in s.given s.reading (SomeFailed s n xs now) (t.pages + length rs) (reverse later) after.held cut.0 cut.1 in
+            let most = few_sure ended u.pages in
+            let i = within in
+            omega (arith, at.0, number, most, i.1)
+
         over_drawn : WorkersAfterRounds now ended u
         over_drawn = record {
           whole = λ through k d lt. elim through [ inl all ↦ absurd (never_written (u.pages + 1) why all) | inr alone ↦ absurd (let one = alone.0 in omega arith) ];
@@ -229,7 +239,7 @@ module _ {F : Type 0} (s : Site F) (n : ℕ) (xs : List (Worker F)) (some : 1 �
                 (omega (arith, i.1), next_of n t.pages u.pages (t.pages + length rs + length (reverse later)) two (h.even two) i.0 (omega (arith, i.1, near, next_near)) (omega (arith, near, reach, most)));
             written = let i = within in omega (arith, i.1);
           };
-          workers = λ k d lt. ends s (AreWhole (reverse later)) (get_or xs k d) (get_or now k d) (after.stand k d lt);
+          workers = λ k d lt. ends s (CutAmong (reverse later)) (MayBreakOff ended (Some u)) (get_or xs k d) (get_or now k d) later_cut (after.stand k d lt);
         }
 
     pub over_ahead : IsCount n next (pages_begun s.reading) count

@@ -31,12 +31,12 @@ use Rattle.page_workers.specs.Seats.{BenchFits, asked_at, library_at, units_at, 
 use Rattle.page_workers.specs.Rounds.{BitmapsToLast, Drew, DrewPage, HasBitmap, IsOutcome, DrewNothing, trail_of}
 use Rattle.page_workers.proofs.Drawn.{drew_pages, drew_results}
 use Rattle.dvi_run.specs.Pages.{Setup, IsValueOf, finding}
-use Rattle.dvi_run.specs.Endings.{IsWriteStop, Source, ending_at}
-use Rattle.dvi_run.specs.Looked.{WholeLooks, BrokenLooks, IsAllWritten, WasNotCutOff}
+use Rattle.dvi_run.specs.Endings.{EndingValue, Written, Usage, Document, Page, Source, Input, Output, Notes, Memory, IsWriteStop, ending_at}
+use Rattle.dvi_run.specs.Looked.{WholeLooks, BrokenLooks, IsAllWritten, WasNotCutOff, sure_pages}
 use Rattle.dvi_run.specs.Rounds.{Site, IsSteady, Trails, BetweenRounds, AfterRounds, MayBegin, SameBut, WasCleared, FailedAt, IsOutcomeOf, WroteOutcome, black_of, keys_of, indexed_of}
 use Rattle.dvi_run.specs.declared.pages.WriteStop.{WriteStop}
 use Rattle.dvi_run.specs.declared.pages.WriteStop.TheVariants as stop
-use Rattle.dvi_run.proofs.Looks.{whole_more, broken_more, keys_are, keys_grew, broken_keys}
+use Rattle.dvi_run.proofs.Looks.{whole_more, broken_more, broken_as, keys_are, keys_grew, broken_keys}
 
 -- ---- one page that was drawn
 
@@ -48,16 +48,16 @@ value_of g reading i (Err draw.SourceFault) old new o = tt
 value_of g reading i (Err draw.NoMemory) old new o = tt
 
 -- the keys that were looked up for these pages, of which the last had this outcome
-abbrev LooksTo : Result Bitmap PageStop → Finding → Indexed → Setup → List ℕ → List FontKey → Type 0
-LooksTo (Ok page) Finds indexed g pages keys = WholeLooks Finds indexed g.sheet pages keys
-LooksTo (Err (draw.Fault fault at)) Finds indexed g pages keys = WholeLooks Finds indexed g.sheet pages keys
-LooksTo (Err draw.SourceFault) Finds indexed g pages keys = BrokenLooks Finds indexed g.sheet pages keys
-LooksTo (Err draw.NoMemory) Finds indexed g pages keys = BrokenLooks Finds indexed g.sheet pages keys
+abbrev LooksTo : ℕ → Result Bitmap PageStop → Finding → Indexed → Setup → List ℕ → List FontKey → Type 0
+LooksTo i (Ok page) Finds indexed g pages keys = WholeLooks Finds indexed g.sheet pages keys
+LooksTo i (Err (draw.Fault fault at)) Finds indexed g pages keys = WholeLooks Finds indexed g.sheet pages keys
+LooksTo i (Err draw.SourceFault) Finds indexed g pages keys = BrokenLooks (λ p. p ≡ i) Finds indexed g.sheet pages keys
+LooksTo i (Err draw.NoMemory) Finds indexed g pages keys = BrokenLooks (λ p. p ≡ i) Finds indexed g.sheet pages keys
 
 looks_to : (g : Setup) (reading : Reading) (i : ℕ) (outcome : Result Bitmap PageStop) (old new : Option SeatView) (before after : List ℕ) → asked_at old ≡ Some (keys_of old)
     → asked_at new ≡ Some (keys_of new) → IsOutcome (finding g reading) (indexed_of g reading) g.sheet i outcome (asked_at old) (asked_at new)
     → WholeLooks (finding g reading) (indexed_of g reading) g.sheet before (keys_of old) → after ≡ before ++ i ∷ []
-    → LooksTo outcome (finding g reading) (indexed_of g reading) g after (keys_of new)
+    → LooksTo i outcome (finding g reading) (indexed_of g reading) g after (keys_of new)
 looks_to g reading i (Ok page) old new before after e h o w is =
     let Finds = finding g reading in
     let ix = indexed_of g reading in
@@ -72,14 +72,14 @@ looks_to g reading i (Err draw.SourceFault) old new before after e h o w is =
     let Finds = finding g reading in
     let ix = indexed_of g reading in
     let b = broken_keys Finds ix i old new e h o in
-    subst (λ (ps : List ℕ). BrokenLooks Finds ix g.sheet ps (keys_of new)) (sym is)
-    (subst (λ (ks : List FontKey). BrokenLooks Finds ix g.sheet (before ++ i ∷ []) ks) (sym b.1) (broken_more Finds ix g.sheet before (keys_of old) i b.0 w b.2))
+    subst (λ (ps : List ℕ). BrokenLooks (λ p. p ≡ i) Finds ix g.sheet ps (keys_of new)) (sym is)
+    (subst (λ (ks : List FontKey). BrokenLooks (λ p. p ≡ i) Finds ix g.sheet (before ++ i ∷ []) ks) (sym b.1) (broken_more (λ p. p ≡ i) Finds ix g.sheet before (keys_of old) i b.0 refl w b.2))
 looks_to g reading i (Err draw.NoMemory) old new before after e h o w is =
     let Finds = finding g reading in
     let ix = indexed_of g reading in
     let b = broken_keys Finds ix i old new e h o in
-    subst (λ (ps : List ℕ). BrokenLooks Finds ix g.sheet ps (keys_of new)) (sym is)
-    (subst (λ (ks : List FontKey). BrokenLooks Finds ix g.sheet (before ++ i ∷ []) ks) (sym b.1) (broken_more Finds ix g.sheet before (keys_of old) i b.0 w b.2))
+    subst (λ (ps : List ℕ). BrokenLooks (λ p. p ≡ i) Finds ix g.sheet ps (keys_of new)) (sym is)
+    (subst (λ (ks : List FontKey). BrokenLooks (λ p. p ≡ i) Finds ix g.sheet (before ++ i ∷ []) ks) (sym b.1) (broken_more (λ p. p ≡ i) Finds ix g.sheet before (keys_of old) i b.0 refl w b.2))
 
 -- why a page isn't written, by what came of it
 module _ (counted : Bool) (before after : Option (List ℕ)) (OutputFails SourceFails : Type 0) (g : Setup) (reading : Reading) (i : ℕ) where
@@ -128,6 +128,26 @@ whole_outcome counted before after OutputFails page (Err draw.NoMemory) (stop.Dr
 whole_outcome counted before after OutputFails page (Err draw.NoMemory) (stop.Draw draw.NoMemory) wrote u = absurd u
 whole_outcome counted before after OutputFails page (Err draw.NoMemory) stop.Output wrote u = absurd wrote
 
+-- of the pages that surely came to their end none is one that was broken off
+pub sure_where_cut : (counted : Bool) (before after : Option (List ℕ)) (OutputFails : Type 0) (page written : ℕ) (outcome : Result Bitmap PageStop) (why : WriteStop) → WroteOutcome counted before after OutputFails outcome (Err why)
+    → (IsWhole outcome → ⊥) → sure_pages (ending_at page why) written ≡ written
+sure_where_cut counted before after OutputFails page written outcome (stop.Draw (draw.Fault fault at)) wrote cut = absurd (cut (whole_outcome counted before after OutputFails page outcome (stop.Draw (draw.Fault fault at)) wrote tt))
+sure_where_cut counted before after OutputFails page written outcome (stop.Draw draw.SourceFault) wrote cut = refl
+sure_where_cut counted before after OutputFails page written outcome (stop.Draw draw.NoMemory) wrote cut = refl
+sure_where_cut counted before after OutputFails page written outcome stop.Output wrote cut = absurd (cut (whole_outcome counted before after OutputFails page outcome stop.Output wrote tt))
+
+-- and they are at most one more than were written
+pub few_sure : (e : EndingValue) (written : ℕ) → sure_pages e written ≤ suc written
+few_sure Written written = omega arith
+few_sure Usage written = omega arith
+few_sure (Document fault) written = omega arith
+few_sure (Page page) written = omega arith
+few_sure (Source page) written = omega arith
+few_sure Input written = omega arith
+few_sure (Output page) written = omega arith
+few_sure Notes written = omega arith
+few_sure Memory written = omega arith
+
 -- a page that was written
 pub wrote_it : (counted : Bool) (before after : Option (List ℕ)) (OutputFails : Type 0) (g : Setup) (reading : Reading) (i : ℕ) (done : ℕ) (outcome : Result Bitmap PageStop) → IsOutcomeOf g reading i outcome
     → WroteOutcome counted before after OutputFails outcome (Ok done) → (page : Bitmap) × IsValueOf g reading i (Ok page) × Appends before after (page_text page) × (done ≡ black_of counted page)
@@ -155,6 +175,16 @@ cons_cases x xs y h = elim (Contains-append_cases (x ∷ []) xs y h) [
 -- none of these was broken off
 abbrev pub AreWhole : List PageResult → Type 0
 AreWhole results = (r : PageResult) → Contains results r → IsWhole r.outcome
+
+-- the page of one of these results was broken off
+abbrev pub CutAmong : List PageResult → ℕ → Type 0
+CutAmong results p = (r : PageResult) × Contains results r × (r.page ≡ p) × (IsWhole r.outcome → ⊥)
+
+pub none_cut : (results : List PageResult) → AreWhole results → (p : ℕ) → CutAmong results p → ⊥
+none_cut results whole p c = c.3 (whole c.0 c.1)
+
+abbrev pub NeverCut : ℕ → Type 0
+NeverCut p = ⊥
 
 pub bitmap_whole : (outcome : Result Bitmap PageStop) → IsOk outcome → IsWhole outcome
 bitmap_whole (Ok page) ok = tt
@@ -185,42 +215,56 @@ module _ {F : Type 0} (s : Site F) where
   abbrev Whole : Worker F → Type 0
   Whole w = WholeLooks (finding s.given s.reading) (indexed_of s.given s.reading) s.given.sheet w.pages.items (keys_of w.seat)
 
-  abbrev EndsLooked : Worker F → Type 0
-  EndsLooked w = Whole w ⊎ BrokenLooks (finding s.given s.reading) (indexed_of s.given s.reading) s.given.sheet w.pages.items (keys_of w.seat)
+  abbrev Broken : (ℕ → Type 0) → Worker F → Type 0
+  Broken Cut w = BrokenLooks Cut (finding s.given s.reading) (indexed_of s.given s.reading) s.given.sheet w.pages.items (keys_of w.seat)
+
+  -- all look-ups, and no claim given up since the start; or a page that was broken off
+  abbrev EndsLooked : (ℕ → Type 0) → Worker F → Worker F → Type 0
+  EndsLooked Cut start w = (Trails s (Unit {0}) start w × Whole w) ⊎ Broken Cut w
 
   whole_on : (a b : Worker F) → b.seat ≡ a.seat → b.pages.items ≡ a.pages.items → Whole a → Whole b
   whole_on a b seat pages w = subst (λ (ps : List ℕ). WholeLooks (finding s.given s.reading) (indexed_of s.given s.reading) s.given.sheet ps (keys_of b.seat)) (sym pages)
       (subst (λ (o : Option SeatView). WholeLooks (finding s.given s.reading) (indexed_of s.given s.reading) s.given.sheet a.pages.items (keys_of o)) (sym seat) w)
 
-  looked_on : (a b : Worker F) → b.seat ≡ a.seat → b.pages.items ≡ a.pages.items → EndsLooked a → EndsLooked b
-  looked_on a b seat pages looked = elim looked [
-    | inl w ↦ inl (whole_on a b seat pages w)
-    | inr w ↦ inr (subst (λ (ps : List ℕ). BrokenLooks (finding s.given s.reading) (indexed_of s.given s.reading) s.given.sheet ps (keys_of b.seat)) (sym pages)
-        (subst (λ (o : Option SeatView). BrokenLooks (finding s.given s.reading) (indexed_of s.given s.reading) s.given.sheet a.pages.items (keys_of o)) (sym seat) w))
+  looked_on : (Cut : ℕ → Type 0) (start a b : Worker F) → b.source ≡ a.source → b.seat ≡ a.seat → b.loads ≡ a.loads → b.pages.items ≡ a.pages.items → EndsLooked Cut start a → EndsLooked Cut start b
+  looked_on Cut start a b source seat loads pages looked = elim looked [
+    | inl w ↦ inl (trails_on (Unit {0}) start a b source seat loads w.0, whole_on a b seat pages w.1)
+    | inr w ↦ inr (subst (λ (ps : List ℕ). BrokenLooks Cut (finding s.given s.reading) (indexed_of s.given s.reading) s.given.sheet ps (keys_of b.seat)) (sym pages)
+        (subst (λ (o : Option SeatView). BrokenLooks Cut (finding s.given s.reading) (indexed_of s.given s.reading) s.given.sheet a.pages.items (keys_of o)) (sym seat) w))
   ]
 
-  -- ---- a worker that drew some pages, none of which was broken off if W
+  looked_as : (Cut MayBreak : ℕ → Type 0) (start now : Worker F) → ((p : ℕ) → Cut p → MayBreak p) → EndsLooked Cut start now → EndsLooked MayBreak start now
+  looked_as Cut MayBreak start now f looked = elim looked [
+    | inl w ↦ inl w
+    | inr b ↦ inr (broken_as Cut MayBreak (finding s.given s.reading) (indexed_of s.given s.reading) s.given.sheet now.pages.items (keys_of now.seat) f b)
+  ]
 
-  pub record Drawn (W : Type 0) (start now : Worker F) : Type 0 where
+  -- ---- a worker that drew some pages, of which only the last may have been cut off
+
+  pub record Drawn (Cut : ℕ → Type 0) (start now : Worker F) : Type 0 where
     pub kept : IsSteady s start now
-    pub trail : Trails s W start now
-    pub looked : EndsLooked now
-    pub through : W → Whole now
+    pub trail : Trails s ⊥ start now
+    pub looked : EndsLooked Cut start now
 
-  drawn_on : (W : Type 0) (start a b : Worker F) → b.source ≡ a.source → b.seat ≡ a.seat → b.loads ≡ a.loads → b.pages.items ≡ a.pages.items → Drawn W start a → Drawn W start b
-  drawn_on W start a b source seat loads pages d = record {
+  -- where none can have been
+  through : (Cut : ℕ → Type 0) (start now : Worker F) → ((p : ℕ) → Cut p → ⊥) → Drawn Cut start now → Trails s (Unit {0}) start now × Whole now
+  through Cut start now none d = elim d.looked [
+    | inl w ↦ w
+    | inr b ↦ absurd (none b.page b.may_break)
+  ]
+
+  drawn_on : (Cut : ℕ → Type 0) (start a b : Worker F) → b.source ≡ a.source → b.seat ≡ a.seat → b.loads ≡ a.loads → b.pages.items ≡ a.pages.items → Drawn Cut start a → Drawn Cut start b
+  drawn_on Cut start a b source seat loads pages d = record {
     kept = kept_on start a b source seat d.kept;
-    trail = trails_on W start a b source seat loads d.trail;
-    looked = looked_on a b seat pages d.looked;
-    through = λ w. whole_on a b seat pages (d.through w);
+    trail = trails_on ⊥ start a b source seat loads d.trail;
+    looked = looked_on Cut start a b source seat loads pages d.looked;
   }
 
-  drawn_as : (V W : Type 0) (start now : Worker F) → (V → W) → Drawn W start now → Drawn V start now
-  drawn_as V W start now f d = record {
+  drawn_as : (Cut MayBreak : ℕ → Type 0) (start now : Worker F) → ((p : ℕ) → Cut p → MayBreak p) → Drawn Cut start now → Drawn MayBreak start now
+  drawn_as Cut MayBreak start now f d = record {
     kept = d.kept;
-    trail = trail_as V W (asked_at start.seat) (asked_at now.seat) (trail_of s.loads start) (trail_of s.loads now) f d.trail;
-    looked = d.looked;
-    through = λ v. d.through (f v);
+    trail = d.trail;
+    looked = looked_as Cut MayBreak start now f d.looked;
   }
 
   -- what holds of a result of the worker
@@ -241,33 +285,40 @@ module _ {F : Type 0} (s : Site F) where
 
   -- ---- one page
 
-  whole_looked : (outcome : Result Bitmap PageStop) (w : Worker F) → IsWhole outcome → LooksTo outcome (finding s.given s.reading) (indexed_of s.given s.reading) s.given w.pages.items (keys_of w.seat) → Whole w
-  whole_looked (Ok page) w whole l = l
-  whole_looked (Err (draw.Fault fault at)) w whole l = l
-  whole_looked (Err draw.SourceFault) w whole l = absurd whole
-  whole_looked (Err draw.NoMemory) w whole l = absurd whole
+  -- the page was cut off, as this came of it
+  abbrev CutBy : ℕ → Result Bitmap PageStop → ℕ → Type 0
+  CutBy i outcome p = (p ≡ i) × (IsWhole outcome → ⊥)
 
-  either_looked : (outcome : Result Bitmap PageStop) (w : Worker F) → LooksTo outcome (finding s.given s.reading) (indexed_of s.given s.reading) s.given w.pages.items (keys_of w.seat) → EndsLooked w
-  either_looked (Ok page) w l = inl l
-  either_looked (Err (draw.Fault fault at)) w l = inl l
-  either_looked (Err draw.SourceFault) w l = inr l
-  either_looked (Err draw.NoMemory) w l = inr l
+  either_looked : (i : ℕ) (outcome : Result Bitmap PageStop) (start w : Worker F) → Trails s (IsWhole outcome) start w → LooksTo i outcome (finding s.given s.reading) (indexed_of s.given s.reading) s.given w.pages.items (keys_of w.seat)
+      → EndsLooked (CutBy i outcome) start w
+  either_looked i (Ok page) start w t l = inl (t, l)
+  either_looked i (Err (draw.Fault fault at)) start w t l = inl (t, l)
+  either_looked i (Err draw.SourceFault) start w t l =
+      inr (broken_as (λ p. p ≡ i) (CutBy i (Err draw.SourceFault)) (finding s.given s.reading) (indexed_of s.given s.reading) s.given.sheet w.pages.items (keys_of w.seat) (λ p is. (is, λ whole. whole)) l)
+  either_looked i (Err draw.NoMemory) start w t l =
+      inr (broken_as (λ p. p ≡ i) (CutBy i (Err draw.NoMemory)) (finding s.given s.reading) (indexed_of s.given s.reading) s.given.sheet w.pages.items (keys_of w.seat) (λ p is. (is, λ whole. whole)) l)
 
   module _ (start : Worker F) (m : MayBegin s start) where
-    module _ (old new : Worker F) (r : PageResult) (st : Drawn (Unit {0}) start old) (d : DrewPage s.library s.faults s.loads s.bench (indexed_of s.given s.reading) s.given.sheet r old new) where
+    module _ (old new : Worker F) (r : PageResult) (st : Drawn NeverCut start old) (d : DrewPage s.library s.faults s.loads s.bench (indexed_of s.given s.reading) s.given.sheet r old new) where
       finds : IsOutcome (finding s.given s.reading) (indexed_of s.given s.reading) s.given.sheet r.page r.outcome (asked_at old.seat) (asked_at new.seat)
       finds =
           subst (λ (u : Option Units). IsOutcome (IsFontOf s.given.library u) (indexed_of s.given s.reading) s.given.sheet r.page r.outcome (asked_at old.seat) (asked_at new.seat)) (st.kept.units ∙ m.units)
           (subst (λ (l : Option FileTable). IsOutcome (IsFontOf l (units_at old.seat)) (indexed_of s.given s.reading) s.given.sheet r.page r.outcome (asked_at old.seat) (asked_at new.seat))
           (st.kept.library ∙ m.library) d.value)
 
-      looked_so : LooksTo r.outcome (finding s.given s.reading) (indexed_of s.given s.reading) s.given new.pages.items (keys_of new.seat)
+      so_far : Trails s (Unit {0}) start old × Whole old
+      so_far = through NeverCut start old (λ p cut. cut) st
+
+      trail_so : Trails s (IsWhole r.outcome) start new
+      trail_so = trail_more (IsWhole r.outcome) (asked_at start.seat) (asked_at old.seat) (asked_at new.seat) (trail_of s.loads start) (trail_of s.loads old) (trail_of s.loads new) so_far.0 d.trail
+
+      looked_so : LooksTo r.page r.outcome (finding s.given s.reading) (indexed_of s.given s.reading) s.given new.pages.items (keys_of new.seat)
       looked_so =
           let e = keys_are (s.library old.source) s.bench old.seat st.kept.fits in
           let h = keys_are (s.library new.source) s.bench new.seat d.fits in
-          looks_to s.given s.reading r.page r.outcome old.seat new.seat old.pages.items new.pages.items e h finds (st.through tt) d.pages
+          looks_to s.given s.reading r.page r.outcome old.seat new.seat old.pages.items new.pages.items e h finds so_far.1 d.pages
 
-      page_drawn : Drawn (IsWhole r.outcome) start new
+      page_drawn : Drawn (CutBy r.page r.outcome) start new
       page_drawn = record {
         kept = record {
           fits = d.fits;
@@ -275,9 +326,8 @@ module _ {F : Type 0} (s : Site F) where
           units = d.same_units ∙ st.kept.units;
           faults = omega (arith, st.kept.faults, d.cause.never_falls);
         };
-        trail = trail_more (IsWhole r.outcome) (asked_at start.seat) (asked_at old.seat) (asked_at new.seat) (trail_of s.loads start) (trail_of s.loads old) (trail_of s.loads new) st.trail d.trail;
-        looked = either_looked r.outcome new looked_so;
-        through = λ whole. whole_looked r.outcome new whole looked_so;
+        trail = trail_as ⊥ (IsWhole r.outcome) (asked_at start.seat) (asked_at new.seat) (trail_of s.loads start) (trail_of s.loads new) (λ f. absurd f) trail_so;
+        looked = either_looked r.page r.outcome start new trail_so looked_so;
       }
 
       page_came : Came start new r
@@ -296,17 +346,18 @@ module _ {F : Type 0} (s : Site F) where
     abbrev Goes : List PageResult → Worker F → Worker F → Type 0
     Goes rs old new = Drew s.library s.faults s.loads s.bench (indexed_of s.given s.reading) s.given.sheet rs old new
 
-    pub drawn_through : (rs : List PageResult) (old new : Worker F) → Drawn (Unit {0}) start old → Goes rs old new → BitmapsToLast rs
-        → Drawn (AreWhole rs) start new × ((r : PageResult) → Contains rs r → Came start new r)
+    pub drawn_through : (rs : List PageResult) (old new : Worker F) → Drawn NeverCut start old → Goes rs old new → BitmapsToLast rs
+        → Drawn (CutAmong rs) start new × ((r : PageResult) → Contains rs r → Came start new r)
     drawn_through [] old new st d stopped = (
-      drawn_as (AreWhole []) (Unit {0}) start new (λ all. tt) (drawn_on (Unit {0}) start old new d.source d.seat d.loads d.pages st),
+      drawn_as NeverCut (CutAmong []) start new (λ p cut. absurd cut) (drawn_on NeverCut start old new d.source d.seat d.loads d.pages st),
       λ r h. let less : h.0 < 0 = h.1 in absurd (omega arith),
     )
     drawn_through (r ∷ rs) old new st d (inl last) =
         let between = d.0 in
         let rest : DrewNothing between new = subst (λ (l : List PageResult). Goes l between new) last d.2 in
         let here = page_drawn old between r st d.1 in (
-          drawn_as (AreWhole (r ∷ rs)) (IsWhole r.outcome) start new (λ all. all r (0, omega arith, refl)) (drawn_on (IsWhole r.outcome) start between new rest.source rest.seat rest.loads rest.pages here),
+          drawn_as (CutBy r.page r.outcome) (CutAmong (r ∷ rs)) start new (λ p cut. (r, (0, omega arith, refl), sym cut.0, cut.1))
+              (drawn_on (CutBy r.page r.outcome) start between new rest.source rest.seat rest.loads rest.pages here),
           λ q h. elim (cons_cases r rs q h) [
             | inl same ↦ subst (λ (x : PageResult). Came start new x) same (came_on start between new r rest.source rest.pages (page_came old between r st d.1))
             | inr other ↦ let has : Contains [] q = subst (λ (l : List PageResult). Contains l q) last other in let less : has.0 < 0 = has.1 in absurd (omega arith)
@@ -315,9 +366,9 @@ module _ {F : Type 0} (s : Site F) where
     drawn_through (r ∷ rs) old new st d (inr more) =
         let between = d.0 in
         let whole = bitmap_whole r.outcome more.0 in
-        let here = drawn_as (Unit {0}) (IsWhole r.outcome) start between (λ u. whole) (page_drawn old between r st d.1) in
+        let here = drawn_as (CutBy r.page r.outcome) NeverCut start between (λ p cut. cut.1 whole) (page_drawn old between r st d.1) in
         let rest = drawn_through rs between new here d.2 more.1 in (
-          drawn_as (AreWhole (r ∷ rs)) (AreWhole rs) start new (λ all q h. all q (Contains-append_right (r ∷ []) rs q h)) rest.0,
+          drawn_as (CutAmong rs) (CutAmong (r ∷ rs)) start new (λ p cut. (cut.0, Contains-append_right (r ∷ []) rs cut.0 cut.1, cut.2, cut.3)) rest.0,
           λ q h. elim (cons_cases r rs q h) [
             | inl same ↦ subst (λ (x : PageResult). Came start new x) same (record { value = (page_came old between r st d.1).value; failed = λ failed. absurd (bitmap_sound r.outcome more.0 failed) })
             | inr other ↦ rest.1 q other
@@ -331,69 +382,70 @@ module _ {F : Type 0} (s : Site F) where
 
   -- ---- between rounds
 
-  -- none of the worker's pages was broken off if W; it has no result any more
-  pub record Stood (W : Type 0) (start now : Worker F) : Type 0 where
-    pub drawn : Drawn W start now
+  -- only the last of the worker's pages may have been cut off; it has no result any more
+  pub record Stood (Cut : ℕ → Type 0) (start now : Worker F) : Type 0 where
+    pub drawn : Drawn Cut start now
     pub none : now.results.items ≡ []
     pub counter : now.counter ≡ None
 
-  pub begins : (w : Worker F) → MayBegin s w → Stood (Unit {0}) w w
+  pub begins : (w : Worker F) → MayBegin s w → Stood NeverCut w w
   begins w m =
       let whole : Whole w = subst (λ (ps : List ℕ). WholeLooks (finding s.given s.reading) (indexed_of s.given s.reading) s.given.sheet ps (keys_of w.seat)) (sym m.pages) m.keys in
       record {
         drawn = record {
           kept = record { fits = m.fits; library = refl; units = refl; faults = omega arith };
-          trail = trail_none (Unit {0}) (asked_at w.seat) (trail_of s.loads w);
-          looked = inl whole;
-          through = λ u. whole;
+          trail = trail_none ⊥ (asked_at w.seat) (trail_of s.loads w);
+          looked = inl (trail_none (Unit {0}) (asked_at w.seat) (trail_of s.loads w), whole);
         };
         none = m.none;
         counter = m.counter;
       }
 
-  pub stood_as : (V W : Type 0) (start now : Worker F) → (V → W) → Stood W start now → Stood V start now
-  stood_as V W start now f st = record { drawn = drawn_as V W start now f st.drawn; none = st.none; counter = st.counter }
+  pub stood_as : (Cut MayBreak : ℕ → Type 0) (start now : Worker F) → ((p : ℕ) → Cut p → MayBreak p) → Stood Cut start now → Stood MayBreak start now
+  stood_as Cut MayBreak start now f st = record { drawn = drawn_as Cut MayBreak start now f st.drawn; none = st.none; counter = st.counter }
 
-  pub stood_rest : (W : Type 0) (start old new : Worker F) → DrewNothing old new → new.counter ≡ None → Stood W start old → Stood W start new
-  stood_rest W start old new r counter st = record {
-    drawn = drawn_on W start old new r.source r.seat r.loads r.pages st.drawn;
+  pub stood_rest : (Cut : ℕ → Type 0) (start old new : Worker F) → DrewNothing old new → new.counter ≡ None → Stood Cut start old → Stood Cut start new
+  stood_rest Cut start old new r counter st = record {
+    drawn = drawn_on Cut start old new r.source r.seat r.loads r.pages st.drawn;
     none = r.results ∙ st.none;
     counter = counter;
   }
 
-  pub settles : (W : Type 0) (start now : Worker F) → W → Stood W start now → BetweenRounds s start now
-  settles W start now w st = record {
-    kept = st.drawn.kept;
-    none = st.none;
-    counter = st.counter;
-    trail = trail_as (Unit {0}) W (asked_at start.seat) (asked_at now.seat) (trail_of s.loads start) (trail_of s.loads now) (λ u. w) st.drawn.trail;
-    looked = st.drawn.through w;
-  }
+  pub settles : (Cut : ℕ → Type 0) (start now : Worker F) → ((p : ℕ) → Cut p → ⊥) → Stood Cut start now → BetweenRounds s start now
+  settles Cut start now none st =
+      let w = through Cut start now none st.drawn in
+      record {
+        kept = st.drawn.kept;
+        none = st.none;
+        counter = st.counter;
+        trail = w.0;
+        looked = w.1;
+      }
 
-  pub ends : (W : Type 0) (start now : Worker F) → Stood W start now → AfterRounds s start now
-  ends W start now st = record {
+  pub ends : (Cut MayBreak : ℕ → Type 0) (start now : Worker F) → ((p : ℕ) → Cut p → MayBreak p) → Stood Cut start now → AfterRounds s MayBreak start now
+  ends Cut MayBreak start now f st = record {
     kept = st.drawn.kept;
     none = st.none;
     counter = st.counter;
-    trail = trail_as ⊥ W (asked_at start.seat) (asked_at now.seat) (trail_of s.loads start) (trail_of s.loads now) (λ w. absurd w) st.drawn.trail;
-    looked = st.drawn.looked;
+    trail = st.drawn.trail;
+    looked = looked_as Cut MayBreak start now f st.drawn.looked;
   }
 
   -- a round more, whose results were taken out
   module _ (start old mid new : Worker F) (m : MayBegin s start) (rs : List PageResult) (answers : Goes start m rs old mid) (stopped : BitmapsToLast rs) (cleared : WasCleared mid new) where
-    pub stood_on : (W : Type 0) → W → new.counter ≡ None → Stood W start old → Stood (AreWhole rs) start new
-    stood_on W w counter st =
-        let before = drawn_as (Unit {0}) W start old (λ u. w) st.drawn in
+    pub stood_on : (Cut : ℕ → Type 0) → ((p : ℕ) → Cut p → ⊥) → new.counter ≡ None → Stood Cut start old → Stood (CutAmong rs) start new
+    stood_on Cut none counter st =
+        let before = drawn_as Cut NeverCut start old none st.drawn in
         let through = drawn_through start m rs old mid before answers stopped in
         record {
-          drawn = drawn_on (AreWhole rs) start mid new cleared.same.source cleared.same.seat cleared.same.loads cleared.same.pages through.0;
+          drawn = drawn_on (CutAmong rs) start mid new cleared.same.source cleared.same.seat cleared.same.loads cleared.same.pages through.0;
           none = cleared.none;
           counter = counter;
         }
 
-    pub came_so : (W : Type 0) → W → Stood W start old → (r : PageResult) → Contains rs r → Came start new r
-    came_so W w st r h =
-        let before = drawn_as (Unit {0}) W start old (λ u. w) st.drawn in
+    pub came_so : (Cut : ℕ → Type 0) → ((p : ℕ) → Cut p → ⊥) → Stood Cut start old → (r : PageResult) → Contains rs r → Came start new r
+    came_so Cut none st r h =
+        let before = drawn_as Cut NeverCut start old none st.drawn in
         let through = drawn_through start m rs old mid before answers stopped in
         came_on start mid new r cleared.same.source cleared.same.pages (through.1 r h)
 

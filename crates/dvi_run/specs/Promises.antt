@@ -18,7 +18,7 @@ use Rattle.dvi_run.specs.Rounds.{FailedAt}
 use Rattle.dvi_run.specs.Shares.{PartitionPages}
 use Rattle.dvi_run.specs.Sampled.{FailedForSettings, UsesTheSample, document_for_settings, rest_for_settings}
 use Rattle.dvi_run.specs.Outside.{FaultsRose, Run, StreamChange, Streams, drawing_of, setup_of}
-use Rattle.dvi_run.specs.Together.{PagesMatchHistory, EachUsed, IsOneHistory, RestIsKept, SomeUsed, SourceRose, WorkerDone}
+use Rattle.dvi_run.specs.Together.{PagesMatchHistory, EachUsed, GaveUpOnlyBroken, IsOneHistory, RestIsKept, SomeUsed, SourceRose, WorkerDone}
 use Rattle.dvi_run.specs.declared.tally.Tally.{Tally}
 
 -- ---- parts of the claims: what holds of the bytes that were read
@@ -175,12 +175,16 @@ pub record ReportMatchesRun {F : Type 0} (run : Run F) (status : ℕ) (e : Endin
   -- for, with the tally and all loads of the used workers, and the line of the end, which is true
   pub noted : IsNoted run e (report_text run.task.settings tally
       (loads_of run.task.settings.workers run.after) run.history e)
-  -- there is no tally where the run ended before a cache was made, and else it counts pages up to
-  -- the one that the line names
-  pub counted : CountsTo tally e
+  -- there is no tally where the run ended before a cache was made, so that there is no call, and
+  -- else it counts pages up to the one that the line names
+  pub counted : CountsTo run.history tally e
   -- 5: the count that rose is that of the source whose worker drew the page named, as its last one
   pub failed : (page : ℕ) → e ≡ Source page
       → SomeUsed run.task.settings.workers run.before run.after (FailedAt run.sources.faults page)
+  -- a worker gave a claim up only where its last page was broken off: one that was neither written
+  -- nor named with its fault, and whose write didn't fail
+  pub gave_up : EachUsed run.task.settings.workers run.before run.after
+      (λ k _ now. GaveUpOnlyBroken e tally (own (k + 1) run.history) now)
   -- nothing was drawn where no cache was made. Else each look-up found what the known files have
   -- for its key: the pages have the values that this gives them, which say what was written; the
   -- workers drew the first pages, each page once, to the end of the round of the page named at

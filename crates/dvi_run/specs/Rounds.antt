@@ -92,15 +92,17 @@ module _ {F : Type 0} (s : Site F) where
     pub looked : WholeLooks (finding s.given s.reading)
         (indexed_of s.given s.reading) s.given.sheet now.pages.items (keys_of now.seat)
 
-  -- what is so of a worker when the rounds are over
-  pub record AfterRounds (start now : Worker F) : Type 0 where
+  -- what is so of a worker when the rounds are over: it gave up no claim, and each page that it
+  -- drew came to its end; or its last page was broken off, which may have been
+  pub record AfterRounds (MayBreak : ℕ → Type 0) (start now : Worker F) : Type 0 where
     pub kept : IsSteady start now
     pub none : now.results.items ≡ []
     pub counter : now.counter ≡ None
     pub trail : Trails ⊥ start now
-    pub looked : WholeLooks (finding s.given s.reading)
-        (indexed_of s.given s.reading) s.given.sheet now.pages.items (keys_of now.seat)
-        ⊎ BrokenLooks (finding s.given s.reading) (indexed_of s.given s.reading)
+    pub looked : (Trails (Unit {0}) start now
+        × WholeLooks (finding s.given s.reading) (indexed_of s.given s.reading) s.given.sheet
+        now.pages.items (keys_of now.seat))
+        ⊎ BrokenLooks MayBreak (finding s.given s.reading) (indexed_of s.given s.reading)
         s.given.sheet now.pages.items (keys_of now.seat)
 
 -- a worker that may begin: it has a seat, and nothing was looked up, drawn or kept
@@ -164,13 +166,13 @@ pub record IsFresh {F : Type 0} (library : F → Option FileTable) (known : Opti
   pub pages : w.pages.items ≡ []
 
 -- what a worker did in a run, by the calls of its seat in the history: they answer the look-ups of
--- the pages that it drew, a claim is given up at their end alone, and nowhere where the run is
--- whole, nor is a page broken off then, and it loaded at most eight files for each look that was no
--- hit. It has neither a seat nor a result any more, and its source has the library that the run
--- knows
-pub record WorkerRan {F : Type 0} (Whole : Type 0) (library : F → Option FileTable)
-    (faults loads : F → ℕ) (g : Setup) (reading : Reading) (history : List Call) (number : ℕ)
-    (before after : Worker F) : Type 0 where
+-- the pages that it drew, of which only the last may have been broken off, where it may have been; a
+-- claim is given up at their end alone, and only where that page was; no page was broken off where
+-- the run is whole; and it loaded at most eight files for each look that was no hit. It has neither a
+-- seat nor a result any more, and its source has the library that the run knows
+pub record WorkerRan {F : Type 0} (MayBreak : ℕ → Type 0) (Whole : Type 0)
+    (library : F → Option FileTable) (faults loads : F → ℕ) (g : Setup) (reading : Reading)
+    (history : List Call) (number : ℕ) (before after : Worker F) : Type 0 where
   pub seat : after.seat ≡ None
   pub none : after.results.items ≡ []
   pub counter : after.counter ≡ None
@@ -178,8 +180,10 @@ pub record WorkerRan {F : Type 0} (Whole : Type 0) (library : F → Option FileT
   pub knows_library : IfSome g.library (λ l. library after.source ≡ Some l)
   pub faults_rose : faults before.source ≤ faults after.source
   pub keys : List FontKey
-  pub looked : WholeLooks (finding g reading) (indexed_of g reading) g.sheet after.pages.items keys
-      ⊎ BrokenLooks (finding g reading) (indexed_of g reading) g.sheet after.pages.items keys
+  pub looked : (NoneReleased (own number history)
+      × WholeLooks (finding g reading) (indexed_of g reading) g.sheet after.pages.items keys)
+      ⊎ BrokenLooks MayBreak (finding g reading) (indexed_of g reading) g.sheet after.pages.items
+      keys
   pub answered : SeatCalls keys (own number history)
   pub last : ReleasedLast (own number history)
   pub whole : Whole → NoneReleased (own number history)

@@ -1,11 +1,11 @@
 -- What a run is given by its settings. Where they ask for the sample, its document and its font
--- files are the sample's, and neither the input nor the sources that were handed in are used; else
--- it is what these tell.
-use Rattle.std.specs.Prelude.{◌≡◌, ℕ, List, [], ◌∷◌, Option, Some, None, slice_index_or}
+-- files are the sample's, packed or not, and neither the input nor the sources that were handed in
+-- are used; else it is what these tell.
+use Rattle.std.specs.Prelude.{◌≡◌, ℕ, Bool, List, [], ◌∷◌, Option, Some, None, slice_index_or}
 use Rattle.outside.specs.Library.{FileTable}
 use Rattle.font_decode.specs.Desks.{Loaded}
 use Rattle.font_decode.specs.Loads.{RoseUpTo}
-use Rattle.sample_maker.specs.Sample.{sample_document, sample_files}
+use Rattle.sample_maker.specs.Sample.{made_files, sample_document}
 use Rattle.page_workers.specs.declared.worker.Worker.{Worker}
 use Rattle.command_line.specs.declared.settings.Settings.{Settings}
 use Rattle.dvi_run.specs.Pages.{Setup, setup_with}
@@ -14,9 +14,9 @@ use Rattle.dvi_run.specs.Endings.{IsAmong}
 -- ---- by how many pages a sample is asked for, if one is
 
 -- the font files, where they are known
-abbrev pub library_for_sample : Option ℕ → Option FileTable → Option FileTable
-library_for_sample None known = known
-library_for_sample (Some pages) known = Some sample_files
+abbrev pub library_for_sample : (packed : Bool) → Option ℕ → Option FileTable → Option FileTable
+library_for_sample packed None known = known
+library_for_sample packed (Some pages) known = Some (made_files packed)
 
 -- the bytes of the document, where they are known
 abbrev pub document_for_sample : Option ℕ → Option (List ℕ) → Option (List ℕ)
@@ -42,7 +42,7 @@ LoadedForSample (Some pages) most before now count count_now = RoseUpTo most cou
 -- ---- by the settings
 
 abbrev pub setup_for_settings : (known : Option FileTable) → Settings → Setup
-setup_for_settings known s = setup_with (library_for_sample s.sample known) s
+setup_for_settings known s = setup_with (library_for_sample s.packed s.sample known) s
 
 abbrev pub document_for_settings : Settings → (left : Option (List ℕ)) → Option (List ℕ)
 document_for_settings s left = document_for_sample s.sample left

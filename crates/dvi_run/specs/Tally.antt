@@ -1,8 +1,9 @@
 -- What a run wrote whole: how many pages, and how many of their pixels are black.
-use Rattle.std.specs.Prelude.{◌≡◌, ◌≤◌, ℕ, suc, Bool, true, List, length, take, Option, Some, None}
+use Rattle.std.specs.Prelude.{◌≡◌, ◌≤◌, ℕ, suc, Bool, true, List, [], length, take, Option, Some, None}
 use Rattle.std.specs.List.{flat_map, sum_by}
 use Rattle.std.specs.Io.KnownBytes.{Appends}
 use Rattle.packed_rows.specs.Changes.{black_count}
+use Rattle.cache_core.specs.declared.calls.Call.{Call}
 use Rattle.page_draw.specs.Values.{PageValue}
 use Rattle.pbm_output.specs.Pbm.{page_text}
 use Rattle.dvi_run.specs.Pages.{whole_pages}
@@ -38,11 +39,12 @@ pub record TallyMatches (counted : Bool) (old new : Option (List ℕ)) (t : Tall
   pub next : IsAfter t.pages e
   pub written : AreWritten old new t.pages e values
 
--- and there is no tally where no cache was made, since memory ran out before
-abbrev pub TallyMatchesRun : Bool → (old new : Option (List ℕ)) → Option Tally → EndingValue
-    → List PageValue → Type 0
-TallyMatchesRun counted old new None e values = (e ≡ Memory) × (new ≡ old)
-TallyMatchesRun counted old new (Some t) e values = TallyMatches counted old new t e values
+-- and there is no tally where no cache was made, since memory ran out before: so no call was made
+abbrev pub TallyMatchesRun : Bool → (old new : Option (List ℕ)) → (history : List Call)
+    → Option Tally → EndingValue → List PageValue → Type 0
+TallyMatchesRun counted old new history None e values =
+    (e ≡ Memory) × (new ≡ old) × (history ≡ [])
+TallyMatchesRun counted old new history (Some t) e values = TallyMatches counted old new t e values
 
 -- a cache was made before a run ended so, or may have been
 abbrev pub HadCache : EndingValue → Type 0
@@ -51,8 +53,8 @@ HadCache (Document fault) = ⊥
 HadCache Input = ⊥
 HadCache _ = Unit {0}
 
--- whatever was read: there is no tally where the run ended before a cache was made, and else pages
--- are counted up to the one that the end names
-abbrev pub CountsTo : Option Tally → EndingValue → Type 0
-CountsTo None e = IsIdle e
-CountsTo (Some t) e = HadCache e × IsAfter t.pages e
+-- whatever was read: there is no tally where the run ended before a cache was made, so that no call
+-- was, and else pages are counted up to the one that the end names
+abbrev pub CountsTo : (history : List Call) → Option Tally → EndingValue → Type 0
+CountsTo history None e = IsIdle e × (history ≡ [])
+CountsTo history (Some t) e = HadCache e × IsAfter t.pages e

@@ -18,7 +18,7 @@ use Rattle.page_workers.specs.declared.worker.Worker.{Worker}
 use Rattle.command_line.specs.declared.settings.Settings.{Settings}
 use Rattle.dvi_run.specs.Pages.{AreValues, finding}
 use Rattle.dvi_run.specs.Endings.{EndingValue, Source, EndsPages, IsAmong, HoldsOfDocument, WroteAll, status_of}
-use Rattle.dvi_run.specs.Looked.{BrokenLooks, EveryPageCameToItsEnd, IsIdle, WasNotCutOffBy, WholeLooks}
+use Rattle.dvi_run.specs.Looked.{BrokenLooks, EndsBroken, EveryPageCameToItsEnd, IsIdle, MayBreakOff, WasNotCutOffBy, WholeLooks}
 use Rattle.dvi_run.specs.Rounds.{FailedAt, IsFresh, WorkerRan, indexed_of}
 use Rattle.dvi_run.specs.Shares.{PartitionPages, WorkersDrew}
 use Rattle.dvi_run.specs.Tally.{CountsTo, TallyMatchesRun}
@@ -100,16 +100,27 @@ pub record WorkerDone {F : Type 0} (task : Task) (sources : Sources F) (status :
   pub loaded : LoadedForSample task.settings.sample (MAX_LOADS * misses calls)
       (sources.loads before.source) (sources.loads after.source) before.loads after.loads
 
+-- A claim is given up only by a worker whose last page was broken off, which is one that may have
+-- been in a run that ended so.
+abbrev pub GaveUpOnlyBroken : {F : Type 0} → EndingValue → Option Tally → (calls : List Call)
+    → (after : Worker F) → Type 0
+GaveUpOnlyBroken e tally calls after =
+    NoneReleased calls ⊎ EndsBroken (MayBreakOff e tally) after.pages.items
+
 -- the calls of a used worker's seat answer the look-ups of the pages that it drew, one page after
 -- another; its place among the workers is counted from 0
 pub record Answered {F : Type 0} (task : Task) (reading : Reading) (history : List Call)
-    (status place : ℕ) (after : Worker F) : Type 0 where
+    (status : ℕ) (e : EndingValue) (tally : Option Tally) (place : ℕ) (after : Worker F)
+    : Type 0 where
   pub keys : List FontKey
-  -- all look-ups of each page, but that the last may have been broken off
-  pub looked : WholeLooks (finding (setup_of task) reading) (indexed_of (setup_of task) reading)
-      task.settings.sheet after.pages.items keys
-      ⊎ BrokenLooks (finding (setup_of task) reading) (indexed_of (setup_of task) reading)
-      task.settings.sheet after.pages.items keys
+  -- all look-ups of each page, and no claim is given up; or the last page was broken off, and its
+  -- look-ups are the first ones: it was neither written nor named with its fault, nor did its write
+  -- fail
+  pub looked : (NoneReleased (own (place + 1) history)
+      × WholeLooks (finding (setup_of task) reading) (indexed_of (setup_of task) reading)
+      task.settings.sheet after.pages.items keys)
+      ⊎ BrokenLooks (MayBreakOff e tally) (finding (setup_of task) reading)
+      (indexed_of (setup_of task) reading) task.settings.sheet after.pages.items keys
   pub through : EveryPageCameToItsEndBy task.settings.workers status
       → WholeLooks (finding (setup_of task) reading) (indexed_of (setup_of task) reading)
       task.settings.sheet after.pages.items keys
@@ -119,24 +130,30 @@ pub record Answered {F : Type 0} (task : Task) (reading : Reading) (history : Li
   pub one : task.settings.workers ≡ 1 → WasNotCutOffBy status
       → history ≡ solo_history task.settings.cache 1 keys
 
--- What was drawn of these bytes in a run that ended so: nothing where no cache was made. Else they
--- are a document, whose pages have the values that say what was written, each font being what the
--- library has for its key; the used workers drew its first pages, each page once, among them all
--- that were written and the one named, and none after its round, or where its write failed after
--- the next one; the calls of each answer what its pages looked up; and the tally is that of the
--- pages written whole, with their black pixels where the settings ask for the summary.
+-- What was drawn of these bytes, which are a document, in a run that ended so: its pages have the
+-- values that say what was written, each font being what the library has for its key; the used
+-- workers drew its first pages, each page once, among them all that were written and the one named,
+-- and none after its round, or where its write failed after the next one; the calls of each answer
+-- what its pages looked up; and the tally is that of the pages written whole, with their black
+-- pixels where the settings ask for the summary.
+abbrev pub DrewPages : {F : Type 0} → Task → (old new : Option (List ℕ))
+    → (before after : List (Worker F)) → (history : List Call) → (status : ℕ) → EndingValue
+    → Option Tally → (bytes : List ℕ) → Type 0
+DrewPages task old new before after history status e tally bytes =
+    HoldsOfDocument (setup_of task) bytes (λ reading values.
+    EndsPages old new (Unit {0}) (Unit {0}) e reading values
+    × TallyMatchesRun task.settings.summary old new history tally e values
+    × WorkersDrew (pages_begun reading) task.settings.workers e tally after
+    × EachUsed task.settings.workers before after
+    (λ k _ now. Answered task reading history status e tally k now))
+
+-- And where no cache was made nothing was.
 abbrev pub PagesMatchHistory : {F : Type 0} → Task → Drawing F → (status : ℕ) → EndingValue
     → Option Tally → (bytes : List ℕ) → Type 0
 PagesMatchHistory task drawing status e tally bytes =
     (IsIdle e × (tally ≡ None) × (drawing.history ≡ []) × (drawing.after ≡ drawing.before))
-    ⊎ HoldsOfDocument (setup_of task) bytes (λ reading values.
-    EndsPages drawing.output.before.bytes drawing.output.after.bytes (Unit {0}) (Unit {0}) e
-    reading values
-    × TallyMatchesRun task.settings.summary drawing.output.before.bytes drawing.output.after.bytes
-    tally e values
-    × WorkersDrew (pages_begun reading) task.settings.workers e tally drawing.after
-    × EachUsed task.settings.workers drawing.before drawing.after
-    (λ k _ now. Answered task reading drawing.history status k now))
+    ⊎ DrewPages task drawing.output.before.bytes drawing.output.after.bytes drawing.before
+    drawing.after drawing.history status e tally bytes
 
 -- ---- the parts of a run
 
@@ -147,21 +164,21 @@ pub record DrewDocument {F : Type 0} (task : Task) (reading : Reading) (drawing 
       × EndsPages drawing.output.before.bytes drawing.output.after.bytes
       (FaultsRose drawing.output) (Unit {0}) e reading values
       × TallyMatchesRun task.settings.summary drawing.output.before.bytes drawing.output.after.bytes
-      tally e values
+      drawing.history tally e values
   pub failed : (page : ℕ) → e ≡ Source page
       → SomeUsed task.settings.workers drawing.before drawing.after
       (FailedAt drawing.sources.faults page)
   pub shares : WorkersDrew (pages_begun reading) task.settings.workers e tally drawing.after
   pub one : IsOneHistory task.settings (status_of e) drawing.history
   pub ran : EachUsed task.settings.workers drawing.before drawing.after
-      (λ k was now. WorkerRan (EveryPageCameToItsEnd task.settings.workers e)
+      (λ k was now. WorkerRan (MayBreakOff e tally) (EveryPageCameToItsEnd task.settings.workers e)
       drawing.sources.library drawing.sources.faults drawing.sources.loads (setup_of task) reading
       drawing.history (k + 1) was now)
 
 -- what holds of the workers after any run that ended so
 pub record WorkersAreDone {F : Type 0} (task : Task) (drawing : Drawing F) (e : EndingValue)
     (tally : Option Tally) : Type 0 where
-  pub counts : CountsTo tally e
+  pub counts : CountsTo drawing.history tally e
   pub failed : (page : ℕ) → e ≡ Source page
       → SomeUsed task.settings.workers drawing.before drawing.after
       (FailedAt drawing.sources.faults page)
@@ -169,5 +186,7 @@ pub record WorkersAreDone {F : Type 0} (task : Task) (drawing : Drawing F) (e : 
   pub worked : EachUsed task.settings.workers drawing.before drawing.after
       (λ k was now. WorkerDone task drawing.sources (status_of e) (own (k + 1) drawing.history) was
       now)
+  pub gave_up : EachUsed task.settings.workers drawing.before drawing.after
+      (λ k _ now. GaveUpOnlyBroken e tally (own (k + 1) drawing.history) now)
   pub shares : (total : ℕ) × PartitionPages total task.settings.workers drawing.after
   pub rest : RestIsKept task.settings.workers drawing.before drawing.after

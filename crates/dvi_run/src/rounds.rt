@@ -7,7 +7,7 @@ ghost use Rattle.page_draw.specs.Values.{PageValue};
 ghost use Rattle.page_workers.specs.Rounds.{HasBitmap};
 ghost use Rattle.dvi_run.specs.Pages.{AreValues};
 ghost use Rattle.dvi_run.specs.Endings.{EndsPages, Source, value_of_ending};
-ghost use Rattle.dvi_run.specs.Looked.{EveryPageCameToItsEnd};
+ghost use Rattle.dvi_run.specs.Looked.{EveryPageCameToItsEnd, MayBreakOff};
 ghost use Rattle.dvi_run.specs.Shares.{WorkersDrew};
 ghost use Rattle.dvi_run.specs.Stacks.{AllDrewNothing, DrewStack, MayDrawRound, NoCounters, StoppedAhead, WroteUpTo, WroteWhole};
 ghost use Rattle.dvi_run.specs.Tally.{TallyMatches};
@@ -196,7 +196,7 @@ pub fn write_rounds<R: Threads + Wait + Sync, F: FontSource + Send, O: Output>(
         (value_of_ending result.0) (Some result.1) workers.new }
     ensures workers { (k : ℕ) (d : _) → k < length workers.old
         → AfterRounds (site F.library F.faults F.loads job.now.bench.now known job.now.index.now
-        job.now.sheet.now)
+        job.now.sheet.now) (MayBreakOff (value_of_ending result.0) (Some result.1))
         (slice_index_or workers.old k d) (slice_index_or workers.new k d) }
     ensures output { O.faults out.old ≤ O.faults out.new }
 {

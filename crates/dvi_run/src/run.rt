@@ -58,10 +58,10 @@ use std::thread::Threads;
 /// is used has neither a seat nor results when handed in, and has drawn and loaded nothing.
 ///
 /// With `sample` the run makes the document and its font files itself, as `sample_maker::sample`
-/// says, and draws them over workers of its own, as many as are used: `input` isn't read, and no
-/// file is loaded from the sources of `workers`. What its own worker k drew and how often it loaded
-/// are handed to worker k of the call. All else is as above, except that the run never ends with 2,
-/// 5 or 6.
+/// says, or with `packed` as `sample_maker::packed_sample` does, and draws them over workers of its
+/// own, as many as are used: `input` isn't read, and no file is loaded from the sources of
+/// `workers`. What its own worker k drew and how often it loaded are handed to worker k of the
+/// call. All else is as above, except that the run never ends with 2, 5 or 6.
 ///
 /// Knuth, DVItype, "Device-independent file format" and "Translation to symbolic form"; Netpbm, the
 /// raw form of PBM. Clauses on bytes hold where the contents of the input, the output or the notes

@@ -1,10 +1,10 @@
 //! Runs of the sample, which the run makes itself, and draws over workers of its own.
-ghost use Rattle.std.specs.Prelude.{◌≡◌, ◌≤◌, ◌<◌, ℕ, Option, [], ◌∷◌, Some, IfSome, length, slice_index_or};
+ghost use Rattle.std.specs.Prelude.{◌≡◌, ◌≤◌, ◌<◌, ℕ, Option, [], ◌∷◌, Some, IfOk, IfSome, length, slice_index_or};
 ghost use Rattle.outside.specs.Counts.{Rose};
 ghost use Rattle.outside.specs.Library.{FileTable};
 ghost use Rattle.cache_core.specs.Views.{calls_of};
 ghost use Rattle.command_line.specs.Settings.{AreSettings};
-ghost use Rattle.sample_maker.specs.Sample.{sample_document, sample_files};
+ghost use Rattle.sample_maker.specs.Sample.{made_files, sample_document};
 ghost use Rattle.dvi_run.specs.Reading.{HoldsOfInput};
 ghost use Rattle.dvi_run.specs.Pages.{setup_with};
 ghost use Rattle.dvi_run.specs.Endings.{IsEnding, value_of_ending, status_of};
@@ -22,10 +22,24 @@ use outside::{FontSource, Input, Output};
 use page_index::laws::documents;
 use page_workers::Worker;
 use sample_maker::laws::samples;
-use sample_maker::{Sample, sample};
-use std::alloc::Global;
+use sample_maker::{Sample, packed_sample, sample};
+use std::alloc::{AllocError as NoMemory, Global};
 use std::sync::Wait;
 use std::thread::Threads;
+
+// The sample of n pages, with packed fonts or with those that the sample has.
+fn made_sample(alloc: Global, pages: u32, packed: bool) -> Result<Sample, NoMemory>
+    requires some { 1 ≤ pages }
+    requires few { pages ≤ 1000 }
+    ensures document { IfOk result (λ s. s.document.items ≡ sample_document pages) }
+    ensures library { IfOk result (λ s. s.library ≡ made_files packed) }
+{
+    if packed {
+        packed_sample(alloc, pages)
+    } else {
+        sample(alloc, pages)
+    }
+}
 
 // Draws and writes the sample of n pages by as many workers of its own as the settings say,
 // and answers how that ended. The worker in the place of each is handed what it drew.
@@ -48,7 +62,7 @@ fn draw_sample<R: Threads + Wait + Sync, F: FontSource + Send, O: Output>(
     requires empty { history.old.items ≡ [] }
     ensures ends { IsEnding (O.written out.old) (O.written out.new)
         (Rose (O.faults out.old) (O.faults out.new))
-        ⊥ (out.new ≡ out.old) ⊥ (setup_with (Some sample_files) settings.now)
+        ⊥ (out.new ≡ out.old) ⊥ (setup_with (Some (made_files settings.now.packed)) settings.now)
         (Some (sample_document pages)) (Some []) (value_of_ending result.0) }
     ensures done { WorkersAreDone (task_for_sample (Some pages) known settings.now) (record {
       sources = record { library = F.library; faults = F.faults; loads = F.loads };
@@ -74,7 +88,7 @@ fn draw_sample<R: Threads + Wait + Sync, F: FontSource + Send, O: Output>(
     // For the proof: a sample is a document, which has no fault, and fits the limit of one.
     samples();
     documents();
-    let Ok(Sample { document, library }) = sample(alloc, pages) else {
+    let Ok(Sample { document, library }) = made_sample(alloc, pages, settings.packed) else {
         return (Ending::Memory, None);
     };
     let Ok(mut made) = own_workers(alloc, library, settings.workers) else {

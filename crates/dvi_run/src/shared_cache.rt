@@ -15,7 +15,7 @@ ghost use Rattle.turn_lock.specs.Histories.{AllMade};
 ghost use Rattle.turn_lock.specs.Views.{opening_view};
 ghost use Rattle.dvi_run.specs.Pages.{AreValues};
 ghost use Rattle.dvi_run.specs.Endings.{EndsPages, Source, value_of_ending};
-ghost use Rattle.dvi_run.specs.Looked.{EveryPageCameToItsEnd};
+ghost use Rattle.dvi_run.specs.Looked.{EveryPageCameToItsEnd, MayBreakOff};
 ghost use Rattle.dvi_run.specs.Shares.{WorkersDrew};
 ghost use Rattle.dvi_run.specs.Rounds.{FailedAt, IsFresh, WorkerRan};
 ghost use Rattle.dvi_run.specs.Tally.{TallyMatches, TallyMatchesRun};
@@ -82,8 +82,8 @@ pub fn draw_with_cache<R: Threads + Wait + Sync, F: FontSource + Send, O: Output
     ensures first { own 0 (calls_of result.2.items) ≡ [] }
     ensures few_claims { FewClaims (calls_of result.2.items) }
     ensures workers { (k : ℕ) (d : _) → k < length workers.old
-        → WorkerRan (EveryPageCameToItsEnd (length workers.old) (value_of_ending result.0))
-        F.library F.faults F.loads
+        → WorkerRan (MayBreakOff (value_of_ending result.0) (Some result.1))
+        (EveryPageCameToItsEnd (length workers.old) (value_of_ending result.0)) F.library F.faults F.loads
         (record { library = known; res = index.now.res; sheet = settings.now.sheet })
         index.now.reading
         (calls_of result.2.items) (k + 1)
@@ -135,8 +135,8 @@ pub fn draw_with_shared_cache<R: Threads + Wait + Sync, F: FontSource + Send, O:
         × EndsPages (O.written out.old) (O.written out.new)
         (Rose (O.faults out.old) (O.faults out.new))
         (Unit {0}) (value_of_ending result.0) index.now.reading values
-        × TallyMatchesRun settings.now.summary (O.written out.old) (O.written out.new) result.1
-        (value_of_ending result.0) values }
+        × TallyMatchesRun settings.now.summary (O.written out.old) (O.written out.new)
+        (calls_of history.new.items) result.1 (value_of_ending result.0) values }
     ensures cause { (page : ℕ) → value_of_ending result.0 ≡ Source page
         → (k : ℕ) × (k < length workers.old)
         × ((d : _) → FailedAt F.faults page (slice_index_or workers.old k d)
@@ -148,8 +148,8 @@ pub fn draw_with_shared_cache<R: Threads + Wait + Sync, F: FontSource + Send, O:
     ensures first { own 0 (calls_of history.new.items) ≡ [] }
     ensures few_claims { FewClaims (calls_of history.new.items) }
     ensures workers { (k : ℕ) (d : _) → k < length workers.old
-        → WorkerRan (EveryPageCameToItsEnd (length workers.old) (value_of_ending result.0))
-        F.library F.faults F.loads
+        → WorkerRan (MayBreakOff (value_of_ending result.0) result.1)
+        (EveryPageCameToItsEnd (length workers.old) (value_of_ending result.0)) F.library F.faults F.loads
         (record { library = known; res = index.now.res; sheet = settings.now.sheet })
         index.now.reading
         (calls_of history.new.items) (k + 1)

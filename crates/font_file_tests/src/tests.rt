@@ -1,5 +1,6 @@
 //! Small files of fonts, worked out by hand.
 
+mod cuts;
 mod generic_fonts;
 mod glyph_tables;
 mod packed_fonts;

@@ -3,6 +3,7 @@ ghost use Rattle.std.specs.Prelude.{◌≤◌};
 
 use crate::bytes::{Names, number};
 use crate::document::Document;
+use crate::fonts::Failures;
 use outside::{MemInput, MemOutput};
 use std::alloc::{AllocError as NoMemory, Global};
 use std::io::{self, ErrorKind};
@@ -27,9 +28,7 @@ pub struct Case {
     /// How many workers are at hand.
     pub workers: u64,
     /// Which loads of each worker's source fail.
-    pub failed_loads: Vec<u64>,
-    /// How the names of files begin that can't be loaded.
-    pub failed_files: Vec<u8>,
+    pub failures: Failures,
     /// The fewest and the most pages that are to be drawn.
     pub drawn: Vec<u64>,
     /// Of each page the first letters of the fonts that it looks up.
@@ -79,8 +78,7 @@ impl Case {
             output: Stream::new(alloc),
             notes: Stream::new(alloc),
             workers: 1,
-            failed_loads: Vec::new(alloc),
-            failed_files: Vec::new(alloc),
+            failures: Failures::none(alloc),
             drawn: Vec::new(alloc),
             looks: Vec::new(alloc),
             counts: String::new(alloc),
@@ -106,7 +104,8 @@ impl Case {
             "failed_reads" => self.input.fails.push(value)?,
             "failed_writes" => self.output.fails.push(value)?,
             "failed_notes" => self.notes.fails.push(value)?,
-            "failed_loads" => self.failed_loads.push(value)?,
+            "failed_loads" => self.failures.failed.push(value)?,
+            "starved_loads" => self.failures.starved.push(value)?,
             "drawn" => self.drawn.push(value)?,
             "note_ends" => self.note_ends.push(value)?,
             _ => return Err(ErrorKind::InvalidInput.into()),
@@ -153,7 +152,7 @@ impl Case {
             "word" => Ok(self.take_word(alloc, value)?),
             "looks" => self.take_looks(alloc, value),
             "counts" => Ok(self.counts.push_str(value)?),
-            "failed_files" => Ok(self.failed_files.extend_from_slice(value.as_bytes())?),
+            "failed_files" => Ok(self.failures.front.extend_from_slice(value.as_bytes())?),
             "doc" | "at" | "cut" | "fonts" | "pages" => {
                 self.document.take(alloc, names, key, value)
             }

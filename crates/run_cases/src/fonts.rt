@@ -2,13 +2,24 @@
 ghost use Rattle.std.specs.Prelude.{◌<◌, ◌^◌};
 
 use outside::{FileName, FontSource, Library, LoadStop};
+use std::alloc::Global;
 
-/// Files of which the loads with the listed numbers fail, and the loads of files whose names begin
-/// with the front.
+/// Which loads of a source fail, and which find no memory, counted from 1. A load that is in both
+/// lists fails.
+#[derive(Drop)]
+pub struct Failures {
+    pub failed: Vec<u64>,
+    pub starved: Vec<u64>,
+    /// How the names of files begin that can't be loaded, or nothing.
+    pub front: Vec<u8>,
+}
+
+/// Files of which some loads fail.
 #[derive(Drop)]
 pub struct Fonts<'a> {
     library: &'a Library,
     fails: &'a [u64],
+    starves: &'a [u64],
     front: &'a [u8],
     /// How many loads were asked for.
     pub loads: u64,
@@ -16,13 +27,25 @@ pub struct Fonts<'a> {
     ghost loads_fit: { loads < 2 ^ 64 },
 }
 
+impl Failures {
+    /// No load fails.
+    pub fn none(alloc: Global) -> Failures {
+        Failures {
+            failed: Vec::new(alloc),
+            starved: Vec::new(alloc),
+            front: Vec::new(alloc),
+        }
+    }
+}
+
 impl<'a> Fonts<'a> {
-    /// No load yet. With no front no name begins so.
-    pub fn new(library: &'a Library, fails: &'a [u64], front: &'a [u8]) -> Fonts<'a> {
+    /// No load yet.
+    pub fn new(library: &'a Library, failures: &'a Failures) -> Fonts<'a> {
         Fonts {
             library,
-            fails,
-            front,
+            fails: &failures.failed,
+            starves: &failures.starved,
+            front: &failures.front,
             loads: 0,
             faults: 0,
         }
@@ -46,6 +69,9 @@ impl<'a> FontSource for Fonts<'a> {
         if self.is_failing(name.bytes()) {
             self.faults = self.faults.saturating_add(1);
             return Err(LoadStop::Failed);
+        }
+        if self.starves.contains(&self.loads) {
+            return Err(LoadStop::NoMemory);
         }
         Ok(self.library.copy_of(name)?)
     }

@@ -22,8 +22,8 @@
 //!   - `read=N`, `write=N`, `note=N`: how many bytes a read gives, and the output and the notes
 //!     take at once (64). `workers=N`: how many workers are at hand (1).
 //!   - `failed_reads=N,..`, `failed_writes=N,..`, `failed_notes=N,..`: which calls fail, counted
-//!     from 1; `failed_loads=N,..`: which loads of each worker's source; `failed_files=TEXT`: the
-//!     loads of files whose names begin so.
+//!     from 1; `failed_loads=N,..`: which loads of each worker's source, and `starved_loads=N,..`
+//!     which of them find no memory; `failed_files=TEXT`: the loads of files whose names begin so.
 //!   - `drawn=LEAST,MOST`: how many pages are to be drawn. `looks=TEXT,..`: of each page the first
 //!     letters of the fonts that it is to look up, `looks=N:TEXT,..` N times. Then a look-up that
 //!     finds no font is to load the TFM and the VF file, and the PK file where there is no VF file.

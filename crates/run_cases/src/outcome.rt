@@ -3,7 +3,7 @@ ghost use Rattle.std.specs.Prelude.{◌≡◌, ◌<◌, ℕ, IfOk, length, slice
 ghost use Rattle.page_workers.specs.Seating.{IsUnused};
 
 use crate::case::{Case, Streams};
-use crate::fonts::Fonts;
+use crate::fonts::{Failures, Fonts};
 use crate::judge::{loads_of, pages_drawn, wrong_with};
 use crate::show::{add_notes, add_pages};
 use cache_core::Entry;
@@ -42,8 +42,7 @@ struct Counts {
 fn some_workers<'a>(
     alloc: Global,
     library: &'a Library,
-    fails: &'a [u64],
-    front: &'a [u8],
+    failures: &'a Failures,
     count: usize,
 ) -> Result<Vec<Worker<Fonts<'a>>>, NoMemory>
     ensures count { IfOk result (λ workers. length workers.items ≡ count) }
@@ -52,7 +51,7 @@ fn some_workers<'a>(
 {
     let mut workers = Vec::new(alloc);
     for _k in 0..count {
-        let worker = Worker::new(alloc, Fonts::new(library, fails, front));
+        let worker = Worker::new(alloc, Fonts::new(library, failures));
         workers.push(worker)?;
     }
     Ok(workers)
@@ -80,13 +79,7 @@ pub fn run<R: Threads + Wait + Sync>(
     streams: Streams,
 ) -> Result<Outcome, NoMemory> {
     let count = case.workers.max(1).min(32) as usize;
-    let mut workers = some_workers(
-        alloc,
-        library,
-        &case.failed_loads,
-        &case.failed_files,
-        count,
-    )?;
+    let mut workers = some_workers(alloc, library, &case.failures, count)?;
     let Streams {
         mut input,
         mut output,

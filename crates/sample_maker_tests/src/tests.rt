@@ -1,4 +1,5 @@
 //! Files with the bytes that they are to have, and read again.
+mod cuts;
 mod documents;
 mod fonts;
 mod packed_fonts;

@@ -9,21 +9,15 @@ use Rattle.dvi_commands.specs.Reading.{AreCommands, Begins, Placed, commands_of,
 use Rattle.dvi_commands.proofs.Commands.{commands_first, commands_none, placed_first, placed_none}
 use Rattle.drift_rules.specs.Position.{Advance}
 use Rattle.page_index.specs.Document.{Reading, font_table}
-use Rattle.pk_runs.specs.declared.glyph.Glyph.{Glyph}
-use Rattle.font_decode.specs.Fonts.{FontValue, glyph_at, is_virtual_of, local_of, first_local_of, packet_of, scaled_width_of}
-use Rattle.font_decode.specs.declared.font_or_fault.Decoded.{Decoded}
-use Rattle.font_decode.specs.declared.font_or_fault.Decoded.TheVariants as decoded
+use Rattle.font_decode.specs.Fonts.{FontValue, local_of, first_local_of, packet_of}
 use Rattle.vf_expand.specs.Faults.{PageFaultValue}
 use Rattle.vf_expand.specs.Faults as fault
-use Rattle.vf_expand.specs.Course.{Asks, Course, Current, Deeper, Ends, Gives, OnPage, InPacket, Place, Stops, by_kind, changed_to, character, cut, deeper, expand_list, expand_one, font_change, char_of_decoded, leave, no_local, number_of, packet, page_from, gives, virtual, with_glyph, with_width}
+use Rattle.vf_expand.specs.Course.{Asks, Course, Current, Deeper, Ends, Gives, OnPage, InPacket, Place, Stops, changed_to, cut, deeper, expand_list, expand_one, font_change, leave, no_local, number_of, packet, page_from, gives, virtual}
 use Rattle.vf_expand.specs.Limits.{MAX_DEPTH}
-use Rattle.vf_expand.specs.Course as course
 use Rattle.vf_expand.specs.Expansion.{Expansion, GivesNoPackedChar, course_left, depth, after_pending_advance, rest_of, place_in, stack_left}
 use Rattle.vf_expand.specs.Effects.{SetsNoPackedChar, value_of_current}
 use Rattle.vf_expand.specs.Sets.{character_command}
 use Rattle.vf_expand.specs.Levels.{AreLevels, context_of, stack_of, text_in, level_text}
-use Rattle.vf_expand.specs.declared.current.Current as code
-use Rattle.vf_expand.specs.declared.current.Current.TheVariants as variant
 use Rattle.vf_expand.specs.declared.outer_levels.Level.{Level}
 use Rattle.vf_expand.proofs.Levels.{rest_reads}
 

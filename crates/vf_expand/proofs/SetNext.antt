@@ -1,11 +1,11 @@
 -- Where bytes begin with no character that is set or put.
-use Rattle.std.proofs.Common.{◌≡◌, ◌∙◌, ℕ, zero, suc, ◌+◌, ◌<◌, ◌≤◌, ℤ, pos, negsuc, Bool, true, false, List, [], ◌∷◌, ◌++◌, length, length-append, length-drop, drop, get_or, refl, sym, ap, arith, inl, inr}
+use Rattle.std.proofs.Common.{◌≡◌, ◌∙◌, ℕ, zero, suc, ◌+◌, ◌<◌, ◌≤◌, ℤ, pos, negsuc, Bool, true, false, List, [], ◌∷◌, ◌++◌, length, length-append, length-drop, drop, refl, sym, ap, arith, inl, inr}
 use Rattle.std.specs.Prelude.{slice_index}
 use Rattle.std.proofs.lemmas.List.{get_or-drop}
 use Rattle.dvi_commands.specs.declared.command.Context.{Context}
 use Rattle.dvi_commands.specs.declared.command.Command.{Command}
 use Rattle.dvi_commands.specs.declared.command.Command.TheVariants as lent
-use Rattle.dvi_commands.specs.Spelling.{DviCommand, HasWidth, IsOperand, Nop, Put, Set, Spells, value_of_command, spelling}
+use Rattle.dvi_commands.specs.Spelling.{DviCommand, HasWidth, IsOperand, Nop, Put, Set, value_of_command, spelling}
 use Rattle.dvi_commands.specs.Reading.{Begins, commands_of}
 use Rattle.dvi_commands.proofs.Commands.{commands_first, commands_on}
 use Rattle.dvi_commands.proofs.Refusals.{spelled_some}

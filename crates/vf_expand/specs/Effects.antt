@@ -1,5 +1,5 @@
 -- What one command gives, by the definition.
-use Rattle.std.specs.Prelude.{◌≡◌, ◌<◌, ℕ, ◌-◌, ℤ, pos, unsigned_abs, Bool, List, Option, Some, IfSome}
+use Rattle.std.specs.Prelude.{◌≡◌, ◌<◌, ℕ, ◌-◌, ℤ, unsigned_abs, Bool, List, Option, Some, IfSome}
 use Rattle.std.specs.Arc.{arc_value}
 use Rattle.outside.specs.declared.keys.FontKey.{FontKey}
 use Rattle.dvi_commands.specs.Spelling.{DviCommand, SetRule, PutRule, Right, W, X, Down, Y, Z}

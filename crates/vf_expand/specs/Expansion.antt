@@ -1,6 +1,6 @@
 -- A page that is being expanded, as its calls see it: what stands to be expanded, and what the last
 -- step was.
-use Rattle.std.specs.Prelude.{◌≡◌, ℕ, suc, ◌+◌, ◌-◌, ℤ, Bool, true, false, List, [], ◌∷◌, length, Option, Some, None, if◌then◌else◌}
+use Rattle.std.specs.Prelude.{◌≡◌, ℕ, suc, ◌+◌, ◌-◌, ℤ, Bool, List, [], ◌∷◌, length, Option, Some, None, if◌then◌else◌}
 use Rattle.dvi_commands.specs.Spelling.{DviCommand}
 use Rattle.dvi_commands.specs.Reading.{Placed}
 use Rattle.drift_rules.specs.Position.{FlatCommand, Char, Advance}

@@ -230,7 +230,7 @@ impl<'a> Expander<'a> {
         if self.pending_advance.is_some() || self.progress.budget == 0 {
             return None;
         }
-        let reading = current_level(
+        let level = current_level(
             self.index,
             self.bytes,
             self.start,
@@ -238,16 +238,17 @@ impl<'a> Expander<'a> {
             &self.outer,
             self.progress.at,
         );
-        let position = reading.at;
-        let Some((code, put, end)) = character_at(reading.text, self.level.pos, reading.context)
-        else {
+        let position = level.at;
+        let Some((code, put, end)) = character_at(level.text, self.level.pos, level.context) else {
             return None;
         };
         let Some(found) = packed_char(&self.level.current, code) else {
             return None;
         };
         self.level.pos = end;
-        self.progress = self.progress.after_flat(position, true);
+        self.progress.at = position;
+        self.progress.budget -= 1;
+        self.progress.marked = true;
         Some(PackedChar {
             code: code as u8,
             width: found.width,
@@ -257,8 +258,7 @@ impl<'a> Expander<'a> {
         })
     }
 
-    /// Hands in what was found for the key of the look-up that comes next. The place stays that of
-    /// the last step, which gave no character.
+    /// Hands in what was found for the look-up that comes next. The place stays as it was.
     pub fn answer(&mut self, font: Arc<Decoded>)
         requires { IsAtLook (rest_of self.old) }
         ensures rest { rest_of self.new ≡ after_answer (rest_of self.old) (arc_value font) }

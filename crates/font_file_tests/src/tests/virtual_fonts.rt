@@ -223,3 +223,24 @@ fn faults_of_virtual_fonts(rt: HostRuntime) -> Result<(), Fail> {
     }
     Ok(())
 }
+
+// The head of a long packet of the code 65, which has 8,000,000 bytes.
+const LONG: [u8; 13] = [0xf2, 0, 0x7a, 0x12, 0, 0, 0, 0, 65, 0, 0, 0, 0];
+
+// How many bytes the packet of the code 65 has, where each is the command that does nothing.
+fn idle(font: &VfFont) -> Option<usize> {
+    let packet = font.packet(65)?;
+    packet
+        .iter()
+        .all(|byte| *byte == 0x8a)
+        .then_some(packet.len())
+}
+
+#[test]
+fn a_packet_of_eight_million_commands(rt: HostRuntime) -> Result<(), Fail> {
+    let commands = vec![in rt.alloc(); 0x8au8; 8_000_000]?;
+    let bytes = joined(rt.alloc(), &[&BEGIN, &LONG, &commands, &END])?;
+    let font = VfFont::read(rt.alloc(), &bytes)?;
+    assert_eq!(rt; idle(&font), Some(8_000_000));
+    Ok(())
+}

@@ -19,8 +19,13 @@ pub enum Plan {
     Held(&'static [&'static [u8]], &'static [&'static [u8]]),
 }
 
-/// A source of a library's files that goes by a plan. A load that is held for more than
-/// 1,000,000,000 turns fails.
+// How many turns a load is held at most, and how often it looks in each: some seconds, which is
+// less than a test has.
+const TURNS: u32 = 1000;
+
+const LOOKS: u32 = 50_000;
+
+/// A source of a library's files that goes by a plan. A load that is held in vain fails.
 #[derive(Drop)]
 pub struct Planned {
     pub library: Arc<Library>,
@@ -41,10 +46,20 @@ fn is_among(name: &FileName, names: &[&[u8]]) -> bool {
     false
 }
 
+// Looks for one turn whether two loads began.
+fn two_began(begun: &AtomicU32) -> bool {
+    for _look in 0..LOOKS {
+        if begun.load(Ordering::SeqCst) >= 2 {
+            return true;
+        }
+    }
+    false
+}
+
 // Waits until two loads began, and says whether they did.
 fn wait_for_two(begun: &AtomicU32) -> bool {
-    for _ in 0..1_000_000_000u32 {
-        if begun.load(Ordering::SeqCst) >= 2 {
+    for _turn in 0..TURNS {
+        if two_began(begun) {
             return true;
         }
         thread::yield_now();

@@ -48,7 +48,7 @@ returns-in-Err-NoMemory-clause-promises g c =
     rw printed.status (record {
       caused = idle_caused run;
       written = idle_wrote run;
-      ended = (Memory, None, refl, record { noted = record { placed = tt; printed = printed.printed.prints }; counted = tt; failed = done.failed; drew = drew });
+      ended = (Memory, None, refl, record { noted = record { placed = tt; printed = printed.printed.prints }; counted = done.counts; failed = done.failed; gave_up = done.gave_up; drew = drew });
       history = done.one;
       called = done.worked;
       cut_short = idle_cut_short run refl;

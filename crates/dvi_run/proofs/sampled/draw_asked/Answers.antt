@@ -37,7 +37,7 @@ returns-in-Some-clause-ends g c =
     let InputFailed = Rose (g.I.Input.faults c.args.input.now) (g.I.Input.faults c.args.input.now) in
     let left = g.I.Input.left c.args.input.now in
     subst (λ (o : Option ℕ). IsEnding old new OutputFailed (FailedForSample o SourceFailed) (c.draw_sample.new.out ≡ c.args.out.now) (FailedForSample o InputFailed)
-    (setup_with (library_for_sample o g.known) c.args.settings.now) (document_for_sample o left) (rest_for_sample o left) (value_of_ending c.draw_sample.result.0)) (sym c.in-Some.is) c.draw_sample.ensures.ends
+    (setup_with (library_for_sample c.args.settings.now.packed o g.known) c.args.settings.now) (document_for_sample o left) (rest_for_sample o left) (value_of_ending c.draw_sample.result.0)) (sym c.in-Some.is) c.draw_sample.ensures.ends
 
 pub returns-in-Some-clause-done : goal.returns-in-Some-clause-done
 returns-in-Some-clause-done g c =

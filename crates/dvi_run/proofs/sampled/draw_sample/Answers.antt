@@ -7,7 +7,7 @@ use Rattle.cache_core.specs.Views.{calls_of}
 use Rattle.page_index.specs.Faults.{IsFirstFault}
 use Rattle.page_index.specs.Limits.{MAX_DOCUMENT_LENGTH}
 use Rattle.page_workers.specs.declared.worker.Worker.{Worker}
-use Rattle.sample_maker.specs.Sample.{sample_document, sample_files}
+use Rattle.sample_maker.specs.Sample.{made_files, sample_document}
 use Rattle.dvi_run.specs.Endings.{IsEnding, value_of_ending, status_of}
 use Rattle.dvi_run.specs.Pages.{Setup, setup_with}
 use Rattle.dvi_run.specs.Sampled.{TookResults}
@@ -24,10 +24,10 @@ abbrev Library : SureFonts → Option FileTable
 Library s = Some s.library.value
 
 -- the run's own workers are ready as they are handed to a call
-own_ready : (files : FileTable) (n : ℕ) (items now : List (Worker SureFonts)) → now ≡ items → files ≡ sample_files → ((k : ℕ) (d : Worker SureFonts) → k < n → IsReadyWorker Library (Some files) (get_or items k d))
-    → (k : ℕ) (d : Worker SureFonts) → k < n → IsReadyWorker Library (Some sample_files) (get_or now k d)
-own_ready files n items now same known each k d lt =
-    subst (λ (ws : List (Worker SureFonts)). IsReadyWorker Library (Some sample_files) (get_or ws k d)) (sym same) (subst (λ (fs : FileTable). IsReadyWorker Library (Some fs) (get_or items k d)) known (each k d lt))
+own_ready : (files told : FileTable) (n : ℕ) (items now : List (Worker SureFonts)) → now ≡ items → files ≡ told → ((k : ℕ) (d : Worker SureFonts) → k < n → IsReadyWorker Library (Some files) (get_or items k d))
+    → (k : ℕ) (d : Worker SureFonts) → k < n → IsReadyWorker Library (Some told) (get_or now k d)
+own_ready files told n items now same known each k d lt =
+    subst (λ (ws : List (Worker SureFonts)). IsReadyWorker Library (Some told) (get_or ws k d)) (sym same) (subst (λ (fs : FileTable). IsReadyWorker Library (Some fs) (get_or items k d)) known (each k d lt))
 
 pub returns-in_default-own_workers-clause-done : goal.returns-in_default-own_workers-clause-done
 returns-in_default-own_workers-clause-done g c = let q = c.requires.1.1.1.1.1 in idle_done _ _ _ _ _ _ q.1.1.1.1.0 tt (ap calls_of q.1.1.1.1.1)
@@ -40,8 +40,8 @@ draw_document-drawn-requires g c κs within =
     let first = c.as_mut_slice-own.result.now in
     let same : first ≡ c.in-Ok-own_workers.made.items = c.as_mut_slice-own.ensures.value in
     let long : length first ≡ settings.workers = ap length same ∙ own.count in
-    let files : c.in-Ok.field-0.library ≡ sample_files = search rules in
-    let ready = own_ready c.in-Ok.field-0.library settings.workers c.in-Ok-own_workers.made.items first same files own.ready in (
+    let files : c.in-Ok.field-0.library ≡ made_files settings.packed = search rules in
+    let ready = own_ready c.in-Ok.field-0.library (made_files settings.packed) settings.workers c.in-Ok-own_workers.made.items first same files own.ready in (
       search rules fits 100000 depth 60,
       (
         search rules fits 100000 depth 60,
@@ -75,7 +75,7 @@ returns-clause-ends g c =
     let tally = c.draw_document-drawn.result.1 in
     let old = output.before.bytes in
     let new = output.after.bytes in
-    let given : Setup = setup_with (Some sample_files) settings in
+    let given : Setup = setup_with (Some (made_files settings.packed)) settings in
     let OutputFailed = FaultsRose output in
     let text = c.deref.result.now in
     let ends = ends_without old new OutputFailed _ output.Kept given text (none_rose settings first last before after long long_last handed (λ s. 0) (λ s. refl)) e c.draw_document-drawn.ensures.ends in
@@ -105,7 +105,7 @@ returns-clause-sample g c =
     let tally = c.draw_document-drawn.result.1 in
     let old = output.before.bytes in
     let new = output.after.bytes in
-    let given : Setup = setup_with (Some sample_files) settings in
+    let given : Setup = setup_with (Some (made_files settings.packed)) settings in
     let OutputFailed = FaultsRose output in
     let text = c.deref.result.now in
     let ends = ends_without old new OutputFailed _ output.Kept given text (none_rose settings first last before after long long_last handed (λ s. 0) (λ s. refl)) e c.draw_document-drawn.ensures.ends in
@@ -133,8 +133,8 @@ returns-clause-done g c =
     let handed : (k : ℕ) (e : _) (d : _) → k < settings.workers → TookResults (get_or last k e) (get_or before k d) (get_or after k d) =
     λ k e d lt. c.move_results.ensures.handed k e d (omega (arith, lt, long_last)) in
     let rest : RestIsKept settings.workers before after = subst (λ (m : ℕ). RestIsKept m before after) long_last c.move_results.ensures.rest in
-    let files : c.in-Ok.field-0.library ≡ sample_files = search rules in
-    let ready = own_ready c.in-Ok.field-0.library settings.workers c.in-Ok-own_workers.made.items first same files own.ready in
+    let files : c.in-Ok.field-0.library ≡ made_files settings.packed = search rules in
+    let ready = own_ready c.in-Ok.field-0.library (made_files settings.packed) settings.workers c.in-Ok-own_workers.made.items first same files own.ready in
     let output = change_of g.O.Output.written g.O.Output.faults c.args.out.now c.draw_document-drawn.new.out in
     let history = calls_of c.draw_document-drawn.new.history.items in
     let e = value_of_ending c.draw_document-drawn.result.0 in
@@ -157,8 +157,8 @@ returns-clause-drew g c =
     let handed : (k : ℕ) (e : _) (d : _) → k < settings.workers → TookResults (get_or last k e) (get_or before k d) (get_or after k d) =
     λ k e d lt. c.move_results.ensures.handed k e d (omega (arith, lt, long_last)) in
     let rest : RestIsKept settings.workers before after = subst (λ (m : ℕ). RestIsKept m before after) long_last c.move_results.ensures.rest in
-    let files : c.in-Ok.field-0.library ≡ sample_files = search rules in
-    let ready = own_ready c.in-Ok.field-0.library settings.workers c.in-Ok-own_workers.made.items first same files own.ready in
+    let files : c.in-Ok.field-0.library ≡ made_files settings.packed = search rules in
+    let ready = own_ready c.in-Ok.field-0.library (made_files settings.packed) settings.workers c.in-Ok-own_workers.made.items first same files own.ready in
     let doc = sample_document c.args.pages in
     let bytes : c.deref.result.now ≡ doc = search rules in
     let few : length c.deref.result.now ≤ MAX_DOCUMENT_LENGTH = subst (λ (text : List ℕ). length text ≤ MAX_DOCUMENT_LENGTH) (sym bytes) (c.samples.ensures.fit c.args.pages q.1.1.0) in

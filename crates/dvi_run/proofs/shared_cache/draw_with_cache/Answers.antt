@@ -4,7 +4,7 @@ use Rattle.cache_core.specs.Histories.{own}
 use Rattle.page_workers.specs.Seating.{numbers}
 use Rattle.page_workers.proofs.Numbers.{numbers_joined}
 use Rattle.dvi_run.specs.Endings.{value_of_ending}
-use Rattle.dvi_run.specs.Looked.{EveryPageCameToItsEnd}
+use Rattle.dvi_run.specs.Looked.{EveryPageCameToItsEnd, MayBreakOff}
 use Rattle.dvi_run.specs.Rounds.{site}
 use Rattle.dvi_run.proofs.WorkerSeats.{may_begin, may_leave, none_released, ran}
 use Rattle.page_index.specs.Document.{pages_begun}
@@ -61,7 +61,7 @@ join_all-requires-clause-leave g c =
     let there : k < length ws = subst (λ (n : ℕ). k < n) same lt in
     let below : k < length xs = subst (λ (n : ℕ). k < n) long there in
     may_leave s part (ap (λ v. v.part.library) opens) (ap (λ v. v.part.units) opens) q.1.1.1.0 q.1.1.1.1.0 (k + 1) (get_or xs k d) (get_or ws k d) (q.1.1.1.1.1.1.1 k d below)
-    (c.seat_all.ensures.seated k d below) (get_or now k d) (c.write_rounds-ending.ensures.workers k d there)
+    (c.seat_all.ensures.seated k d below) (MayBreakOff (value_of_ending c.write_rounds-ending.result.0) (Some c.write_rounds-ending.result.1)) (get_or now k d) (c.write_rounds-ending.ensures.workers k d there)
 
 pub close-requires-clause-joined : goal.close-requires-clause-joined
 close-requires-clause-joined g c =
@@ -89,7 +89,7 @@ returns-clause-workers g c =
     let left = c.join_all.ensures.left k d here in
     let but = c.drop_spare_pages.ensures.same k d (subst (λ (n : ℕ). k < n) (sym joined) here) in
     ran s part (ap (λ v. v.part.library) opens) (ap (λ v. v.part.units) opens) q.1.1.1.0 q.1.1.1.1.0 (k + 1) (get_or xs k d) (get_or ws k d) (q.1.1.1.1.1.1.1 k d lt)
-    (c.seat_all.ensures.seated k d lt) (get_or now k d) (c.write_rounds-ending.ensures.workers k d there) left.seat left.is _ (get_or c.drop_spare_pages.new.workers k d)
+    (c.seat_all.ensures.seated k d lt) (MayBreakOff (value_of_ending c.write_rounds-ending.result.0) (Some c.write_rounds-ending.result.1)) (get_or now k d) (c.write_rounds-ending.ensures.workers k d there) left.seat left.is _ (get_or c.drop_spare_pages.new.workers k d)
     (ap (own (k + 1)) c.close.ensures.history ∙ left.own) (but.seat ∙ left.none) (but.source ∙ left.same.source) (but.loads ∙ left.same.loads)
     (ap (λ v. v.items) but.pages ∙ left.same.pages) (ap (λ v. v.items) but.results ∙ left.same.results) (but.counter ∙ left.same.counter)
     (c.drop_spare_pages.ensures.none k d (subst (λ (n : ℕ). k < n) (sym joined) here))

@@ -1,12 +1,13 @@
-use Rattle.std.proofs.Common.{◌≡◌, ◌+◌, ℕ, Option, length, get_or, refl, sym, subst, ap, ◌∙◌, arith, rules}
+use Rattle.std.proofs.Common.{◌≡◌, ◌+◌, ℕ, [], Option, None, length, get_or, refl, sym, subst, ap, ◌∙◌, arith, rules}
 use Rattle.outside.specs.Library.{FileTable}
+use Rattle.outside.proofs.Growth.{grown_none}
 use Rattle.pixel_round.specs.declared.units.Units.{Units}
 use Rattle.turn_lock.specs.declared.view.View.{View}
 use Rattle.turn_lock.specs.Views.{opening_view}
 use Rattle.cache_core.specs.Views.{calls_of}
 use Rattle.cache_core.specs.Histories.{own}
 use Rattle.dvi_run.specs.Endings.{Memory}
-use Rattle.dvi_run.specs.Looked.{EveryPageCameToItsEnd}
+use Rattle.dvi_run.specs.Looked.{EveryPageCameToItsEnd, MayBreakOff}
 use Rattle.dvi_run.specs.Rounds.{WorkerRan}
 use Rattle.dvi_run.proofs.WorkerSeats.{unused}
 use Rattle.dvi_run.proofs.Shares.{none_shared}
@@ -19,14 +20,19 @@ opening_is v capacity u w l e same =
     e ∙ ap (λ (n : ℕ). opening_view (record { capacity = n; units = u; library = l })) (sym c)
     ∙ ap (λ (x : Units). opening_view (record { capacity = v.part.capacity; units = x; library = l })) (sym same)
 
+pub returns-in_default-clause-ends : goal.returns-in_default-clause-ends
+returns-in_default-clause-ends g c =
+    let q = c.requires.1.1.1.1.1 in
+    ([], record { few = omega arith; are = tt }, record { count = 0; grew = grown_none (g.O.Output.written c.args.out.now) }, (refl, refl, ap calls_of q.1.1.1.1.1.0))
+
 pub returns-in_default-clause-workers : goal.returns-in_default-clause-workers
 returns-in_default-clause-workers g c =
     let q = c.requires.1.1.1.1.1 in
     λ k d lt.
-    subst (λ h. WorkerRan (EveryPageCameToItsEnd (length c.args.workers.now) Memory) g.F.FontSource.library g.F.FontSource.faults g.F.FontSource.loads (record { library = g.known; res = c.args.index.now.res; sheet = c.args.settings.now.sheet }) c.args.index.now.reading (calls_of h) (k + 1)
+    subst (λ h. WorkerRan (MayBreakOff Memory None) (EveryPageCameToItsEnd (length c.args.workers.now) Memory) g.F.FontSource.library g.F.FontSource.faults g.F.FontSource.loads (record { library = g.known; res = c.args.index.now.res; sheet = c.args.settings.now.sheet }) c.args.index.now.reading (calls_of h) (k + 1)
     (get_or c.args.workers.now k d) (get_or c.args.workers.now k d)) (sym q.1.1.1.1.1.0)
     (unused g.F.FontSource.library g.F.FontSource.faults g.F.FontSource.loads (record { library = g.known; res = c.args.index.now.res; sheet = c.args.settings.now.sheet }) c.args.index.now.reading (k + 1)
-    (get_or c.args.workers.now k d) (q.1.1.1.1.1.1.0 k d lt) (q.1.1.1.1.1.1.1 k d lt) _)
+    (get_or c.args.workers.now k d) (q.1.1.1.1.1.1.0 k d lt) (q.1.1.1.1.1.1.1 k d lt) (MayBreakOff Memory None) _)
 
 pub draw_with_cache-ending-requires : goal.draw_with_cache-ending-requires
 draw_with_cache-ending-requires g c κs within =

@@ -41,7 +41,7 @@ returns-clause-drew g c =
       failed = done.cause;
       shares = done.shares;
       one = history_for_sample None given (status_of e) drawing.history
-          (one_history given (setup_with g.known given) reading drawing (FaultsRose output) done.ends.0 e done.ends.2 done.legal done.made done.first done.few_claims done.workers (λ k lt. one_of (take n ws) k lt));
+          (one_history given (setup_with g.known given) reading drawing (FaultsRose output) done.ends.0 e tally done.ends.2 done.legal done.made done.first done.few_claims done.workers (λ k lt. one_of (take n ws) k lt));
       ran = done.workers;
     } in
     let all : DrewDocument (task_for_sample None g.known (record settings { res = c.args.index.now.res })) reading drawing e tally =

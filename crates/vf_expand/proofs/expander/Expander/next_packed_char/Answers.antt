@@ -1,14 +1,12 @@
-use Rattle.std.proofs.Common.{◌≡◌, ◌∙◌, ◌<◌, ◌+◌, ◌-◌, ℕ, ℤ, true, false, List, Option, refl, sym, ap, subst, arith, length, drop, to_z, of_z, w32, w64, Some}
+use Rattle.std.proofs.Common.{◌≡◌, ◌∙◌, ◌<◌, ◌+◌, ◌-◌, ℤ, true, false, refl, sym, ap, subst, arith, length, drop, to_z, of_z, w32, w64}
 use Rattle.std.specs.Prelude.{IsSome, unsigned_abs}
 use Rattle.std.proofs.lemmas.Int.{ints}
 use Rattle.std.specs.Arc.{arc_value}
-use Rattle.dvi_commands.specs.declared.command.Context.{Context}
 use Rattle.drift_rules.specs.Position.{Char, FlatCommand}
 use Rattle.drift_rules.specs.Bounds.{IsNumber}
-use Rattle.pk_runs.specs.declared.glyph.Glyph.{Glyph}
 use Rattle.vf_expand.specs.Course.{Current, character, deeper}
 use Rattle.vf_expand.specs.Limits.{MAX_DEPTH}
-use Rattle.vf_expand.specs.Expansion.{Expansion, GivesNoPackedChar, font_of, glyph_in, rest_of}
+use Rattle.vf_expand.specs.Expansion.{Expansion, GivesNoPackedChar, font_of, rest_of}
 use Rattle.vf_expand.specs.Levels.{context_of, stack_of, level_text}
 use Rattle.vf_expand.specs.Effects.{IsCharEffect, SetsNoPackedChar, value_of_current, value_of_place}
 use Rattle.vf_expand.specs.Sets.{SetsNothing, character_command}
@@ -38,10 +36,10 @@ returns-then-is_some c =
 pub returns-in_default : goal.returns-in_default
 returns-in_default c =
     let x = c.self.inside in
-    let e = c.current_level-reading.ensures in
+    let e = c.current_level-level.ensures in
     let v = value_of_expander x in
     let nothing_pending = has_nothing_pending x.pending_advance (sym c.is_some.ensures ∙ c.if-is_some.false) in
-    let nothing : SetsNothing c.current_level-reading.result.context (drop x.level.pos c.current_level-reading.result.text.now) = c.in_default.ensures.none refl in
+    let nothing : SetsNothing c.current_level-level.result.context (drop x.level.pos c.current_level-level.result.text.now) = c.in_default.ensures.none refl in
     let head : AtHead (context_of x.outer) (value_of_current x.level.current) (drop x.level.pos (level_text x.bytes.now x.level x.outer)) = λ code put first rest begins.
     absurd (rw (e.context, e.text) at nothing code put first rest begins) in
     let none = none_pending v nothing_pending (none_stack x.index.now.reading v.eop x.start x.progress.at x.bytes.now x.level x.outer c.self.invariant.levels head) in
@@ -50,12 +48,12 @@ returns-in_default c =
 pub returns-in_default-packed_char : goal.returns-in_default-packed_char
 returns-in_default-packed_char c =
     let x = c.self.inside in
-    let e = c.current_level-reading.ensures in
+    let e = c.current_level-level.ensures in
     let v = value_of_expander x in
     let nothing_pending = has_nothing_pending x.pending_advance (sym c.is_some.ensures ∙ c.if-is_some.false) in
     let same_code : to_z w32 (of_z w32 c.in-Some.code) ≡ c.in-Some.code = omega (arith, ints) in
     let here = subst (SetsNoPackedChar (value_of_current x.level.current)) same_code (c.in_default-packed_char.ensures.none refl) in
-    let there = set_alone c.current_level-reading.result.context c.current_level-reading.result.text.now x.level.pos c.in-Some.code c.in-Some.put c.in-Some.end c.in-Some.ensures.set in
+    let there = set_alone c.current_level-level.result.context c.current_level-level.result.text.now x.level.pos c.in-Some.code c.in-Some.put c.in-Some.end c.in-Some.ensures.set in
     let alone = rw (e.context, e.text) at there in
     let head : AtHead (context_of x.outer) (value_of_current x.level.current) (drop x.level.pos (level_text x.bytes.now x.level x.outer)) = λ code put first rest begins.
     subst (SetsNoPackedChar (value_of_current x.level.current)) (sym (alone code put first rest begins)) here in
@@ -65,14 +63,14 @@ returns-in_default-packed_char c =
 pub invariant_of-self-2 : goal.invariant_of-self-2
 invariant_of-self-2 c =
     let x = c.self.inside in
-    let e = c.current_level-reading.ensures in
+    let e = c.current_level-level.ensures in
     let set = c.in-Some.ensures.set in
-    let has_effect = c.in-Some-packed_char.ensures.sets c.in-Some.put (value_of_place c.current_level-reading.result.place) 0 in
-    rw c.after_flat-self-inside.ensures record {
+    let has_effect = c.in-Some-packed_char.ensures.sets c.in-Some.put (value_of_place c.current_level-level.result.place) 0 in
+    record {
       room = c.self.invariant.room;
       deep = c.self.invariant.deep;
-      levels = read_on_at x.bytes.now x.level x.outer c.in-Some.end (character_command c.in-Some.code c.in-Some.put) c.current_level-reading.result.text.now e.text set.after set.inside
-          set.spelled c.self.invariant.levels x.level.current c.current_level-reading.result.context e.context c.in-Some.ensures.readable (has_key x.bytes.now x.level x.outer c.self.invariant.levels);
+      levels = read_on_at x.bytes.now x.level x.outer c.in-Some.end (character_command c.in-Some.code c.in-Some.put) c.current_level-level.result.text.now e.text set.after set.inside
+          set.spelled c.self.invariant.levels x.level.current c.current_level-level.result.context e.context c.in-Some.ensures.readable (has_key x.bytes.now x.level x.outer c.self.invariant.levels);
       pending_advance = c.self.invariant.pending_advance;
       marked = λ h. subst (λ (x : Current). IsSome (font_of x)) (sym has_effect.known) refl;
     }
@@ -83,17 +81,17 @@ never is = absurd cc
 pub returns : goal.returns
 returns c =
     let x = c.self.inside in
-    let e = c.current_level-reading.ensures in
+    let e = c.current_level-level.ensures in
     let set = c.in-Some.ensures.set in
     let found = c.in-Some-packed_char.found in
     let eop = x.start + length x.bytes.now in
-    let here = c.current_level-reading.result.at in
-    let place = value_of_place c.current_level-reading.result.place in
+    let here = c.current_level-level.result.at in
+    let place = value_of_place c.current_level-level.result.place in
     let current = value_of_current x.level.current in
     let room_left = MAX_DEPTH - length x.outer in
     let nothing_pending = has_nothing_pending x.pending_advance (sym c.is_some.ensures ∙ c.if-is_some.false) in
     let room : 0 < x.progress.budget = omega (arith, c.if-self-eq0.false) in
-    let next = head_at x.index.now.reading eop x.start x.progress.at x.bytes.now x.level x.outer c.in-Some.end (character_command c.in-Some.code c.in-Some.put) c.current_level-reading.result.text.now place here
+    let next = head_at x.index.now.reading eop x.start x.progress.at x.bytes.now x.level x.outer c.in-Some.end (character_command c.in-Some.code c.in-Some.put) c.current_level-level.result.text.now place here
     room_left e.text e.place e.at refl set.after set.inside set.spelled in
     let same = still_at x.index.now.reading eop x.start x.progress.at x.bytes.now x.level x.outer here e.at current in
     let level = record x.level { pos = c.in-Some.end } in
@@ -113,7 +111,7 @@ returns c =
       (
         refl,
         λ _. tt,
-        rw c.after_flat-self-inside.ensures (rw (← c.self.view_is) record {
+        (rw (← c.self.view_is) record {
           key = key;
           one = subst (GivesOne (value_of_expander x) _ flat) glyph
               (mark_step (value_of_expander x) nothing_pending room room_left here place (character_command c.in-Some.code put) (stack_of x.bytes.now x.start level x.outer) next same flat mark);
