@@ -1,11 +1,11 @@
 -- The names that were asked for, call by call.
-use Rattle.std.proofs.Common.{◌≡◌, ◌∙◌, ◌≤◌, ◌+◌, inl, inr, ℕ, zero, suc, Bool, true, false, List, [], ◌∷◌, ◌++◌, length, take, Option, Some, None, refl, sym, ap, subst, append_assoc, append-nil, arith}
+use Rattle.std.proofs.Common.{◌≡◌, ◌∙◌, ◌≤◌, ◌+◌, ◌⊎◌, inl, inr, ℕ, zero, suc, Bool, true, false, List, [], ◌∷◌, ◌++◌, length, take, Option, Some, None, refl, sym, ap, subst, append_assoc, append-nil, arith}
 use Rattle.std.specs.Option.{option_map}
 use Rattle.std.specs.Prelude.{◌-◌, ◌^◌, ◌<◌, not, min, IfOk, IfSome, OnErr, OnOk, Result, Ok, Err, IsSome, IsNone, IsTrue, is_some, is_none, if◌then◌else◌}
 use Rattle.std.specs.FinMap.{get}
 use Rattle.std.proofs.Math.Seq.{take-append-add}
 use Rattle.outside.specs.Library as library
-use Rattle.outside.specs.Library.{Asks, Names}
+use Rattle.outside.specs.Library.{Asks, AskedFor, Names}
 use Rattle.outside.specs.declared.keys.FontKey.{FontKey}
 use Rattle.pixel_round.specs.declared.units.Units.{Units}
 use Rattle.font_decode.specs.Names.{is_valid_name, dpi, is_resolution, tfm_name, vf_name}
@@ -271,3 +271,9 @@ module _ {V : Type 0} (seen : V → List ℕ) (u : Units) (k : FontKey) where
       let there : is_none (get l (tfm_name k)) ≡ false = subst (λ (o : Option (List ℕ)). is_none o ≡ false) found (none_of seen tfm false f) in
       let none : is_some (get l (vf_name k)) ≡ false = subst (λ (o : Option (List ℕ)). is_some o ≡ false) found_vf (some_of seen vf false g) in
       looked_third (is_valid_name k) (is_none (get l (tfm_name k))) (is_some (get l (vf_name k))) a b c d (tfm_name k) (vf_name k) (up_to_there l (glyph_choices u k)) v there none p q r
+
+-- ---- one load
+
+pub until_of : {T E : Type 0} (r : Result T E) (a b : Names) (name x : List ℕ) → name ≡ x → AskedFor a b name r → OnErr r (AskedUntil a b (x ∷ []))
+until_of (Ok v) a b name x e h = tt
+until_of (Err w) a b name x e h = record { count = 1; asked = subst (λ (n : List ℕ). Asks a b (n ∷ []) ⊎ (b ≡ None)) e h }

@@ -126,6 +126,13 @@ module _ (near : Bool) (xs ys : List (List ℕ)) (e : near ≡ true) where
 
 -- ---- how many
 
+-- a count rose by as many as there are names, or by as many at most
+abbrev pub RoseByAll : ℕ → ℕ → List (List ℕ) → Type 0
+RoseByAll a b names = RoseBy (length names) a b
+
+abbrev pub RoseUpToAll : ℕ → ℕ → List (List ℕ) → Type 0
+RoseUpToAll a b names = RoseUpTo (length names) a b
+
 pub rose_longer : (a b : ℕ) (names more : List (List ℕ)) → RoseUpTo (length names) a b → RoseUpTo (length (names ++ more)) a b
 rose_longer a b names more r = record { most = omega (arith, r.most, length-append names more); never_falls = r.never_falls }
 

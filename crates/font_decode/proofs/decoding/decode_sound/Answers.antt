@@ -12,5 +12,5 @@ returns-in-Some c =
     let k = c.args.key.now in
     let read = subst (λ (vf : List ℕ). IfOk c.decode_vf.result (λ d. (bytes : List ℕ) → IsTfmOf bytes c.args.tfm.now → DecodesShortVf u k bytes vf d)) c.deref.ensures.value c.decode_vf.ensures in
     subst (λ (vf : Option (List ℕ)). IfOk c.decode_vf.result (λ d. (bytes : List ℕ) → IsTfmOf bytes c.args.tfm.now
-    → MatchOption vf (DecodesPacked u k bytes (bytes_of c.args.files.now).pk d) (λ vf. DecodesShortVf u k bytes vf d)))
+    → MatchOption vf (DecodesPacked u k bytes (bytes_of c.args.files.now) d) (λ vf. DecodesShortVf u k bytes vf d)))
     (sym (ap (option_map (λ v. v.items)) c.in-Some.is)) read

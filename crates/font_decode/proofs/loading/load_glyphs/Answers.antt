@@ -4,10 +4,9 @@ use Rattle.std.specs.Option.{option_map}
 use Rattle.outside.specs.Library.{Asks}
 use Rattle.font_decode.specs.Asked.{AskedUntil}
 use Rattle.font_decode.specs.Files.{first_there}
-use Rattle.font_decode.specs.Loads.{RoseBy, RoseUpTo}
 use Rattle.font_decode.specs.Names.{dpi, is_resolution, pk_names, gf_names, glyph_names, name_at}
 use Rattle.font_decode.proofs.Asking.{asked_twice, moved, on_err, until_later}
-use Rattle.font_decode.proofs.GlyphFiles.{all_three, counted_both, first_asked, first_rose, is_looked_for, known_begins, known_first, known_near, known_second, none_asked, not_looked_for, rose_both, rose_longer, second_asked, second_rose, stopped_first, stopped_second, until_begins}
+use Rattle.font_decode.proofs.GlyphFiles.{RoseByAll, RoseUpToAll, all_three, counted_both, first_asked, first_rose, is_looked_for, known_begins, known_first, known_near, known_second, none_asked, not_looked_for, rose_both, rose_longer, second_asked, second_rose, stopped_first, stopped_second, until_begins}
 use Rattle.font_decode.proofs.loading.load_glyphs.Goals as goal
 
 abbrev bytes : Vec ℕ Global → List ℕ
@@ -41,7 +40,7 @@ returns-in_err-pk-clause-no_more g c =
     let u = c.args.units.now in
     let k = c.args.key.now in
     let near : is_resolution (dpi u k) ≡ true = grind (arith, c.if-not-is_resolution.false, c.is_resolution.ensures, c.dpi.ensures) in
-    known_begins (is_resolution (dpi u k)) (pk_names u k) (gf_names u k) near (g.F.FontSource.library c.args.source.now) (λ (names : List (List ℕ)). RoseUpTo (length names) _ _) (rose_longer _ _) c.in_err-pk.ensures.no_more
+    known_begins (is_resolution (dpi u k)) (pk_names u k) (gf_names u k) near (g.F.FontSource.library c.args.source.now) (RoseUpToAll _ _) (rose_longer _ _) c.in_err-pk.ensures.no_more
 
 -- ---- a PK file was found
 
@@ -63,7 +62,7 @@ returns-then-is_some-clause-counted g c =
     let k = c.args.key.now in
     let near : is_resolution (dpi u k) ≡ true = grind (arith, c.if-not-is_resolution.false, c.is_resolution.ensures, c.dpi.ensures) in
     let there : is_some c.in_ok-pk.pk ≡ true = let h = c.if-is_some.true in let e = c.is_some.ensures in cc in
-    known_first (is_resolution (dpi u k)) (pk_names u k) (gf_names u k) near bytes c.in_ok-pk.pk (g.F.FontSource.library c.args.source.now) (λ (names : List (List ℕ)). RoseBy (length names) _ _) there c.in_ok-pk.ensures.file c.in_ok-pk.ensures.counted
+    known_first (is_resolution (dpi u k)) (pk_names u k) (gf_names u k) near bytes c.in_ok-pk.pk (g.F.FontSource.library c.args.source.now) (RoseByAll _ _) there c.in_ok-pk.ensures.file c.in_ok-pk.ensures.counted
 
 pub returns-then-is_some-clause-no_more : goal.returns-then-is_some-clause-no_more
 returns-then-is_some-clause-no_more g c =
@@ -71,7 +70,7 @@ returns-then-is_some-clause-no_more g c =
     let k = c.args.key.now in
     let near : is_resolution (dpi u k) ≡ true = grind (arith, c.if-not-is_resolution.false, c.is_resolution.ensures, c.dpi.ensures) in
     let there : is_some c.in_ok-pk.pk ≡ true = let h = c.if-is_some.true in let e = c.is_some.ensures in cc in
-    known_first (is_resolution (dpi u k)) (pk_names u k) (gf_names u k) near bytes c.in_ok-pk.pk (g.F.FontSource.library c.args.source.now) (λ (names : List (List ℕ)). RoseUpTo (length names) _ _) there c.in_ok-pk.ensures.file c.in_ok-pk.ensures.no_more
+    known_first (is_resolution (dpi u k)) (pk_names u k) (gf_names u k) near bytes c.in_ok-pk.pk (g.F.FontSource.library c.args.source.now) (RoseUpToAll _ _) there c.in_ok-pk.ensures.file c.in_ok-pk.ensures.no_more
 
 pub returns-then-is_some-clause-named : goal.returns-then-is_some-clause-named
 returns-then-is_some-clause-named g c =
@@ -126,8 +125,8 @@ returns-in_err-gf-clause-no_more g c =
     let near : is_resolution (dpi u k) ≡ true = grind (arith, c.if-not-is_resolution.false, c.is_resolution.ensures, c.dpi.ensures) in
     let gone : is_some c.in_ok-pk.pk ≡ false = let h = c.if-is_some.false in let e = c.is_some.ensures in cc in
     let known = g.F.FontSource.library c.args.source.now in
-    known_second (is_resolution (dpi u k)) (pk_names u k) (gf_names u k) near bytes c.in_ok-pk.pk known (λ (names : List (List ℕ)). RoseUpTo (length names) _ _) (λ (names : List (List ℕ)). RoseUpTo (length names) _ _)
-    (λ (names : List (List ℕ)). RoseUpTo (length names) _ _) (rose_both _ _ _) gone c.in_ok-pk.ensures.file c.in_ok-pk.ensures.no_more (moved known _ _ c.in_ok-pk.ensures.library c.in_err-gf.ensures.no_more)
+    known_second (is_resolution (dpi u k)) (pk_names u k) (gf_names u k) near bytes c.in_ok-pk.pk known (RoseUpToAll _ _) (RoseUpToAll _ _)
+    (RoseUpToAll _ _) (rose_both _ _ _) gone c.in_ok-pk.ensures.file c.in_ok-pk.ensures.no_more (moved known _ _ c.in_ok-pk.ensures.library c.in_err-gf.ensures.no_more)
 
 -- ---- all six were looked for, up to the first that was there
 
@@ -156,8 +155,8 @@ returns-clause-counted g c =
     let near : is_resolution (dpi u k) ≡ true = grind (arith, c.if-not-is_resolution.false, c.is_resolution.ensures, c.dpi.ensures) in
     let gone : is_some c.in_ok-pk.pk ≡ false = let h = c.if-is_some.false in let e = c.is_some.ensures in cc in
     let known = g.F.FontSource.library c.args.source.now in
-    known_second (is_resolution (dpi u k)) (pk_names u k) (gf_names u k) near bytes c.in_ok-pk.pk known (λ (names : List (List ℕ)). RoseBy (length names) _ _) (λ (names : List (List ℕ)). RoseBy (length names) _ _)
-    (λ (names : List (List ℕ)). RoseBy (length names) _ _) (counted_both _ _ _) gone c.in_ok-pk.ensures.file c.in_ok-pk.ensures.counted (moved known _ _ c.in_ok-pk.ensures.library c.in_ok-gf.ensures.counted)
+    known_second (is_resolution (dpi u k)) (pk_names u k) (gf_names u k) near bytes c.in_ok-pk.pk known (RoseByAll _ _) (RoseByAll _ _)
+    (RoseByAll _ _) (counted_both _ _ _) gone c.in_ok-pk.ensures.file c.in_ok-pk.ensures.counted (moved known _ _ c.in_ok-pk.ensures.library c.in_ok-gf.ensures.counted)
 
 pub returns-clause-no_more : goal.returns-clause-no_more
 returns-clause-no_more g c =
@@ -166,8 +165,8 @@ returns-clause-no_more g c =
     let near : is_resolution (dpi u k) ≡ true = grind (arith, c.if-not-is_resolution.false, c.is_resolution.ensures, c.dpi.ensures) in
     let gone : is_some c.in_ok-pk.pk ≡ false = let h = c.if-is_some.false in let e = c.is_some.ensures in cc in
     let known = g.F.FontSource.library c.args.source.now in
-    known_second (is_resolution (dpi u k)) (pk_names u k) (gf_names u k) near bytes c.in_ok-pk.pk known (λ (names : List (List ℕ)). RoseUpTo (length names) _ _) (λ (names : List (List ℕ)). RoseUpTo (length names) _ _)
-    (λ (names : List (List ℕ)). RoseUpTo (length names) _ _) (rose_both _ _ _) gone c.in_ok-pk.ensures.file c.in_ok-pk.ensures.no_more (moved known _ _ c.in_ok-pk.ensures.library c.in_ok-gf.ensures.no_more)
+    known_second (is_resolution (dpi u k)) (pk_names u k) (gf_names u k) near bytes c.in_ok-pk.pk known (RoseUpToAll _ _) (RoseUpToAll _ _)
+    (RoseUpToAll _ _) (rose_both _ _ _) gone c.in_ok-pk.ensures.file c.in_ok-pk.ensures.no_more (moved known _ _ c.in_ok-pk.ensures.library c.in_ok-gf.ensures.no_more)
 
 pub returns-clause-named : goal.returns-clause-named
 returns-clause-named g c =
