@@ -24,8 +24,8 @@ page_named _ = None
 
 -- Two runs by one worker over the same bytes, for the same settings and known font files, that
 -- nothing but their pages ended: they end at the same page, if at one, their calls of the cache are
--- one history, and their reports one text, where their loads are as many or no summary is asked for.
--- Each is given by what it says of its pages, whatever its streams and its source are.
+-- one history, and their reports one text, where their loads are as many or no summary is asked
+-- for. Each is given by what it says of its pages, whatever its streams and its source are.
 abbrev pub RunsOfOneWorkerAreAlike : (F G : Type 0) → Type 0
 RunsOfOneWorkerAreAlike F G =
     (task : Task) (files : FileTable) (bytes : List ℕ) (old new other later : Option (List ℕ))
