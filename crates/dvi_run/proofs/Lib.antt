@@ -24,3 +24,4 @@ pub mod EndAfterReport
 pub mod GivenSettings
 pub mod MovedResults
 pub mod OwnDocument
+pub mod OneWorker

@@ -42,7 +42,7 @@ module _ (one : PagesHaveOneValue) (g : Setup) (files : FileTable) (known : g.li
   abbrev indexed : Reading → Indexed
   indexed r = record { res = g.res; reading = r }
 
-  found : (r : Reading) (i : ℕ) (v : PageValue) (looks : List FontKey) (u : Units) → document_units g.res r ≡ Some u
+  pub found : (r : Reading) (i : ℕ) (v : PageValue) (looks : List FontKey) (u : Units) → document_units g.res r ≡ Some u
       → IsPageValue (IsFontOf g.library (document_units g.res r)) (indexed r) g.sheet i v looks → IsPageValue (IsFontIn files u) (indexed r) g.sheet i v looks
   found r i v looks u is value =
       subst (λ (m : Option Units). IsPageValue (IsFontOf (Some files) m) (indexed r) g.sheet i v looks) is

@@ -54,6 +54,12 @@ faults_end_the_run values rest page is =
     let there = ends_there values rest f.0 f.1 in
     (ap₂ run_end (there.0 ∙ sym f.1) there.1 ∙ is, ap (flat_map page_text) there.1)
 
+-- and no page after it is among those before it
+pub none_after_fault : (values rest : List PageValue) (page : FailingPage) → run_fault values ≡ Some page → whole_pages (values ++ rest) ≡ whole_pages values
+none_after_fault values rest page is =
+    let f = some_of (first_fault values) (suc (length (whole_pages values))) page is in
+    (ends_there values rest f.0 f.1).1
+
 -- so where none fails, none of the first ones does
 pub prefix_is_good : (values rest : List PageValue) → run_fault (values ++ rest) ≡ None → run_fault values ≡ None
 prefix_is_good values rest none = by (run_fault values) refl

@@ -17,5 +17,6 @@ pub mod Report
 pub mod Sampled
 pub mod Outside
 pub mod Together
+pub mod OneWorker
 pub mod Promises
 pub mod Examples

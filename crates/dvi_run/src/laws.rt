@@ -1,7 +1,9 @@
 //! Laws over the definitions, each a clause of a function without a body.
 ghost use Rattle.dvi_run.specs.Examples.{DocumentLines, GoodEndsAreSilent, PageLines, ShortLines};
+ghost use Rattle.dvi_run.specs.OneWorker.{RunsOfOneWorkerAreAlike};
 ghost use Rattle.dvi_run.specs.Laws.{EachDocumentHasOneRun, EachPageHasItsEop, FaultsEndTheRun, GoodRunsWriteAlike, OneReading, OneRun, PagesAreShared, RunsEndAtTheFirstFault, RunsHavePrefixes, RunsHaveNoFault, RunsOfGoodPages, SamplesAreReadWhole, StoppedRunsWriteAlike};
 
+use outside::FontSource;
 use page_index::laws::documents;
 
 /// A run writes the pages before the first that fails, and no page after it matters.
@@ -26,6 +28,17 @@ pub fn runs()
 {
     documents();
     page_index::laws::pages();
+    page_draw::laws::values();
+}
+
+/// Two runs by one worker over the same document, for the same settings and known font files, that
+/// end well or at a page end alike: at the same page, with one history of the cache's calls, and
+/// with one report, where their loads are as many or no summary is asked for. `F` and `G` are the
+/// workers' sources.
+pub fn one_worker<F: FontSource, G: FontSource>()
+    ensures { RunsOfOneWorkerAreAlike F G }
+{
+    runs();
     page_draw::laws::values();
 }
 

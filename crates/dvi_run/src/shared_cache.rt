@@ -83,7 +83,8 @@ pub fn draw_with_cache<R: Threads + Wait + Sync, F: FontSource + Send, O: Output
     ensures few_claims { FewClaims (calls_of result.2.items) }
     ensures workers { (k : ℕ) (d : _) → k < length workers.old
         → WorkerRan (MayBreakOff (value_of_ending result.0) (Some result.1))
-        (EveryPageCameToItsEnd (length workers.old) (value_of_ending result.0)) F.library F.faults F.loads
+        (EveryPageCameToItsEnd (length workers.old) (value_of_ending result.0))
+        F.library F.faults F.loads
         (record { library = known; res = index.now.res; sheet = settings.now.sheet })
         index.now.reading
         (calls_of result.2.items) (k + 1)
@@ -149,7 +150,8 @@ pub fn draw_with_shared_cache<R: Threads + Wait + Sync, F: FontSource + Send, O:
     ensures few_claims { FewClaims (calls_of history.new.items) }
     ensures workers { (k : ℕ) (d : _) → k < length workers.old
         → WorkerRan (MayBreakOff (value_of_ending result.0) result.1)
-        (EveryPageCameToItsEnd (length workers.old) (value_of_ending result.0)) F.library F.faults F.loads
+        (EveryPageCameToItsEnd (length workers.old) (value_of_ending result.0))
+        F.library F.faults F.loads
         (record { library = known; res = index.now.res; sheet = settings.now.sheet })
         index.now.reading
         (calls_of history.new.items) (k + 1)
