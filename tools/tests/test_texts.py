@@ -53,8 +53,8 @@ class Readme(unittest.TestCase):
 
     def test_what_is_proved_says_no_more_than_the_clauses(self):
         proved = section(self.text, 'What is proved')
-        self.assertIn('Each call ends, but for those that may wait for a turn', proved)
-        self.assertIn('Memory may run out at any time: status 9 may then come in place of any other', proved)
+        self.assertIn('Each call ends but those that may wait for a turn', proved)
+        self.assertIn('Status 9 is for memory that ran out. It may come in place of any other', proved)
         self.assertEqual(re.findall(r'and the run ends\b', proved), [])
 
     def test_words_that_a_stranger_reads_twice(self):

@@ -14,7 +14,7 @@ use Rattle.page_workers.proofs.Lists.{same_default}
 use Rattle.dvi_run.specs.Rounds.{SameBut, WasCleared}
 use Rattle.dvi_run.specs.Stacks.{AreFrom, AreResults, Collected, HasOnTop}
 use Rattle.dvi_run.proofs.ResultsToWrite.{reverse_cons}
-use Rattle.dvi_run.proofs.WorkersInRounds.{cons_cases, set_each}
+use Rattle.dvi_run.proofs.PagesDrawn.{cons_cases, set_each}
 
 -- ---- the pages of results
 

@@ -19,7 +19,7 @@ use Rattle.dvi_run.specs.Tally.{CountsTo, TallyMatchesRun}
 use Rattle.dvi_run.specs.Sampled.{UsesTheSample}
 use Rattle.dvi_run.specs.Outside.{Drawing, Task}
 use Rattle.dvi_run.specs.Looked.{MayBreakOff}
-use Rattle.dvi_run.specs.Together.{Answered, GaveUpOnlyBroken, WorkersAreDone, PagesMatchHistory, IsOneHistory, WorkerDone}
+use Rattle.dvi_run.specs.Together.{Answered, run_end, GaveUpOnlyBroken, WorkersAreDone, PagesMatchHistory, IsOneHistory, WorkerDone}
 use Rattle.dvi_run.specs.declared.ending.Ending.{Ending}
 use Rattle.dvi_run.specs.declared.ending.Ending.TheVariants as code
 use Rattle.command_line.specs.declared.settings.Settings.{Settings}
@@ -175,7 +175,7 @@ module _ {F : Type 0} (task : Task) (drawing : Drawing F) (tally : Option Tally)
   abbrev Drew : EndingValue → List ℕ → Type 0
   Drew e bytes = PagesMatchHistory task drawing (status_of e) e tally bytes
 
-  answered_8 : (reading : Reading) (k : ℕ) (w : Worker F) → Answered task reading drawing.history 0 Written tally k w → Answered task reading drawing.history 8 Notes tally k w
+  answered_8 : (reading : Reading) (k : ℕ) (w : Worker F) → Answered task reading drawing.history (run_end 0 Written tally) k w → Answered task reading drawing.history (run_end 8 Notes tally) k w
   answered_8 reading k w a = record {
     keys = a.keys;
     looked = elim a.looked [

@@ -8,6 +8,7 @@ pub mod Dots
 pub mod Outcomes
 pub mod Clauses
 pub mod Looks
+pub mod PagesDrawn
 pub mod WorkersInRounds
 pub mod Shares
 pub mod ResultsToWrite
@@ -20,6 +21,7 @@ pub mod WorkerSeats
 pub mod PromisesKept
 pub mod CountedPages
 pub mod RunOfWorkers
+pub mod FirstWorkers
 pub mod EndAfterReport
 pub mod GivenSettings
 pub mod MovedResults

@@ -18,7 +18,7 @@ use Rattle.dvi_run.specs.Looked.{BrokenLooks, EndsBroken, MayBreakOff, WholeLook
 use Rattle.dvi_run.specs.Rounds.{indexed_of}
 use Rattle.dvi_run.specs.Sampled.{SourcesAreKept, TookResults}
 use Rattle.dvi_run.specs.Outside.{Drawing, Sources, StreamChange, task_for_sample}
-use Rattle.dvi_run.specs.Together.{Answered, GaveUpOnlyBroken, WorkersAreDone, PagesMatchHistory, IsReadyWorker, RestIsKept, SomeUsed, SourceRose, WorkerDone}
+use Rattle.dvi_run.specs.Together.{Answered, run_end, GaveUpOnlyBroken, WorkersAreDone, PagesMatchHistory, IsReadyWorker, RestIsKept, SomeUsed, SourceRose, WorkerDone}
 use Rattle.dvi_run.specs.declared.tally.Tally.{Tally}
 use Rattle.dvi_run.specs.Shares.{PartitionPages}
 use Rattle.dvi_run.proofs.Shares.{shared_as}
@@ -61,7 +61,7 @@ module _ {F G : Type 0} (mine : Worker G) (was now : Worker F) (h : TookResults 
   ]
 
   answered_handed : (known : Option FileTable) (pages : ℕ) (settings : Settings) (reading : Reading) (history : List Call) (status : ℕ) (e : EndingValue) (tally : Option Tally) (k : ℕ)
-      → Answered (task_for_sample None (Some (made_files settings.packed)) settings) reading history status e tally k mine → Answered (task_for_sample (Some pages) known settings) reading history status e tally k now
+      → Answered (task_for_sample None (Some (made_files settings.packed)) settings) reading history (run_end status e tally) k mine → Answered (task_for_sample (Some pages) known settings) reading history (run_end status e tally) k now
   answered_handed known pages settings reading history status e tally k a =
       let g = setup_with (Some (made_files settings.packed)) settings in
       record {

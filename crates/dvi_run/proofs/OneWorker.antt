@@ -254,12 +254,12 @@ same_keys one g files known r (p ∷ pages) keys others a b =
     a.2 ∙ (ap₂ (λ (x y : List FontKey). x ++ y) here.1 (same_keys one g files known r pages a.1 b.1 a.4 b.4) ∙ sym b.2)
 
 pub one_worker : (F G : Type 0) → OneReading → OneRun → PagesHaveOneValue → RunsOfOneWorkerAreAlike F G
-one_worker F G reading one law task files bytes old new other later before after was now history calls e f tally t loads n single known long size by also a b =
+one_worker F G reading one law task files bytes output other before after was now history calls e f tally t loads n single known long size by also a b =
     let g = setup_of task in
-    let x = fault_is old new a.0 a.1 e by a.3.0 in
-    let y = fault_is other later b.0 b.1 f also b.3.0 in
+    let x = fault_is output.before output.after a.0 a.1 e by a.3.0 in
+    let y = fault_is other.before other.after b.0 b.1 f also b.3.0 in
     let end : page_named e ≡ page_named f =
-    same_end reading one g files known bytes a.0 b.0 a.1 b.1 a.2 b.2 (page_named e) (page_named f) x y (whole_is old new a.0 a.1 e by a.3.0) (whole_is other later b.0 b.1 f also b.3.0) in
+    same_end reading one g files known bytes a.0 b.0 a.1 b.1 a.2 b.2 (page_named e) (page_named f) x y (whole_is output.before output.after a.0 a.1 e by a.3.0) (whole_is other.before other.after b.0 b.1 f also b.3.0) in
     let same : a.0 ≡ b.0 = same_reading reading one g files known bytes a.0 b.0 a.1 b.1 a.2 b.2 in
     let d = one_of after 0 (omega (arith, long)) in
     let c = one_of now 0 (omega (arith, size)) in
@@ -278,13 +278,13 @@ one_worker F G reading one law task files bytes old new other later before after
     same_keys law g files known b.0 (get_or now 0 c).pages.items p.keys q.keys
     (subst (λ (ps : List ℕ). WholeLooks (finding g b.0) (indexed_of g b.0) g.sheet ps p.keys) pages (subst (λ (r : Reading). WholeLooks (finding g r) (indexed_of g r) g.sheet (get_or after 0 d).pages.items p.keys) same looked)) others in
     let calls_are : history ≡ calls = p.one single (not_cut_off e by) ∙ (ap (solo_history task.settings.cache 1) keys ∙ sym (q.one single (not_cut_off f also))) in
-    let ta = tally_there task.settings.summary old new history tally e a.1 by a.3.1 in
-    let tb = tally_there task.settings.summary other later calls t f b.1 also b.3.1 in
+    let ta = tally_there task.settings.summary output.before output.after history tally e a.1 by a.3.1 in
+    let tb = tally_there task.settings.summary other.before other.after calls t f b.1 also b.3.1 in
     let whole : whole_pages a.1 ≡ whole_pages b.1 =
-    same_whole reading one g files known bytes a.0 b.0 a.1 b.1 a.2 b.2 (page_named e) x (y ∙ sym end) (whole_is old new a.0 a.1 e by a.3.0) (λ none. whole_is other later b.0 b.1 f also b.3.0 (sym end ∙ none)) in
+    same_whole reading one g files known bytes a.0 b.0 a.1 b.1 a.2 b.2 (page_named e) x (y ∙ sym end) (whole_is output.before output.after a.0 a.1 e by a.3.0) (λ none. whole_is other.before other.after b.0 b.1 f also b.3.0 (sym end ∙ none)) in
     let count : ta.0.pages ≡ tb.0.pages =
-    one_count a.1 b.1 (page_named e) ta.0.pages tb.0.pages whole (tally_is task.settings.summary old new ta.0 e a.1 by ta.2)
-    (subst (λ (named : Option FailingPage). pages_by b.1 named tb.0.pages) (sym end) (tally_is task.settings.summary other later tb.0 f b.1 also tb.2)) in
+    one_count a.1 b.1 (page_named e) ta.0.pages tb.0.pages whole (tally_is task.settings.summary output.before output.after ta.0 e a.1 by ta.2)
+    (subst (λ (named : Option FailingPage). pages_by b.1 named tb.0.pages) (sym end) (tally_is task.settings.summary other.before other.after tb.0 f b.1 also tb.2)) in
     let black : task.settings.summary ≡ true → ta.0.black ≡ tb.0.black =
     λ asked. ta.2.black asked ∙ (ap₂ (λ (m : ℕ) (ps : List Bitmap). sum_by black_count (take m ps)) count whole ∙ sym (tb.2.black asked)) in
     let line : line_of e ≡ line_of f = line_is e by ∙ (ap line_by end ∙ sym (line_is f also)) in (

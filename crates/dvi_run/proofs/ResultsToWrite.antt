@@ -23,7 +23,7 @@ use Rattle.dvi_run.specs.declared.tally.Tally.{Tally}
 use Rattle.dvi_run.specs.declared.pages.WriteStop.{WriteStop}
 use Rattle.dvi_run.specs.declared.pages.WriteStop.TheVariants as stop
 use Rattle.dvi_run.proofs.Dots.{few_on_sheet}
-use Rattle.dvi_run.proofs.WorkersInRounds.{AreWhole, CutAmong, bitmap_whole, cons_cases, few_sure, only, source_failed, sure_where_cut, whole_outcome, why_stops, wrote_it}
+use Rattle.dvi_run.proofs.PagesDrawn.{AreWhole, CutAmong, bitmap_whole, cons_cases, few_sure, only, source_failed, sure_where_cut, whole_outcome, why_stops, wrote_it}
 use Rattle.dvi_run.proofs.PagesWritten.{IsWrittenTo, ends_at, written_more}
 
 -- ---- a stack, from its top on

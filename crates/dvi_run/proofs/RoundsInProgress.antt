@@ -19,7 +19,8 @@ use Rattle.dvi_run.specs.Stacks.{AllDrewNothing, AreFrom, DrewStack}
 use Rattle.dvi_run.specs.Rounds.{FailedAt, IsOutcomeOf, MayBegin, Site, indexed_of}
 use Rattle.dvi_run.proofs.ResultsToWrite.{AreHeld}
 use Rattle.dvi_run.proofs.Shares.{none_shared, shared_as, shared_more}
-use Rattle.dvi_run.proofs.WorkersInRounds.{AreWhole, Came, CutAmong, NeverCut, Stood, begins, bitmap_whole, came_so, none_cut, room_so, stood_as, stood_on, stood_rest}
+use Rattle.dvi_run.proofs.PagesDrawn.{AreWhole, CutAmong, NeverCut, bitmap_whole, none_cut}
+use Rattle.dvi_run.proofs.WorkersInRounds.{Came, Stood, begins, came_so, room_so, stood_as, stood_on, stood_rest}
 
 -- ---- how many pages the next round has
 

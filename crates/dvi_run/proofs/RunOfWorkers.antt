@@ -30,7 +30,7 @@ use Rattle.dvi_run.specs.Rounds.{FailedAt, IsFresh, WorkerRan}
 use Rattle.dvi_run.proofs.Clauses.{AtPage, at_page, ends_late}
 use Rattle.page_workers.specs.Seating.{IsUnused}
 use Rattle.dvi_run.proofs.Shares.{none_shared, shared_as}
-use Rattle.dvi_run.specs.Together.{Answered, WorkersAreDone, DrewDocument, PagesMatchHistory, EachUsed, EveryPageCameToItsEndBy, GaveUpOnlyBroken, IsOneHistory, IsReadyWorker, RestIsKept, SomeUsed, SourceRose, WorkerDone}
+use Rattle.dvi_run.specs.Together.{Answered, run_end, WorkersAreDone, DrewDocument, PagesMatchHistory, EachUsed, EveryPageCameToItsEndBy, GaveUpOnlyBroken, IsOneHistory, IsReadyWorker, RestIsKept, SomeUsed, SourceRose, WorkerDone}
 
 -- ---- whose source failed
 
@@ -186,7 +186,7 @@ module _ {F : Type 0} (known : Option FileTable) (settings : Settings) (sources 
           kept = subst NoneReleased mine (ran.whole (inr (single, not_cut_off_by e unbroken)));
         })
 
-    answered : Answered (task_for_sample None known settings) reading history (status_of e) e tally k after
+    answered : Answered (task_for_sample None known settings) reading history (run_end (status_of e) e tally) k after
     answered = record {
       keys = ran.keys;
       looked = ran.looked;
@@ -381,25 +381,3 @@ rest_of_prefix n before prefix long k d le =
     let at : k ≡ length prefix + j = omega arith in
     let back : n + j ≡ k = omega arith in
     ap (λ (i : ℕ). get_or (prefix ++ drop n before) i d) at ∙ get_or-append-add prefix (drop n before) j d ∙ get_or-drop n before j d ∙ ap (λ (i : ℕ). get_or before i d) back
-
--- the first of them may begin
-module _ {F : Type 0} (n : ℕ) (ws : List (Worker F)) (there : n ≤ length ws) where
-  long_prefix : length (take n ws) ≡ n
-  long_prefix = length-take-le n ws there
-
-  pub prefix_some : 1 ≤ n → 1 ≤ length (take n ws)
-  prefix_some some = subst (λ (m : ℕ). 1 ≤ m) (sym long_prefix) some
-
-  pub prefix_few : n ≤ 32 → length (take n ws) ≤ 32
-  prefix_few few = subst (λ (m : ℕ). m ≤ 32) (sym long_prefix) few
-
-  prefix_at : (k : ℕ) (d : Worker F) → k < length (take n ws) → (k < n) × (get_or (take n ws) k d ≡ get_or ws k d)
-  prefix_at k d lt = let below : k < n = subst (λ (m : ℕ). k < m) long_prefix lt in (below, get_or-take n ws k d below)
-
-module _ {F : Type 0} (library : F → Option FileTable) (known : Option FileTable) (n : ℕ) (ws : List (Worker F)) (there : n ≤ length ws)
-    (ready : (k : ℕ) (d : Worker F) → k < n → IsReadyWorker library known (get_or ws k d)) where
-  pub prefix_fresh : (k : ℕ) (d : Worker F) → k < length (take n ws) → IsFresh library known (get_or (take n ws) k d)
-  prefix_fresh k d lt = let at = prefix_at n ws there k d lt in subst (λ (w : Worker F). IsFresh library known w) (sym at.1) (ready k d at.0).fresh
-
-  pub prefix_seatless : (k : ℕ) (d : Worker F) → k < length (take n ws) → (get_or (take n ws) k d).seat ≡ None
-  prefix_seatless k d lt = let at = prefix_at n ws there k d lt in ap (λ (w : Worker F). w.seat) at.1 ∙ (ready k d at.0).seat

@@ -25,7 +25,8 @@ use Rattle.page_draw.specs.Values.{PageValue}
 use Rattle.dvi_run.specs.Pages.{AreValues}
 use Rattle.dvi_run.specs.Tally.{TallyMatches}
 use Rattle.dvi_run.proofs.Shares.{shared_as}
-use Rattle.dvi_run.proofs.WorkersInRounds.{AreWhole, CutAmong, Stood, bitmap_whole, ends, few_sure, never_written, none_cut, settles, stood_rest}
+use Rattle.dvi_run.proofs.PagesDrawn.{AreWhole, CutAmong, bitmap_whole, few_sure, never_written, none_cut}
+use Rattle.dvi_run.proofs.WorkersInRounds.{Stood, ends, settles, stood_rest}
 
 -- ---- rounds
 

@@ -7,7 +7,7 @@ use Rattle.dvi_run.specs.Pages.{FailingPage}
 use Rattle.dvi_run.specs.Endings.{EndingValue, Written, Page, Notes, status_of}
 use Rattle.dvi_run.specs.Report.{report_text}
 use Rattle.dvi_run.specs.Outside.{Task, setup_of}
-use Rattle.dvi_run.specs.Together.{DrewPages}
+use Rattle.dvi_run.specs.Together.{DrewPages, KnownBytes, run_end}
 use Rattle.dvi_run.specs.declared.tally.Tally.{Tally}
 
 -- all pages were written, or a page has no bitmap: nothing but the pages decided how it ended
@@ -28,13 +28,13 @@ page_named _ = None
 -- for. Each is given by what it says of its pages, whatever its streams and its source are.
 abbrev pub RunsOfOneWorkerAreAlike : (F G : Type 0) → Type 0
 RunsOfOneWorkerAreAlike F G =
-    (task : Task) (files : FileTable) (bytes : List ℕ) (old new other later : Option (List ℕ))
+    (task : Task) (files : FileTable) (bytes : List ℕ) (output other : KnownBytes)
     (before after : List (Worker F)) (was now : List (Worker G)) (history calls : List Call)
     (e f : EndingValue) (tally t : Option Tally) (loads n : ℕ)
     → task.settings.workers ≡ 1 → (setup_of task).library ≡ Some files
     → 1 ≤ length after → 1 ≤ length now → IsByItsPages e → IsByItsPages f
-    → DrewPages task old new before after history (status_of e) e tally bytes
-    → DrewPages task other later was now calls (status_of f) f t bytes
+    → DrewPages task output before after history (run_end (status_of e) e tally) bytes
+    → DrewPages task other was now calls (run_end (status_of f) f t) bytes
     → (page_named e ≡ page_named f) × (history ≡ calls)
     × ((loads ≡ n) ⊎ (task.settings.summary ≡ false)
     → report_text task.settings tally loads history e ≡ report_text task.settings t n calls f)

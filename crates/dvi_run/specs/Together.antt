@@ -107,11 +107,19 @@ abbrev pub GaveUpOnlyBroken : {F : Type 0} → EndingValue → Option Tally → 
 GaveUpOnlyBroken e tally calls after =
     NoneReleased calls ⊎ EndsBroken (MayBreakOff e tally) after.pages.items
 
+-- how a run ended, with its status, and what it wrote whole
+pub record RunEnd : Type 0 where
+  pub status : ℕ
+  pub ending : EndingValue
+  pub tally : Option Tally
+
+abbrev pub run_end : ℕ → EndingValue → Option Tally → RunEnd
+run_end status e tally = record { status = status; ending = e; tally = tally }
+
 -- the calls of a used worker's seat answer the look-ups of the pages that it drew, one page after
 -- another; its place among the workers is counted from 0
 pub record Answered {F : Type 0} (task : Task) (reading : Reading) (history : List Call)
-    (status : ℕ) (e : EndingValue) (tally : Option Tally) (place : ℕ) (after : Worker F)
-    : Type 0 where
+    (end : RunEnd) (place : ℕ) (after : Worker F) : Type 0 where
   pub keys : List FontKey
   -- all look-ups of each page, and no claim is given up; or the last page was broken off, and its
   -- look-ups are the first ones: it was neither written nor named with its fault, nor did its write
@@ -119,16 +127,24 @@ pub record Answered {F : Type 0} (task : Task) (reading : Reading) (history : Li
   pub looked : (NoneReleased (own (place + 1) history)
       × WholeLooks (finding (setup_of task) reading) (indexed_of (setup_of task) reading)
       task.settings.sheet after.pages.items keys)
-      ⊎ BrokenLooks (MayBreakOff e tally) (finding (setup_of task) reading)
+      ⊎ BrokenLooks (MayBreakOff end.ending end.tally) (finding (setup_of task) reading)
       (indexed_of (setup_of task) reading) task.settings.sheet after.pages.items keys
-  pub through : EveryPageCameToItsEndBy task.settings.workers status
+  pub through : EveryPageCameToItsEndBy task.settings.workers end.status
       → WholeLooks (finding (setup_of task) reading) (indexed_of (setup_of task) reading)
       task.settings.sheet after.pages.items keys
   pub answered : SeatCalls keys (own (place + 1) history)
   -- the calls of one worker are one list, given these keys, unless the source failed (5) or
   -- memory ran out (9)
-  pub one : task.settings.workers ≡ 1 → WasNotCutOffBy status
+  pub one : task.settings.workers ≡ 1 → WasNotCutOffBy end.status
       → history ≡ solo_history task.settings.cache 1 keys
+
+-- what is known of an output's bytes before a run and after it
+pub record KnownBytes : Type 0 where
+  pub before : Option (List ℕ)
+  pub after : Option (List ℕ)
+
+abbrev pub known_bytes : (before after : Option (List ℕ)) → KnownBytes
+known_bytes before after = record { before = before; after = after }
 
 -- What was drawn of these bytes, which are a document, in a run that ended so: its pages have the
 -- values that say what was written, each font being what the library has for its key; the used
@@ -136,24 +152,24 @@ pub record Answered {F : Type 0} (task : Task) (reading : Reading) (history : Li
 -- and none after its round, or where its write failed after the next one; the calls of each answer
 -- what its pages looked up; and the tally is that of the pages written whole, with their black
 -- pixels where the settings ask for the summary.
-abbrev pub DrewPages : {F : Type 0} → Task → (old new : Option (List ℕ))
-    → (before after : List (Worker F)) → (history : List Call) → (status : ℕ) → EndingValue
-    → Option Tally → (bytes : List ℕ) → Type 0
-DrewPages task old new before after history status e tally bytes =
+abbrev pub DrewPages : {F : Type 0} → Task → KnownBytes → (before after : List (Worker F))
+    → (history : List Call) → RunEnd → (bytes : List ℕ) → Type 0
+DrewPages task output before after history end bytes =
     HoldsOfDocument (setup_of task) bytes (λ reading values.
-    EndsPages old new (Unit {0}) (Unit {0}) e reading values
-    × TallyMatchesRun task.settings.summary old new history tally e values
-    × WorkersDrew (pages_begun reading) task.settings.workers e tally after
+    EndsPages output.before output.after (Unit {0}) (Unit {0}) end.ending reading values
+    × TallyMatchesRun task.settings.summary output.before output.after history end.tally end.ending
+    values
+    × WorkersDrew (pages_begun reading) task.settings.workers end.ending end.tally after
     × EachUsed task.settings.workers before after
-    (λ k _ now. Answered task reading history status e tally k now))
+    (λ k _ now. Answered task reading history end k now))
 
 -- And where no cache was made nothing was.
 abbrev pub PagesMatchHistory : {F : Type 0} → Task → Drawing F → (status : ℕ) → EndingValue
     → Option Tally → (bytes : List ℕ) → Type 0
 PagesMatchHistory task drawing status e tally bytes =
     (IsIdle e × (tally ≡ None) × (drawing.history ≡ []) × (drawing.after ≡ drawing.before))
-    ⊎ DrewPages task drawing.output.before.bytes drawing.output.after.bytes drawing.before
-    drawing.after drawing.history status e tally bytes
+    ⊎ DrewPages task (known_bytes drawing.output.before.bytes drawing.output.after.bytes)
+    drawing.before drawing.after drawing.history (run_end status e tally) bytes
 
 -- ---- the parts of a run
 

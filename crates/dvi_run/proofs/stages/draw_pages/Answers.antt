@@ -6,7 +6,8 @@ use Rattle.command_line.specs.declared.settings.Settings.{Settings}
 use Rattle.dvi_run.specs.Pages.{setup_with}
 use Rattle.dvi_run.specs.Outside.{Drawing, FaultsRose, Sources, change_of, task_for_sample}
 use Rattle.dvi_run.specs.Together.{DrewDocument}
-use Rattle.dvi_run.proofs.RunOfWorkers.{history_for_sample, prefix_few, prefix_fresh, prefix_seatless, prefix_some, of_prefix, one_history, one_of, rest_of_prefix}
+use Rattle.dvi_run.proofs.FirstWorkers.{prefix_few, prefix_fresh, prefix_seatless, prefix_some}
+use Rattle.dvi_run.proofs.RunOfWorkers.{history_for_sample, of_prefix, one_history, one_of, rest_of_prefix}
 use Rattle.dvi_run.proofs.stages.draw_pages.Goals as goal
 
 pub draw_with_shared_cache-requires : goal.draw_with_shared_cache-requires
