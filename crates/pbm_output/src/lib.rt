@@ -5,4 +5,4 @@ mod laws;
 mod write;
 
 pub use laws::{determined_pages, lengths, worked_page};
-pub use write::{WriteFault, write_page};
+pub use write::{WriteFault, write_page, write_page_gathered};
