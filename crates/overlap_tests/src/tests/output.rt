@@ -1,5 +1,7 @@
 //! An output whose first write is held until loads began, which may wait for it.
 
+ghost use Rattle.std.specs.Prelude.{◌≡◌};
+
 use super::meeting::Meeting;
 use outside::{Failed, Output};
 
@@ -29,7 +31,9 @@ impl HeldOutput {
     }
 
     // Takes bytes, and says whether it did.
-    fn takes(&mut self, bytes: &[u8]) -> bool {
+    fn takes(&mut self, bytes: &[u8]) -> bool
+        ensures { self.new.faults ≡ self.old.faults }
+    {
         self.goes_on() && self.written.extend_from_slice(bytes).is_ok()
     }
 }
