@@ -1,5 +1,5 @@
 -- Results that were taken out of workers, page after page from the last one back.
-use Rattle.std.proofs.Common.{◌≡◌, ◌≢◌, ◌⊎◌, inl, inr, ℕ, zero, suc, ◌+◌, ◌-◌, ◌<◌, ◌≤◌, List, [], ◌∷◌, ◌++◌, length, reverse, map, get_or, set, Contains, refl, sym, ap, subst, ◌∙◌, append_assoc, append-nil, arith}
+use Rattle.std.proofs.Common.{◌≡◌, ◌≢◌, ◌⊎◌, inl, inr, ℕ, suc, ◌+◌, ◌-◌, ◌<◌, ◌≤◌, List, [], ◌∷◌, ◌++◌, length, reverse, get_or, set, Contains, refl, sym, ap, subst, ◌∙◌, append_assoc, append-nil, arith}
 use Rattle.std.specs.List.Sorted.{IsStrictlyIncreasing}
 use Rattle.std.proofs.lemmas.Bool.{cases_lt}
 use Rattle.std.proofs.lemmas.List.{get_or_append_left, get_or_push, length-append, length-map, map-append}
@@ -11,7 +11,7 @@ use Rattle.page_workers.specs.Rounds.{pages_of}
 use Rattle.page_workers.specs.declared.worker.PageResult.{PageResult}
 use Rattle.page_workers.specs.declared.worker.Worker.{Worker}
 use Rattle.page_workers.proofs.Lists.{same_default}
-use Rattle.dvi_run.specs.Rounds.{SameBut, WasCleared}
+use Rattle.dvi_run.specs.Rounds.{SameBut}
 use Rattle.dvi_run.specs.Stacks.{AreFrom, AreResults, Collected, HasOnTop}
 use Rattle.dvi_run.proofs.ResultsToWrite.{reverse_cons}
 use Rattle.dvi_run.proofs.PagesDrawn.{cons_cases, set_each}

@@ -1,36 +1,10 @@
 -- The first of some workers may begin a run.
-use Rattle.std.proofs.Common.{◌≡◌, inl, inr, ℕ, ◌+◌, ◌-◌, ◌<◌, ◌≤◌, Bool, List, [], ◌∷◌, ◌++◌, length, get_or, take, drop, Option, Some, None, refl, sym, ap, subst, ◌∙◌, arith, eq-eqb, ne_eqb}
-use Rattle.std.proofs.lemmas.Bool.{cases_lt}
-use Rattle.std.proofs.lemmas.List.{get_or_append_left, get_or_push, get_or-append-add, get_or-drop, get_or-take, length-take-le}
+use Rattle.std.proofs.Common.{◌≡◌, ℕ, ◌<◌, ◌≤◌, List, length, get_or, take, Option, None, sym, ap, subst, ◌∙◌}
+use Rattle.std.proofs.lemmas.List.{get_or-take, length-take-le}
 use Rattle.outside.specs.Library.{FileTable}
-use mathlib.Core.Logic.{dite}
-use native.Mathlib.Decide.{ℕ_discrete}
-use Rattle.cache_core.specs.declared.calls.Call.{Call}
-use Rattle.cache_core.specs.Histories.{own, AreOf, SeatCalls, NoneReleased}
-use Rattle.cache_core.specs.Laws.{FewClaims, SoloIsOne}
-use Rattle.cache_core.specs.Machine.{Legal}
-use Rattle.cache_core.specs.Solo.{solo_history}
-use Rattle.turn_lock.specs.Histories.{AllMade}
-use Rattle.turn_lock.specs.Laws.{AloneIsHistory}
-use Rattle.page_index.specs.Document.{IsDocument, Reading}
-use Rattle.page_draw.specs.Values.{PageValue}
 use Rattle.page_workers.specs.declared.worker.Worker.{Worker}
-use Rattle.dvi_run.specs.Pages.{Setup, setup_with}
-use Rattle.dvi_run.specs.Sampled.{LoadedForSample}
-use Rattle.dvi_run.specs.Outside.{Drawing, FaultsRose, Run, Sources, StreamChange, Task, drawing_of, setup_of, task_for_sample}
-use Rattle.dvi_run.specs.Promises.{ReportMatchesRun, IsNoted, document_of}
-use Rattle.dvi_run.specs.Report.{loads_of, report_text}
-use Rattle.dvi_run.specs.Reading.{HoldsOfInput}
-use Rattle.dvi_run.specs.Endings.{EndingValue, Written, Usage, Document, Page, Source, Input, Output, Notes, Memory, EndsPages, WroteAll, page_status, status_of}
-use Rattle.dvi_run.specs.Looked.{EndsBroken, IsAllWritten, EveryPageCameToItsEnd, IsIdle, MayBreakOff, WasNotCutOff, WasNotCutOffBy}
-use Rattle.dvi_run.specs.Tally.{CountsTo, HadCache, TallyMatchesRun}
-use Rattle.command_line.specs.declared.settings.Settings.{Settings}
-use Rattle.dvi_run.specs.declared.tally.Tally.{Tally}
-use Rattle.dvi_run.specs.Rounds.{FailedAt, IsFresh, WorkerRan}
-use Rattle.dvi_run.proofs.Clauses.{AtPage, at_page, ends_late}
-use Rattle.page_workers.specs.Seating.{IsUnused}
-use Rattle.dvi_run.proofs.Shares.{none_shared, shared_as}
-use Rattle.dvi_run.specs.Together.{Answered, WorkersAreDone, DrewDocument, PagesMatchHistory, EachUsed, EveryPageCameToItsEndBy, GaveUpOnlyBroken, IsOneHistory, IsReadyWorker, RestIsKept, SomeUsed, SourceRose, WorkerDone}
+use Rattle.dvi_run.specs.Rounds.{IsFresh}
+use Rattle.dvi_run.specs.Together.{IsReadyWorker}
 
 module _ {F : Type 0} (n : ℕ) (ws : List (Worker F)) (there : n ≤ length ws) where
   long_prefix : length (take n ws) ≡ n

@@ -15,7 +15,6 @@ use Rattle.packed_rows.specs.Changes.{black_count}
 use Rattle.page_index.specs.Document.{Reading, pages_begun}
 use Rattle.page_draw.specs.Laws.{PagesHaveOneValue}
 use Rattle.page_draw.specs.Values.{PageValue}
-use Rattle.page_workers.specs.declared.worker.Worker.{Worker}
 use Rattle.run_report.specs.Summary.{summary_text}
 use Rattle.run_report.specs.Trace.{trace_text}
 use Rattle.run_report.specs.declared.counts.Counts.{Counts}
@@ -26,12 +25,11 @@ use Rattle.dvi_run.specs.Laws.{OneReading, OneRun}
 use Rattle.dvi_run.specs.Lines.{line_of, page_line}
 use Rattle.dvi_run.specs.Looked.{WasNotCutOffBy, WholeLooks}
 use Rattle.dvi_run.specs.OneWorker.{IsByItsPages, RunsOfOneWorkerAreAlike, page_named}
-use Rattle.dvi_run.specs.Outside.{Task, setup_of}
+use Rattle.dvi_run.specs.Outside.{setup_of}
 use Rattle.dvi_run.specs.Report.{counts_of, if_asked, report_text}
 use Rattle.dvi_run.specs.Rounds.{indexed_of}
 use Rattle.dvi_run.specs.Shares.{ArePartitioned, DrewUpTo, WorkersDrew}
 use Rattle.dvi_run.specs.Tally.{TallyMatches, TallyMatchesRun}
-use Rattle.dvi_run.specs.Together.{Answered, DrewPages}
 use Rattle.dvi_run.specs.declared.tally.Tally.{Tally}
 use Rattle.dvi_run.proofs.Clauses.{AtPage, at_page}
 use Rattle.dvi_run.proofs.CountedPages.{each_page_is_drawn_once}

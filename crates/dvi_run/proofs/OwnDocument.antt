@@ -1,12 +1,11 @@
 -- A run of the sample: how it ends.
-use Rattle.std.proofs.Common.{◌≡◌, ◌∙◌, inl, inr, ℕ, ◌≤◌, List, [], ◌∷◌, length, Option, Some, None, refl, sym, append-nil, arith}
+use Rattle.std.proofs.Common.{inl, inr, ℕ, ◌≤◌, List, [], ◌∷◌, length, Option, Some, refl, sym, append-nil, arith}
 use Rattle.page_index.specs.Faults.{IsFirstFault}
 use Rattle.page_index.specs.declared.faults.DocFault.{DocFault}
-use Rattle.dvi_run.specs.Reading.{IsRead, HoldsOfInput, read_of}
+use Rattle.dvi_run.specs.Reading.{IsRead}
 use Rattle.dvi_run.specs.Pages.{Setup}
-use Rattle.dvi_run.specs.Endings.{EndingValue, Written, Usage, Document, Page, Source, Input, Output, Notes, Memory, EndsBytes, IsAmong, IsEnding, page_status, status_of}
+use Rattle.dvi_run.specs.Endings.{EndingValue, Written, Usage, Document, Page, Source, Input, Output, Notes, Memory, EndsBytes, IsAmong, page_status, status_of}
 use Rattle.dvi_run.proofs.Clauses.{AtPage, at_page}
-use Rattle.dvi_run.proofs.Outcomes.{bytes_end}
 
 -- bytes that fit the limit are read whole
 pub all_taken : (bytes : List ℕ) → length bytes ≤ 67108864 → IsRead (Some bytes) (Some []) bytes

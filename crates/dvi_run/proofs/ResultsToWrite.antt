@@ -1,6 +1,5 @@
 -- The results of a round at hand, and how they are written.
-use Rattle.std.proofs.Common.{◌≡◌, ◌⊎◌, inl, inr, ℕ, suc, ◌+◌, ◌*◌, ◌<◌, ◌≤◌, Bool, List, [], ◌∷◌, ◌++◌, length, reverse, get_or, All, Contains, Option, Result, Ok, Err, IfOk, IsOk, IsErr, IsErrOf, refl, sym, ap, subst, ◌∙◌, add-one, arith}
-use Rattle.std.specs.Prelude.{◌^◌}
+use Rattle.std.proofs.Common.{◌≡◌, inl, inr, ℕ, suc, ◌+◌, ◌*◌, ◌<◌, ◌≤◌, Bool, List, [], ◌∷◌, ◌++◌, length, reverse, get_or, All, Contains, Option, Result, Ok, Err, IfOk, IsOk, IsErrOf, refl, sym, ap, subst, ◌∙◌, add-one, arith}
 use Rattle.std.proofs.lemmas.List.{length-append, reverse-append}
 use Rattle.std.proofs.lemmas.List.Elements.{Contains-get_or, Contains-append_cases, Contains-append_left, Contains-append_right, Contains-push}
 use Rattle.packed_rows.specs.Bitmap.{Bitmap}
@@ -14,14 +13,13 @@ use Rattle.page_draw.specs.declared.stop.PageStop.TheVariants as draw
 use Rattle.page_workers.specs.Rounds.{HasBitmap}
 use Rattle.page_workers.specs.declared.worker.PageResult.{PageResult}
 use Rattle.dvi_run.specs.Pages.{AreValues, Setup}
-use Rattle.dvi_run.specs.Endings.{EndingValue, EndsPages, Source, ending_at}
+use Rattle.dvi_run.specs.Endings.{EndsPages, Source, ending_at}
 use Rattle.dvi_run.specs.Looked.{WasNotCutOff, sure_pages}
 use Rattle.dvi_run.specs.Rounds.{IsOutcomeOf, WroteOutcome}
 use Rattle.dvi_run.specs.Stacks.{HasFewDots, WroteEach, WroteUpTo, WroteWhole}
 use Rattle.dvi_run.specs.Tally.{TallyMatches}
 use Rattle.dvi_run.specs.declared.tally.Tally.{Tally}
 use Rattle.dvi_run.specs.declared.pages.WriteStop.{WriteStop}
-use Rattle.dvi_run.specs.declared.pages.WriteStop.TheVariants as stop
 use Rattle.dvi_run.proofs.Dots.{few_on_sheet}
 use Rattle.dvi_run.proofs.PagesDrawn.{AreWhole, CutAmong, bitmap_whole, cons_cases, few_sure, only, source_failed, sure_where_cut, whole_outcome, why_stops, wrote_it}
 use Rattle.dvi_run.proofs.PagesWritten.{IsWrittenTo, ends_at, written_more}

@@ -1,6 +1,6 @@
 -- A round whose results are at hand, with the workers that drew it, and the round after it.
-use Rattle.std.proofs.Common.{◌≡◌, ◌⊎◌, inl, inr, ℕ, zero, suc, ◌+◌, ◌-◌, ◌*◌, ◌%◌, min, ◌<◌, ◌≤◌, List, [], ◌∷◌, ◌++◌, length, reverse, map, get_or, Contains, Result, IsErr, IsOk, IsErrOf, Ok, Err, refl, sym, ap, subst, ◌∙◌, append-nil, arith}
-use Rattle.std.specs.Prelude.{◌^◌, Option, Some, None}
+use Rattle.std.proofs.Common.{◌≡◌, ◌⊎◌, inl, inr, ℕ, zero, suc, ◌+◌, ◌-◌, ◌*◌, ◌%◌, min, ◌<◌, ◌≤◌, List, [], ◌∷◌, ◌++◌, length, reverse, get_or, Contains, Result, IsErr, IsOk, Ok, Err, refl, sym, ap, subst, ◌∙◌, arith}
+use Rattle.std.specs.Prelude.{◌^◌, None}
 use Rattle.std.specs.List.Sorted.{IsStrictlyIncreasing}
 use Rattle.std.proofs.lemmas.Bool.{cases_lt}
 use Rattle.std.proofs.lemmas.List.{length-map, reverse-reverse}
@@ -8,19 +8,18 @@ use Rattle.std.proofs.lemmas.List.Elements.{Contains-get_or, Contains-append_rig
 use Rattle.page_index.specs.Document.{pages_begun}
 use Rattle.packed_rows.specs.Bitmap.{Bitmap}
 use Rattle.page_draw.specs.declared.stop.PageStop.{PageStop}
-use Rattle.page_draw.specs.declared.stop.PageStop.TheVariants as draw
-use Rattle.page_workers.specs.Rounds.{HasBitmap, MayDraw, DrewNothing, pages_of}
+use Rattle.page_workers.specs.Rounds.{HasBitmap, MayDraw, pages_of}
 use Rattle.page_workers.specs.Seats.{room_at}
 use Rattle.page_workers.specs.declared.worker.PageResult.{PageResult}
 use Rattle.page_workers.specs.declared.worker.Worker.{Worker}
 use Rattle.page_workers.proofs.Drawn.{drew_pages, drew_results}
 use Rattle.dvi_run.specs.Shares.{PartitionPages}
-use Rattle.dvi_run.specs.Stacks.{AllDrewNothing, AreFrom, DrewStack}
+use Rattle.dvi_run.specs.Stacks.{AreFrom, DrewStack}
 use Rattle.dvi_run.specs.Rounds.{FailedAt, IsOutcomeOf, MayBegin, Site, indexed_of}
 use Rattle.dvi_run.proofs.ResultsToWrite.{AreHeld}
-use Rattle.dvi_run.proofs.Shares.{none_shared, shared_as, shared_more}
+use Rattle.dvi_run.proofs.Shares.{none_shared, shared_more}
 use Rattle.dvi_run.proofs.PagesDrawn.{AreWhole, CutAmong, NeverCut, bitmap_whole, none_cut}
-use Rattle.dvi_run.proofs.WorkersInRounds.{Came, Stood, begins, came_so, room_so, stood_as, stood_on, stood_rest}
+use Rattle.dvi_run.proofs.WorkersInRounds.{Came, Stood, begins, came_so, room_so, stood_as, stood_on}
 
 -- ---- how many pages the next round has
 

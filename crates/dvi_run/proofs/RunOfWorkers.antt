@@ -1,7 +1,7 @@
 -- From the pages that workers drew to what holds of their run.
-use Rattle.std.proofs.Common.{◌≡◌, inl, inr, ℕ, ◌+◌, ◌-◌, ◌<◌, ◌≤◌, Bool, List, [], ◌∷◌, ◌++◌, length, get_or, take, drop, Option, Some, None, refl, sym, ap, subst, ◌∙◌, arith, eq-eqb, ne_eqb}
+use Rattle.std.proofs.Common.{◌≡◌, inl, inr, ℕ, ◌+◌, ◌-◌, ◌<◌, Bool, List, [], ◌∷◌, ◌++◌, length, get_or, take, drop, Option, Some, None, refl, sym, ap, subst, ◌∙◌, arith, eq-eqb, ne_eqb}
 use Rattle.std.proofs.lemmas.Bool.{cases_lt}
-use Rattle.std.proofs.lemmas.List.{get_or_append_left, get_or_push, get_or-append-add, get_or-drop, get_or-take, length-take-le}
+use Rattle.std.proofs.lemmas.List.{get_or_append_left, get_or_push, get_or-append-add, get_or-drop, get_or-take}
 use Rattle.outside.specs.Library.{FileTable}
 use mathlib.Core.Logic.{dite}
 use native.Mathlib.Decide.{ℕ_discrete}
@@ -22,11 +22,11 @@ use Rattle.dvi_run.specs.Promises.{ReportMatchesRun, IsNoted, document_of}
 use Rattle.dvi_run.specs.Report.{loads_of, report_text}
 use Rattle.dvi_run.specs.Reading.{HoldsOfInput}
 use Rattle.dvi_run.specs.Endings.{EndingValue, Written, Usage, Document, Page, Source, Input, Output, Notes, Memory, EndsPages, WroteAll, page_status, status_of}
-use Rattle.dvi_run.specs.Looked.{EndsBroken, IsAllWritten, EveryPageCameToItsEnd, IsIdle, MayBreakOff, WasNotCutOff, WasNotCutOffBy}
+use Rattle.dvi_run.specs.Looked.{IsAllWritten, EveryPageCameToItsEnd, IsIdle, MayBreakOff, WasNotCutOff, WasNotCutOffBy}
 use Rattle.dvi_run.specs.Tally.{CountsTo, HadCache, TallyMatchesRun}
 use Rattle.command_line.specs.declared.settings.Settings.{Settings}
 use Rattle.dvi_run.specs.declared.tally.Tally.{Tally}
-use Rattle.dvi_run.specs.Rounds.{FailedAt, IsFresh, WorkerRan}
+use Rattle.dvi_run.specs.Rounds.{FailedAt, WorkerRan}
 use Rattle.dvi_run.proofs.Clauses.{AtPage, at_page, ends_late}
 use Rattle.page_workers.specs.Seating.{IsUnused}
 use Rattle.dvi_run.proofs.Shares.{none_shared, shared_as}

@@ -1,5 +1,5 @@
 -- What is so of the workers when the rounds are over.
-use Rattle.std.proofs.Common.{◌≡◌, ◌⊎◌, inl, inr, ℕ, suc, ◌+◌, ◌*◌, ◌/◌, ◌%◌, ◌<◌, ◌≤◌, Bool, true, false, cond, List, [], ◌∷◌, ◌++◌, length, reverse, get_or, Contains, Result, Ok, Err, IsOk, IsErrOf, refl, sym, ap, subst, ◌∙◌, add-one, arith}
+use Rattle.std.proofs.Common.{◌≡◌, inl, inr, ℕ, ◌+◌, ◌*◌, ◌/◌, ◌%◌, ◌<◌, ◌≤◌, Bool, true, false, cond, List, ◌∷◌, length, reverse, get_or, Contains, Result, Ok, Err, IsOk, refl, sym, ap, subst, add-one, arith}
 use Rattle.std.specs.Prelude.{Option, None, Some, nat_lt}
 use Rattle.std.proofs.lemmas.List.Elements.{Contains-append_right}
 use Rattle.std.proofs.lemmas.Bool.{cases_lt}
@@ -7,11 +7,11 @@ use Rattle.page_index.specs.Document.{pages_begun}
 use Rattle.packed_rows.specs.Bitmap.{Bitmap}
 use Rattle.page_draw.specs.declared.stop.PageStop.{PageStop}
 use Rattle.page_draw.specs.declared.stop.PageStop.TheVariants as draw
-use Rattle.page_workers.specs.Rounds.{HasBitmap, DrewNothing}
+use Rattle.page_workers.specs.Rounds.{HasBitmap}
 use Rattle.page_workers.specs.declared.worker.PageResult.{PageResult}
 use Rattle.page_workers.specs.declared.worker.Worker.{Worker}
 use Rattle.dvi_run.specs.Endings.{EndingValue, EndsPages, Written, Source, ending_at}
-use Rattle.dvi_run.specs.Looked.{EveryPageCameToItsEnd, MayBreakOff, WasNotCutOff}
+use Rattle.dvi_run.specs.Looked.{EveryPageCameToItsEnd, MayBreakOff}
 use Rattle.dvi_run.specs.Shares.{PartitionPages, WorkersDrew, DrewUpTo, next_end, round_end}
 use Rattle.dvi_run.specs.Stacks.{AllDrewNothing, DrewStack, StoppedAhead, WroteUpTo, WroteWhole}
 use Rattle.dvi_run.specs.Rounds.{AfterRounds, MayBegin, BetweenRounds, Site, WroteOutcome, indexed_of}

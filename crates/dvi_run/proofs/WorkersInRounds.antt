@@ -1,25 +1,14 @@
 -- Workers through the rounds.
-use Rattle.std.proofs.Common.{length, get_or, set, ◌≡◌, ◌≢◌, ◌⊎◌, inl, inr, ℕ, zero, suc, ◌+◌, ◌-◌, ◌<◌, ◌≤◌, Bool, List, [], ◌∷◌, ◌++◌, Option, Some, Result, Ok, Err, refl, sym, ap, subst, ◌∙◌, arith}
-use Rattle.std.specs.Prelude.{◌^◌, ◌*◌, Contains, IsErrOf, IsOk, None}
-use Rattle.std.proofs.lemmas.List.Elements.{Contains-append_cases, Contains-append_right}
-use mathlib.Core.Logic.{dite}
-use Rattle.std.proofs.lemmas.Bool.{cases_lt}
-use Rattle.std.proofs.lemmas.List.{get_or-set_same, get_or-set_other}
-use native.Mathlib.Decide.{ℕ_discrete}
-use Rattle.std.specs.Io.KnownBytes.{Appends}
-use Rattle.pbm_output.specs.Pbm.{page_text}
-use Rattle.page_workers.proofs.Lists.{same_default}
+use Rattle.std.proofs.Common.{length, ◌≡◌, ◌⊎◌, inl, inr, ℕ, ◌+◌, ◌<◌, ◌≤◌, List, [], ◌∷◌, Option, Result, Ok, Err, refl, sym, ap, subst, ◌∙◌, arith}
+use Rattle.std.specs.Prelude.{◌^◌, ◌*◌, Contains, IsErrOf, None}
+use Rattle.std.proofs.lemmas.List.Elements.{Contains-append_right}
 use Rattle.outside.specs.Counts.{Rose}
 use Rattle.outside.specs.Library.{FileTable}
 use Rattle.outside.proofs.Growth.{rose_later}
-use Rattle.outside.specs.declared.keys.FontKey.{FontKey}
 use Rattle.pixel_round.specs.declared.units.Units.{Units}
 use Rattle.packed_rows.specs.Bitmap.{Bitmap}
-use Rattle.page_index.specs.Document.{Reading, pages_begun}
 use Rattle.turn_lock.specs.Seats.{SeatView}
-use Rattle.page_index.specs.Pages.{Indexed}
 use Rattle.font_decode.specs.Decoding.{IsFontOf}
-use Rattle.page_draw.specs.Members.{Finding}
 use Rattle.font_decode.specs.Desks.{TrailGrew}
 use Rattle.font_decode.proofs.Trails.{trail_none, trail_more, trail_as}
 use Rattle.page_draw.specs.Drawn.{IsWhole}
@@ -28,16 +17,12 @@ use Rattle.page_draw.specs.declared.stop.PageStop.TheVariants as draw
 use Rattle.page_workers.specs.declared.worker.PageResult.{PageResult}
 use Rattle.page_workers.specs.declared.worker.Worker.{Worker}
 use Rattle.page_workers.specs.Seats.{BenchFits, asked_at, library_at, units_at, room_at, trail_at}
-use Rattle.page_workers.specs.Rounds.{BitmapsToLast, Drew, DrewPage, HasBitmap, IsOutcome, DrewNothing, trail_of}
-use Rattle.page_workers.proofs.Drawn.{drew_pages, drew_results}
-use Rattle.dvi_run.specs.Pages.{Setup, IsValueOf, finding}
-use Rattle.dvi_run.specs.Endings.{EndingValue, Written, Usage, Document, Page, Source, Input, Output, Notes, Memory, IsWriteStop, ending_at}
-use Rattle.dvi_run.specs.Looked.{WholeLooks, BrokenLooks, IsAllWritten, WasNotCutOff, sure_pages}
-use Rattle.dvi_run.specs.Rounds.{Site, IsSteady, Trails, BetweenRounds, AfterRounds, MayBegin, SameBut, WasCleared, FailedAt, IsOutcomeOf, WroteOutcome, black_of, keys_of, indexed_of}
-use Rattle.dvi_run.specs.declared.pages.WriteStop.{WriteStop}
-use Rattle.dvi_run.specs.declared.pages.WriteStop.TheVariants as stop
-use Rattle.dvi_run.proofs.Looks.{whole_more, broken_more, broken_as, keys_are, keys_grew, broken_keys}
-use Rattle.dvi_run.proofs.PagesDrawn.{CutAmong, LooksTo, NeverCut, bitmap_sound, bitmap_whole, cons_cases, looks_to, only, value_of}
+use Rattle.page_workers.specs.Rounds.{BitmapsToLast, Drew, DrewPage, IsOutcome, DrewNothing, trail_of}
+use Rattle.dvi_run.specs.Pages.{finding}
+use Rattle.dvi_run.specs.Looked.{WholeLooks, BrokenLooks}
+use Rattle.dvi_run.specs.Rounds.{Site, IsSteady, Trails, BetweenRounds, AfterRounds, MayBegin, WasCleared, FailedAt, IsOutcomeOf, keys_of, indexed_of}
+use Rattle.dvi_run.proofs.Looks.{broken_as, keys_are}
+use Rattle.dvi_run.proofs.PagesDrawn.{CutAmong, LooksTo, NeverCut, bitmap_sound, bitmap_whole, cons_cases, looks_to, value_of}
 
 module _ {F : Type 0} (s : Site F) where
   -- ---- a worker whose results alone change

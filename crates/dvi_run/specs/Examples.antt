@@ -1,13 +1,11 @@
 -- The line of each ending, written out.
-use Rattle.std.specs.Prelude.{◌≡◌, ℕ, List, [], codes, pos, negsuc}
+use Rattle.std.specs.Prelude.{◌≡◌, ℕ, [], codes, negsuc}
 use Rattle.drift_rules.specs.declared.faults.PenFault.TheVariants as pen
 use Rattle.dvi_commands.specs.declared.command.CommandFault.TheVariants as command
-use Rattle.page_index.specs.declared.faults.DocFault.{DocFault}
 use Rattle.page_index.specs.declared.faults.DocFault.TheVariants as doc
 use Rattle.page_index.specs.declared.faults.PostField.TheVariants as field
 use Rattle.vf_expand.specs.Faults.{PageFaultValue}
 use Rattle.vf_expand.specs.Faults as page
-use Rattle.dvi_run.specs.Pages.{FailingPage}
 use Rattle.dvi_run.specs.Endings.{EndingValue, Written, Usage, Document, Page, Source, Input, Output, Notes, Memory}
 use Rattle.dvi_run.specs.Lines.{line_of}
 

@@ -1,6 +1,6 @@
 -- The results of a round on a stack, the next page to be written on top: how they come there, and
 -- how they are written.
-use Rattle.std.specs.Prelude.{◌≡◌, ◌⊎◌, ℕ, suc, ◌+◌, ◌-◌, ◌*◌, ◌<◌, ◌≤◌, ◌++◌, Bool, List, [], ◌∷◌, length, reverse, Contains, IfOk, Option, None, Some, Ok, Err, slice_index_or}
+use Rattle.std.specs.Prelude.{◌≡◌, ◌⊎◌, ℕ, suc, ◌+◌, ◌-◌, ◌*◌, ◌<◌, ◌≤◌, ◌++◌, Bool, List, [], ◌∷◌, length, reverse, Contains, IfOk, Option, None, Ok, Err, slice_index_or}
 use Rattle.std.specs.List.Sorted.{IsStrictlyIncreasing}
 use Rattle.outside.specs.Library.{FileTable}
 use Rattle.packed_rows.specs.Changes.{black_count}

@@ -1,8 +1,5 @@
-use Rattle.std.proofs.Common.{◌≡◌, ℕ, ◌+◌, ◌-◌, ◌<◌, ◌≤◌, ◌++◌, ◌∷◌, [], List, length, get_or, set, sym, subst, ap, ◌∙◌, refl, arith, rules, vec_len, vec_capacity}
+use Rattle.std.proofs.Common.{◌≡◌, ℕ, ◌+◌, ◌-◌, ◌<◌, List, length, sym, subst, refl, arith, rules}
 use Rattle.page_workers.specs.declared.worker.PageResult.{PageResult}
-use Rattle.page_workers.specs.declared.worker.Worker.{Worker}
-use Rattle.dvi_run.specs.Rounds.{SameBut}
-use Rattle.dvi_run.specs.Stacks.{AreResults, HasOnTop}
 use Rattle.dvi_run.proofs.CollectedResults.{CollectedTo, collected, none_collected, step_none, step_some}
 use Rattle.dvi_run.proofs.collecting.collect.Goals as goal
 

@@ -1,4 +1,4 @@
-use Rattle.std.proofs.Common.{◌≡◌, ℕ, ◌≤◌, ◌+◌, length, vec_len, vec_capacity}
+use Rattle.std.proofs.Common.{ℕ, ◌≤◌, ◌+◌, vec_len, vec_capacity}
 use Rattle.dvi_run.specs.Stacks.{AreResults}
 use Rattle.dvi_run.proofs.CollectedResults.{CollectedTo}
 use Rattle.dvi_run.proofs.collecting.collect.Given as goal

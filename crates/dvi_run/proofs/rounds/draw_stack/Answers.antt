@@ -1,4 +1,4 @@
-use Rattle.std.proofs.Common.{◌≡◌, ℕ, ◌+◌, ◌<◌, ◌≤◌, ◌++◌, List, [], length, get_or, subst, sym, ap, ◌∙◌, arith, rules}
+use Rattle.std.proofs.Common.{◌≡◌, ℕ, ◌<◌, length, subst, ◌∙◌, rules}
 use Rattle.dvi_run.proofs.RoundResults.{are_results}
 use Rattle.dvi_run.proofs.rounds.draw_stack.Goals as goal
 

@@ -1,25 +1,19 @@
-use Rattle.std.proofs.Common.{Bool, ◌*◌, ◌≡◌, ◌⊎◌, inl, inr, ◌≤◌, ◌<◌, ◌+◌, ℕ, List, [], length, reverse, get_or, map, All, Contains, refl, sym, subst, ap, ◌∙◌, arith, rules}
-use Rattle.std.specs.Prelude.{None, Some}
+use Rattle.std.proofs.Common.{Bool, ◌*◌, ◌≡◌, ◌≤◌, ◌<◌, ◌+◌, ℕ, List, length, reverse, get_or, map, All, Contains, refl, sym, subst, ◌∙◌, arith, rules}
+use Rattle.std.specs.Prelude.{None}
 use Rattle.std.proofs.lemmas.List.{length-reverse}
 use Rattle.std.proofs.lemmas.List.Elements.{All-contains}
 use Rattle.outside.specs.Counts.{Rose}
 use Rattle.outside.proofs.Growth.{rose_later}
 use Rattle.page_index.specs.Document.{pages_begun}
-use Rattle.page_draw.specs.Values.{PageValue}
 use Rattle.page_workers.specs.Rounds.{HasBitmap}
 use Rattle.page_workers.specs.declared.worker.PageResult.{PageResult}
 use Rattle.page_workers.specs.declared.worker.Worker.{Worker}
-use Rattle.dvi_run.specs.Endings.{EndingValue, EndsPages, Source, Written, ending_at}
 use Rattle.dvi_run.specs.Laws.{good}
-use Rattle.dvi_run.specs.Looked.{EveryPageCameToItsEnd}
-use Rattle.dvi_run.specs.Pages.{AreValues}
 use Rattle.dvi_run.specs.Rounds.{site}
-use Rattle.dvi_run.specs.Shares.{WorkersDrew}
 use Rattle.dvi_run.specs.Stacks.{DrewStack, HasFewDots, StoppedAhead, WroteUpTo, WroteWhole}
-use Rattle.dvi_run.specs.Tally.{TallyMatches}
 use Rattle.dvi_run.proofs.RoundsInProgress.{RoundInProgress, IsCount, SomeFailed, is_count, may_draw, next_at_hand, nothing_at_hand}
 use Rattle.dvi_run.proofs.ResultsToWrite.{all_of, ends_up_to, few_on_stack, good_whole, in_reverse, inside_hand, to_reverse, wrote_whole}
-use Rattle.dvi_run.proofs.WorkersAfterRounds.{WorkersAfterRounds, ends_ahead, over_ahead, over_here, over_written}
+use Rattle.dvi_run.proofs.WorkersAfterRounds.{ends_ahead, over_ahead, over_here, over_written}
 use Rattle.dvi_run.proofs.PagesWritten.{IsWrittenTo, ends_written, written_none}
 use Rattle.dvi_run.proofs.rounds.write_rounds.Goals.{then-loop-first-test+else-have_bitmaps, else-loop-first-test}
 use Rattle.dvi_run.proofs.rounds.write_rounds.Goals as goal

@@ -1,6 +1,4 @@
-use Rattle.std.proofs.Common.{◌≡◌, ◌≤◌, ◌+◌, ◌*◌, ◌++◌, ◌∷◌, [], Bool, List, All, Ok, length, reverse, refl, sym, ap, ◌∙◌, rules, arith, subst}
-use Rattle.std.proofs.lemmas.List.{length-append}
-use Rattle.dvi_run.proofs.StackWritten.{All-first}
+use Rattle.std.proofs.Common.{◌≡◌, ◌+◌, ◌++◌, ◌∷◌, [], Bool, List, All, Ok, reverse, refl, sym, ap, ◌∙◌, rules, arith, subst}
 use Rattle.outside.specs.Counts.{Rose}
 use Rattle.page_workers.specs.declared.worker.PageResult.{PageResult}
 use Rattle.dvi_run.specs.Rounds.{WroteOutcome}
