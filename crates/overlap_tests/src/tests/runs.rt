@@ -35,6 +35,7 @@ fn settings() -> Settings
         workers: 2,
         cache: 4,
         sample: None,
+        packed: false,
         trace: false,
         summary: false,
     }
