@@ -124,7 +124,10 @@ pub fn document(alloc: Global, pages: &[&[u8]]) -> Result<Vec<u8>, Fail> {
 pub fn page_count(bytes: &[u8]) -> usize {
     let mut rest = bytes;
     let mut count = 0usize;
-    while let Some(later) = rest.strip_prefix(PAGE) {
+    for _ in 0..bytes.len() {
+        let Some(later) = rest.strip_prefix(PAGE) else {
+            break;
+        };
         rest = later;
         count = count.saturating_add(1);
     }
