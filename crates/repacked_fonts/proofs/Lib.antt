@@ -1,0 +1,4 @@
+pub mod Fonts
+pub mod Pages
+pub mod Glyphs
+pub mod TwoSamples
