@@ -1,5 +1,5 @@
 -- Rasters by their pixels, and their plain bitmaps.
-use Rattle.std.proofs.Common.{◌≡◌, ◌∙◌, ℕ, ◌<◌, false, List, [], length, get_or, sym, ap, subst, arith, Bool}
+use Rattle.std.proofs.Common.{◌≡◌, ◌∙◌, ℕ, ◌<◌, false, List, [], length, get_or, sym, subst, arith, Bool}
 use Rattle.std.proofs.lemmas.List.{ext_get_or}
 use Rattle.packed_rows.specs.Bitmap.{Bitmap, IsShaped, from_fn, is_black}
 use Rattle.pk_runs.specs.Raster.{IsRaster}

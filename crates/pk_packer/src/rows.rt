@@ -1,6 +1,6 @@
 //! Groups of neighbouring equal rows.
 
-ghost use Rattle.std.specs.Prelude.{◌≡◌, ◌+◌, ◌<◌, ◌≤◌, ◌↔◌, IsTrue};
+ghost use Rattle.std.specs.Prelude.{◌≡◌, ◌+◌, ◌<◌, ◌≤◌, ◌↔◌, ℕ, IsTrue};
 ghost use Rattle.pk_packer.specs.Places.{AreCopies, row_of};
 ghost use Rattle.pk_packer.specs.Written.{has_both_colours, pixel_rows};
 
@@ -18,6 +18,18 @@ pub fn copies_below(bits: &PackedBitmap, y: u32) -> u32
     if !has_both_colours(bits, y) {
         return 0;
     }
+    equal_below(bits, y)
+}
+
+/// How many rows below a row equal it, up to the first that doesn't.
+pub fn equal_below(bits: &PackedBitmap, y: u32) -> u32
+    requires inside { y < bits.now.height }
+    ensures fit { y + 1 + result ≤ bits.now.height }
+    ensures same { (k : ℕ) → k < result → row_of (pixel_rows bits.now) (y + 1 + k)
+        ≡ row_of (pixel_rows bits.now) y }
+    ensures other { y + 1 + result < bits.now.height → row_of (pixel_rows bits.now) y
+        ≡ row_of (pixel_rows bits.now) (y + 1 + result) → ⊥ }
+{
     let height = bits.height();
     let mut n = 0;
     while y + 1 + n < height && are_equal(bits, y, y + 1 + n) {

@@ -1,13 +1,14 @@
 //! The written runs, one after another.
 
-ghost use Rattle.std.specs.Prelude.{◌≡◌, ◌+◌, ◌^◌, ◌<◌, ◌≤◌, ◌∷◌, List, [], MatchOption};
+ghost use Rattle.std.specs.Prelude.{◌≡◌, ◌+◌, ◌*◌, ◌^◌, ◌<◌, ◌≤◌, ◌∷◌, ℕ, List, [], MatchOption};
 ghost use Rattle.pk_runs.specs.Numbers.{Item, Run};
 ghost use Rattle.pk_runs.specs.Limits.{MAX_GLYPH_SIDE};
 ghost use Rattle.pk_packer.specs.Written.{pixel_rows, with_count, written_runs};
-ghost use Rattle.pk_packer.specs.Places.{IsPlace, IsReached, pixels_after};
+ghost use Rattle.pk_packer.specs.Places.{IsPlace, IsReached, pixels_after, row_of};
 
 use crate::places::{Place, row_begin};
 use crate::row::run_end;
+use crate::rows::equal_below;
 use packed_rows::PackedBitmap;
 
 /// A run, the repeat count before it, or 0, and the place behind it.
@@ -53,11 +54,44 @@ pub fn next_run(bits: &PackedBitmap, place: Place) -> Option<Step>
                 },
             });
         }
-        after = row_begin(bits, after.row + 1 + after.copies);
+        let below = same_below(bits, after);
+        len += below.pixels;
+        after = row_begin(bits, after.row + 1 + after.copies + below.rows);
     }
     Some(Step {
         count: place.due,
         len,
         after,
     })
+}
+
+// Rows that go on with a run, and how many pixels they have.
+#[derive(Clone, Copy)]
+struct Below {
+    rows: u32,
+    pixels: u32,
+}
+
+// The rows that equal a row of one colour, below it; none where the place isn't at the beginning of
+// a row.
+fn same_below(bits: &PackedBitmap, place: Place) -> Below
+    requires narrow { bits.now.width ≤ MAX_GLYPH_SIDE }
+    requires short { bits.now.height ≤ MAX_GLYPH_SIDE }
+    requires inside { place.row < bits.now.height }
+    requires fit { place.row + 1 + place.copies ≤ bits.now.height }
+    ensures fit { place.row + 1 + place.copies + result.rows ≤ bits.now.height }
+    ensures same { (k : ℕ) → k < result.rows →
+        row_of (pixel_rows bits.now) (place.row + 1 + place.copies + k)
+        ≡ row_of (pixel_rows bits.now) place.row }
+    ensures begins { 1 ≤ result.rows → place.column ≡ 0 }
+    ensures pixels { result.pixels ≡ result.rows * bits.now.width }
+{
+    if place.column > 0 || place.copies > 0 {
+        return Below { rows: 0, pixels: 0 };
+    }
+    let rows = equal_below(bits, place.row);
+    Below {
+        rows,
+        pixels: rows * bits.width(),
+    }
 }

@@ -1,11 +1,12 @@
-use Rattle.std.proofs.Common.{◌≡◌, ◌∙◌, inl, inr, ◌+◌, ◌-◌, ◌<◌, ◌≤◌, not, ◌∷◌, sym, ap, arith}
+use Rattle.std.proofs.Common.{◌≡◌, ◌∙◌, inl, inr, ℕ, ◌+◌, ◌-◌, ◌<◌, ◌≤◌, Bool, false, not, List, ◌∷◌, drop, get_or, sym, ap, arith}
 use Rattle.std.proofs.lemmas.Bool.{cases_lt}
 use Rattle.packed_rows.specs.Bitmap.{Bitmap}
 use Rattle.pk_runs.specs.Numbers.{Run}
 use Rattle.pk_runs.specs.Raster.{colour_after}
-use Rattle.pk_packer.specs.Written.{first_colour, pixel_rows, with_count}
+use Rattle.pk_packer.specs.Places.{row_of}
+use Rattle.pk_packer.specs.Written.{first_colour, pixel_rows, with_count, with_rows, written_rows}
 use Rattle.pk_packer.proofs.Pixels.{dot_seen, pixel_seen, row_long, rows_high, some_passed}
-use Rattle.pk_packer.proofs.Placed.{colour_counted, end_from, passed_row, row_passed, run_lengthened, run_opened}
+use Rattle.pk_packer.proofs.Placed.{colour_counted, end_from, passed_rows, row_passed, rows_skipped, run_lengthened, run_opened}
 use Rattle.pk_packer.proofs.runs.next_run.Goals as goal
 
 pub returns-then-place-height-clause-step : goal.returns-then-place-height-clause-step
@@ -70,14 +71,24 @@ loop-after-preserved c =
     let some : 1 ≤ len =
     some_passed r p.row p.column c.run_end-end.result c.loop-after.len c.row.result.now c.is_black-black.result low in_row c.run_end-end.ensures.least c.row.ensures.dots
     (λ e. (c.loop-after.invariant.begun e).1) (λ within. c.run_end-end.ensures.other (omega (arith, within, c.width-width.ensures.value))) in
+    let below = c.same_below-below.result in
     record {
       place = c.row_begin-after.ensures.place;
-      passed = passed_row (r.height - p.row) (r.height - c.row_begin-after.result.row) r.width p.column end c.row_begin-after.result.column c.loop-after.len _
-          (omega (arith, low, c.row_begin-after.ensures.row, c.loop-after.invariant.place.fit low)) (omega (arith, in_row)) all c.row_begin-after.ensures.column c.loop-after.invariant.passed;
+      passed = passed_rows (r.height - p.row) (r.height - c.row_begin-after.result.row) below.rows r.width p.column end c.row_begin-after.result.column c.loop-after.len below.pixels _
+          (omega (arith, low, c.row_begin-after.ensures.row, c.same_below-below.ensures.fit)) (omega (arith, in_row)) all c.row_begin-after.ensures.column c.same_below-below.ensures.pixels c.loop-after.invariant.passed;
       more = λ items reached.
           let colour : colour_after (first_colour (pixel_rows r)) (with_count q.due items) ≡ c.is_black-black.result =
           colour_counted (first_colour (pixel_rows r)) q.due items ∙ sym (reached.begins top) ∙ dot_seen r q.row q.column top (c.requires.place.inside top) ∙ sym c.is_black-black.ensures in
-          c.row_begin-after.ensures.more (Run len ∷ with_count q.due items)
+          let seen : (x : ℕ) → p.column ≤ x → x < r.width → get_or (row_of (pixel_rows r) p.row) x false ≡ c.is_black-black.result =
+          λ x from within. pixel_seen r p.row x c.row.result.now low within c.row.ensures.dots ∙ c.run_end-end.ensures.same x from (omega (arith, within, all)) in
+          c.row_begin-after.ensures.more (Run (len + below.pixels) ∷ with_count q.due items)
+          ∙ ap (λ (n : ℕ). with_rows (first_colour (pixel_rows r)) (Run (len + n) ∷ with_count q.due items) (written_rows (drop (p.row + 1 + p.copies + below.rows) (pixel_rows r)))) c.same_below-below.ensures.pixels
+          ∙ sym (rows_skipped (pixel_rows r) (p.row + 1 + p.copies) below.rows r.width len c.is_black-black.result (with_count q.due items)
+          (omega (arith, c.same_below-below.ensures.fit, rows_high r))
+          (λ k before. row_long r (p.row + 1 + p.copies + k) (omega (arith, before, c.same_below-below.ensures.fit)))
+          (λ k x before within.
+          ap (λ (row : List Bool). get_or row x false) (c.same_below-below.ensures.same k before)
+          ∙ seen x (omega (arith, c.same_below-below.ensures.begins (omega (arith, before)))) within) colour)
           ∙ sym (row_passed (pixel_rows r) p.row end p.copies p.due (Run len ∷ with_count q.due items) (omega (arith, all, row_long r p.row low)))
           ∙ sym (run_lengthened (pixel_rows r) p.row p.column end p.copies p.due c.loop-after.len c.is_black-black.result (with_count q.due items) c.run_end-end.ensures.least
           (omega (arith, all, row_long r p.row low))
