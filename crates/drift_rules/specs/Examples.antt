@@ -1,5 +1,5 @@
 -- What the worked motions name.
-use Rattle.std.specs.Prelude.{ℤ, pos, List, [], Result, Ok}
+use Rattle.std.specs.Prelude.{ℤ, pos, negsuc, List, [], Result, Ok}
 use Rattle.pixel_round.specs.Pixels.{Fraction, conversion}
 use Rattle.drift_rules.specs.Position.{State, zeros}
 use Rattle.drift_rules.specs.declared.flat.Registers.{Registers}
@@ -61,3 +61,34 @@ char_mark hh vv = code.Char hh vv
 
 abbrev pub with_saved : Registers → List Registers → State
 with_saved r saved = record { now = r; saved = saved }
+
+-- h, v, hh and vv are 2, and each of w, x, y and z holds another motion
+abbrev pub remembered : Registers
+remembered =
+    record {
+      h = pos 2;
+      v = pos 2;
+      w = pos 1;
+      x = negsuc 6;
+      y = pos 9;
+      z = negsuc 9;
+      hh = pos 2;
+      vv = pos 2;
+    }
+
+abbrev pub at_remembered : State
+at_remembered = with_saved remembered []
+
+-- h and hh after a motion across from there, and what w and x then hold
+abbrev pub across_to : ℤ → ℤ → ℤ → ℤ → Result State PenFault
+across_to h hh w x =
+    Ok (with_saved (record remembered { h = h; w = w; x = x; hh = hh }) [])
+
+-- v and vv after a motion down from there, and what y and z then hold
+abbrev pub down_to : ℤ → ℤ → ℤ → ℤ → Result State PenFault
+down_to v vv y z =
+    Ok (with_saved (record remembered { v = v; y = y; z = z; vv = vv }) [])
+
+-- its upper left dot, how many dots wide and how many high
+abbrev pub rule_mark : ℤ → ℤ → ℤ → ℤ → Mark
+rule_mark x y w h = code.Rule x y w h
