@@ -13,4 +13,5 @@ pub mod OneMeaning
 pub mod Cuts
 pub mod Answered
 pub mod Total
+pub mod Balanced
 pub mod SmallFonts

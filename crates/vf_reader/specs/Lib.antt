@@ -4,6 +4,7 @@ pub mod Programs
 pub mod Locals
 pub mod Places
 pub mod Fonts
+pub mod Balance
 pub mod Faults
 pub mod Stops
 pub mod Walked

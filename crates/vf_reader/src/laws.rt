@@ -1,4 +1,5 @@
 //! Laws of VF files, each the contract of a function without a body.
+ghost use Rattle.vf_reader.specs.Balance.{PacketsAreBalanced};
 ghost use Rattle.vf_reader.specs.Laws.{CutFilesAreShort, EmptyFileIsShort, FilesAreReadOneWay, FilesAreReadOrHaveAFault, FilesHaveNoFault, FirstFaultsAreOne, NoItemBeginsAnother};
 
 /// No item begins another. So a file has one list of items, a file that is read has no fault, and
@@ -16,4 +17,9 @@ pub fn one_meaning()
 pub fn cut_files()
     ensures cut { CutFilesAreShort }
     ensures empty { EmptyFileIsShort }
+{}
+
+/// In each packet of a file that is read, every pop has its push before it, and every push its pop.
+pub fn packets()
+    ensures balanced { PacketsAreBalanced }
 {}
