@@ -14,3 +14,4 @@ pub mod Scaled
 pub mod Trails
 pub mod Total
 pub mod Rows
+pub mod Programs

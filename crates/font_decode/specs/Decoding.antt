@@ -20,6 +20,7 @@ use Rattle.vf_reader.specs.declared.faults.VfFault.{VfFault}
 use Rattle.outside.specs.Library as library
 use Rattle.outside.specs.declared.keys.FontKey.{FontKey}
 use Rattle.pixel_round.specs.declared.units.Units.{Units}
+use Rattle.font_decode.specs.Limits.{MAX_FILE_LENGTH}
 use Rattle.font_decode.specs.Names.{is_valid_name, dpi, is_resolution}
 use Rattle.font_decode.specs.Files.{FontFiles, IsFound, IsInOrder}
 use Rattle.font_decode.specs.Fonts.{FontValue, scaled_width_of, glyph_at, is_virtual_of, packet_of, local_of, first_local_of}
@@ -68,9 +69,9 @@ pub record IsVirtualFont (u : Units) (k : FontKey) (tfm : List ℕ) (items : Lis
 -- ---- what a key's files come to: each definition goes on where the one after it has found no
 -- fault
 
--- more than 8,388,608 bytes, whatever they are
+-- more bytes than a file may have, whatever they are
 abbrev pub is_too_long : List ℕ → Bool
-is_too_long bytes = nat_lt 8388608 (length bytes)
+is_too_long bytes = nat_lt MAX_FILE_LENGTH (length bytes)
 
 -- a PK file: the font, or the file's first fault
 abbrev pub DecodesPk : FontKey → List ℕ → List ℕ → Decoded → Type 0

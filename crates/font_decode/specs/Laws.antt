@@ -7,13 +7,17 @@ use Rattle.outside.specs.Library as library
 use Rattle.outside.specs.Library.{Asks}
 use Rattle.outside.specs.declared.keys.FontKey.{FontKey}
 use Rattle.pixel_round.specs.declared.units.Units.{Units}
+use Rattle.dvi_commands.specs.Reading.{commands_of}
+use Rattle.vf_reader.specs.Balance.{IsBalanced}
 use Rattle.font_decode.specs.Names.{is_name_byte, is_valid_name, is_resolution, dpi, file_names}
 use Rattle.font_decode.specs.Files.{FontFiles, IsFound, looked_for}
 use Rattle.font_decode.specs.Asked.{choices}
 use Rattle.font_decode.specs.Loads.{MAX_LOADS}
 use Rattle.font_decode.specs.Rows.{IsFirstRow}
+use Rattle.font_decode.specs.Fonts.{FontValue, packet_of}
 use Rattle.font_decode.specs.Decoding.{IsDecodingOf, IsFontIn, AreAlike}
 use Rattle.font_decode.specs.declared.font_or_fault.Decoded.{Decoded}
+use Rattle.font_decode.specs.declared.font_or_fault.Decoded.TheVariants.{Font}
 
 -- a name that leads out of no folder: neither empty nor `.` nor `..`, and with no `/`
 pub record StaysInFolder (name : List ℕ) : Type 0 where
@@ -79,3 +83,11 @@ abbrev pub RowsDetermineTheDecoding : Type 0
 RowsDetermineTheDecoding =
     (u : Units) (k : FontKey) (files : FontFiles) (d : Decoded)
     → IsDecodingOf u k files d ↔ IsFirstRow u k files d
+
+-- in each packet of a font, whatever its files, every pop has its push before it, and every push
+-- its pop
+abbrev pub PacketsAreBalanced : Type 0
+PacketsAreBalanced =
+    (u : Units) (k : FontKey) (files : FontFiles) (f : FontValue) (c : ℕ) (packet : List ℕ)
+    → IsDecodingOf u k files (Font f) → packet_of f c ≡ Some packet
+    → IsBalanced (commands_of packet)

@@ -11,8 +11,10 @@ pub enum Decoded {
     Fault(FontFault),
 }
 
-/// A decoding stands for a key where it is the key's font in the common library, or no library is
-/// known.
+/// A decoding stands for a key where it is what the key's files in the common library come to, at
+/// the units of the document. Where no library is known, it is what some files come to, which were
+/// found in the order of the format; nothing is then said of where these were, nor that two
+/// decodings that stand for one key are alike.
 impl Stands for Decoded {
     ghost use Rattle.std.specs.Prelude.{Some};
     ghost use Rattle.font_decode.specs.Decoding.{IsFontOf};

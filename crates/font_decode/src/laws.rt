@@ -1,5 +1,5 @@
 //! Laws of the names of a font's files, and of what is found.
-ghost use Rattle.font_decode.specs.Laws.{NamesStayInFolder, AskedNamesStayInFolder, NamesAreDistinct, OneIsFound, FewAreLookedFor, OneOfItsFiles, OneInALibrary, EachKeyIsDecoded, RowsDetermineTheDecoding};
+ghost use Rattle.font_decode.specs.Laws.{NamesStayInFolder, AskedNamesStayInFolder, NamesAreDistinct, OneIsFound, FewAreLookedFor, OneOfItsFiles, OneInALibrary, EachKeyIsDecoded, RowsDetermineTheDecoding, PacketsAreBalanced};
 
 /// No name of a font's files leads out of the folder, so none that is asked for does, whatever the
 /// key; and no two of them are the same.
@@ -24,4 +24,10 @@ pub fn decodings()
     ensures library { OneInALibrary }
     ensures each { EachKeyIsDecoded }
     ensures rows { RowsDetermineTheDecoding }
+{}
+
+/// The packets of a virtual font push and pop in balance, whatever its files: none pops what it
+/// didn't push, and none leaves a push open.
+pub fn packets()
+    ensures balanced { PacketsAreBalanced }
 {}
