@@ -8,6 +8,8 @@ pub mod Levels
 pub mod View
 pub mod Members
 pub mod PageLists
+pub mod Packets
 pub mod Laws
+pub mod WorkedFaults
 pub mod Sets
 pub mod Lending
