@@ -114,9 +114,15 @@ leaves_level n at None = (n, omega arith, omega arith, refl)
 leaves_level n at (Some width) = (n, omega arith, omega arith, neither n)
 
 packet_leaves : (n at : ℕ) (current : Current) (advance : Option ℤ) (o : Outcome) → IsRight current → Leaves 0 0 o → Leaves n n (in_packet_level at current advance o)
-packet_leaves n at current advance (Goes members last) right o =
-    ((suc n, omega arith, omega arith,
-      members_both (suc n) (suc n) n members (leave_members advance at) (opens_inside (suc n) 0 0 (suc n) (suc n) (flats_of members) (omega arith) (omega arith) o.0) (leaves_level n at advance)), right)
+packet_leaves n at current advance (Goes members last) right o = (
+  (
+    suc n,
+    omega arith,
+    omega arith,
+    members_both (suc n) (suc n) n members (leave_members advance at) (opens_inside (suc n) 0 0 (suc n) (suc n) (flats_of members) (omega arith) (omega arith) o.0) (leaves_level n at advance),
+  ),
+  right,
+)
 packet_leaves n at current advance (Faults members f) right o = tt
 
 module _ (fonts : Fonts) (found : (k : FontKey) → HasPrograms (fonts k)) where
