@@ -10,7 +10,9 @@ use Rattle.drift_rules.proofs.Stack.{pops_give_back}
 use Rattle.raster_page.specs.Ink.{Inked}
 use Rattle.page_draw.specs.Sheets.{inks_of}
 use Rattle.page_draw.specs.Members.{Member, Flat, LookUp, and_then, marks_after, last_state, marks_from}
-use Rattle.page_draw.specs.Laws.{PacketsAreSetInPlace, flats_of}
+use Rattle.vf_expand.specs.Packets.{flats_of}
+use Rattle.vf_expand.proofs.Packets.{packets_are_balanced}
+use Rattle.page_draw.specs.Laws.{FontsPacketsAreSetInPlace, PacketsAreSetInPlace}
 use Rattle.page_draw.specs.declared.sheet.Sheet.{Sheet}
 use Rattle.page_draw.proofs.Lists.{apart}
 
@@ -66,3 +68,6 @@ packets_are_set_in_place c sheet s t g h at end packet rest balanced e =
     ∙ marks_append c sheet first.0 parts.0 packet (Flat Leave h end ∷ rest) parts.1
     ∙ ap (λ (r : Result State PenFault). marks_from c sheet first.0 packet ++ marks_after r (λ v. marks_from c sheet v rest)) last.1
     ∙ ap₂ (λ (a b : State). marks_from c sheet a packet ++ marks_from c sheet b rest) (sym same) back
+
+pub fonts_packets_are_set_in_place : FontsPacketsAreSetInPlace
+fonts_packets_are_set_in_place c sheet s t g h at end fonts packet rest given e = packets_are_set_in_place c sheet s t g h at end packet rest (packets_are_balanced fonts packet given) e

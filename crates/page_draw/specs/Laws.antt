@@ -4,14 +4,17 @@ use Rattle.outside.specs.Library as library
 use Rattle.outside.specs.declared.keys.FontKey.{FontKey}
 use Rattle.pixel_round.specs.Pixels.{Fraction}
 use Rattle.pixel_round.specs.declared.units.Units.{Units}
-use Rattle.drift_rules.specs.Position.{FlatCommand, Enter, Leave, State, on_entry}
+use Rattle.drift_rules.specs.Position.{Enter, Leave, State, on_entry}
 use Rattle.drift_rules.specs.Stack.{IsBalanced}
 use Rattle.page_index.specs.Pages.{Indexed, document_units}
 use Rattle.pk_runs.specs.declared.glyph.Glyph.{Glyph}
 use Rattle.font_decode.specs.Decoding.{IsFontIn}
 use Rattle.font_decode.specs.Laws.{AreByteFiles}
 use Rattle.font_decode.specs.Desks.{GrewBy}
-use Rattle.page_draw.specs.Members.{Finding, Flat, LookUp, Member, last_state, marks_from}
+pub use Rattle.vf_expand.specs.Packets.{flats_of}
+use Rattle.vf_expand.specs.Packets.{IsPacketGiven}
+use Rattle.vf_expand.specs.PageLists.{Fonts}
+use Rattle.page_draw.specs.Members.{Finding, Flat, Member, last_state, marks_from}
 use Rattle.page_draw.specs.Values.{PageValue}
 use Rattle.page_draw.specs.Drawn.{IsBroken, IsPageValue}
 use Rattle.page_draw.specs.declared.sheet.Sheet.{Sheet}
@@ -53,17 +56,23 @@ BrokenPagesBegin =
 
 -- ---- packets
 
-abbrev pub flats_of : List Member → List FlatCommand
-flats_of [] = []
-flats_of (Flat f g at ∷ members) = f ∷ flats_of members
-flats_of (LookUp k at ∷ members) = flats_of members
-
--- what a packet sets stands as on a page that begins at the packet's character, with w, x, y and z
--- 0; what comes after the packet is set as if it weren't there
+-- what balanced members set in a packet's place stands as on a page that begins at the packet's
+-- character, with w, x, y and z 0; what comes after them is set as if they weren't there
 abbrev pub PacketsAreSetInPlace : Type 0
 PacketsAreSetInPlace =
     (c : Fraction) (sheet : Sheet) (s t : State) (g h : Option Glyph) (at end : ℕ)
     → (packet rest : List Member) → IsBalanced (flats_of packet)
+    → last_state c s (Flat Enter g at ∷ packet ++ Flat Leave h end ∷ []) ≡ Ok t
+    → marks_from c sheet s (Flat Enter g at ∷ packet ++ Flat Leave h end ∷ rest)
+    ≡ marks_from c sheet (record { now = on_entry s.now; saved = s.now ∷ s.saved }) packet
+    ++ marks_from c sheet s rest
+
+-- so is whatever a packet of a font gives
+abbrev pub FontsPacketsAreSetInPlace : Type 0
+FontsPacketsAreSetInPlace =
+    (c : Fraction) (sheet : Sheet) (s t : State) (g h : Option Glyph) (at end : ℕ) (fonts : Fonts)
+    (packet rest : List Member)
+    → IsPacketGiven fonts packet
     → last_state c s (Flat Enter g at ∷ packet ++ Flat Leave h end ∷ []) ≡ Ok t
     → marks_from c sheet s (Flat Enter g at ∷ packet ++ Flat Leave h end ∷ rest)
     ≡ marks_from c sheet (record { now = on_entry s.now; saved = s.now ∷ s.saved }) packet

@@ -5,6 +5,7 @@ pub mod Drawn
 pub mod Stops
 pub mod PlainDesks
 pub mod Laws
+pub mod Examples
 pub mod SoloDesks
 pub mod DrawnUpTo
 pub mod Inking

@@ -4,6 +4,7 @@
 #![tactic(auto)]
 
 mod drawing;
+pub mod examples;
 mod flats;
 mod indexed_page;
 mod keeping;
