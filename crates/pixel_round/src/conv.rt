@@ -23,6 +23,9 @@ impl fmt::Display for Scale {
 
 impl Error for Scale {}
 
+// Below it, twice a length of at most 2^31 units and half a dot more fit 64 bits.
+const SMALL_TOP: u128 = 1 << 31;
+
 /// How many dots one DVI unit is, as an exact fraction that is at most 512.
 #[derive(Clone, Copy, Debug)]
 pub struct Conv {
@@ -129,10 +132,13 @@ impl Conv {
         ensures value { result ≡ pos (nearest self.now size) }
         ensures bounded { nearest self.now size ≤ 512 * size + 1 }
     {
-        quotient_by(
+        if self.top < SMALL_TOP {
+            let twice = 2 * size * self.top as u64 + self.bottom;
+            return quotient_by(twice, 2 * self.bottom, self.reciprocal) as i64;
+        }
+        quotient(
             2 * u128::from(size) * self.top + u128::from(self.bottom),
             2 * self.bottom,
-            self.reciprocal,
         ) as i64
     }
 

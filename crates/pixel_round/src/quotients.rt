@@ -21,8 +21,8 @@ pub fn gcd(a: u128, b: u64) -> u64
     greater
 }
 
-/// The quotient, rounded down.
-#[inline(always)]
+/// The quotient, rounded down. Its divisions stay out of the loops that ask for it.
+#[inline(never)]
 pub fn quotient(top: u128, bottom: u64) -> u128
     requires { 0 < bottom }
     ensures { result ≡ top / bottom }
@@ -44,19 +44,20 @@ pub fn reciprocal_of(bottom: u64) -> u64
 
 /// The quotient, rounded down, by a product where the number is below the reciprocal.
 #[inline(always)]
-pub fn quotient_by(top: u128, bottom: u64, reciprocal: u64) -> u128
-    requires some { 0 < bottom }
+pub fn quotient_by(top: u64, bottom: u64, reciprocal: u64) -> u64
+    requires some { 1 < bottom }
     requires reciprocal { reciprocal ≡ 2 ^ 64 / bottom }
     ensures { result ≡ top / bottom }
 {
-    if top < u128::from(reciprocal) {
-        top * (u128::from(reciprocal) + 1) / NARROW
+    if top < reciprocal {
+        (u128::from(top) * u128::from(reciprocal + 1) / NARROW) as u64
     } else {
-        quotient(top, bottom)
+        quotient(u128::from(top), bottom) as u64
     }
 }
 
 /// The quotient, rounded up.
+#[inline(never)]
 pub fn quotient_up(top: u128, bottom: u64) -> u128
     requires { 0 < bottom }
     ensures { result ≡ div_ceil top bottom }
