@@ -1,5 +1,5 @@
 -- The painter's steps keep what is drawn.
-use Rattle.std.proofs.Common.{◌≡◌, ℕ, suc, ◌+◌, ◌-◌, ◌*◌, ◌<◌, ◌≤◌, ◌⊎◌, inl, inr, Bool, true, false, ◌&&◌, ◌||◌, cond, List, [], ◌∷◌, ◌++◌, length, get_or, drop, replicate, refl, sym, ap, ◌∙◌, arith, length-append, append_assoc, append-nil, subst, min, not}
+use Rattle.std.proofs.Common.{◌≡◌, ℕ, zero, suc, ◌+◌, ◌-◌, ◌*◌, ◌<◌, ◌≤◌, ◌⊎◌, inl, inr, Bool, true, false, ◌&&◌, ◌||◌, cond, List, [], ◌∷◌, ◌++◌, length, get_or, drop, replicate, refl, sym, ap, ◌∙◌, arith, length-append, append_assoc, append-nil, subst, min, not}
 use Rattle.std.proofs.lemmas.Bool.Decides.{nat_tests}
 use Rattle.std.proofs.lemmas.List.{length-replicate, replicate-append-replicate}
 use Rattle.std.proofs.lemmas.Bool.{cases_lt}
@@ -254,3 +254,16 @@ runs_end n old left p last short is_last r =
           (joined ps n left left old.black p.black r.colour (omega arith) r.bound ∙ ap (λ k. ps ++ replicate k old.black) whole)
           (drawn_in_row (ps ++ replicate (n - left) old.black) rep mark old.bits.width old.bits.height left p (omega (arith, short, r.wide)) (r.drawn ps rep mark d)));
     })
+
+-- the same where the last piece may have no pixel
+pub runs_last : (n : ℕ) (old : Painter) (left : ℕ) (p last : Painter) → left < p.bits.width - p.column → (left ≡ 0 → last ≡ record p { black = not p.black })
+    → (0 < left → last ≡ record (painted p left) { black = not p.black }) → RunsOn n old left p → IsRun n old last
+runs_last n old zero p last short none some r =
+    subst (λ (q : Painter). IsRun n old q) (sym (none refl)) (record {
+      turned = ap not r.colour;
+      ready = record { low = r.ready.low; fit = r.ready.fit };
+      wide = r.wide;
+      high = r.high;
+      drawn = λ ps rep mark d. drawn_turned (ps ++ replicate n old.black) rep mark old.bits.width old.bits.height p (not p.black) (r.drawn ps rep mark d);
+    })
+runs_last n old (suc left) p last short none some r = runs_end n old (suc left) p last short (some (omega arith)) r

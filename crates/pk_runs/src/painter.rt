@@ -20,7 +20,7 @@ pub struct Painter {
 }
 
 impl Painter {
-    ghost use Rattle.std.specs.Prelude.{◌≡◌, ◌+◌, ◌*◌, ◌^◌, ◌<◌, ◌≤◌, ◌++◌, ℕ, Bool, true, false, not, List, replicate, ◌-◌};
+    ghost use Rattle.std.specs.Prelude.{◌≡◌, ◌+◌, ◌*◌, ◌^◌, ◌<◌, ◌≤◌, ◌++◌, ℕ, Bool, true, false, not, List, replicate, ◌-◌, IsTrue, ◌↔◌};
     ghost use Rattle.pk_runs.specs.Painting.{painted, row_ended, IsReady, IsDrawn};
 
     pub fn new(bits: PackedBitmap, black: bool) -> Painter
@@ -79,20 +79,28 @@ impl Painter {
         self.repeated = false;
     }
 
-    // Paints n pixels of the next row, and ends it where these are its last.
-    fn put(&mut self, n: u32)
+    // Paints the last n pixels of a run, which end within the next row. The next run has the other
+    // colour.
+    fn end_run(&mut self, n: u32)
         requires narrow { self.old.bits.width < 2 ^ 16 }
-        requires short { self.old.bits.height < 2 ^ 16 }
         requires inside { self.old.column + n ≤ self.old.bits.width }
-        requires low { self.old.row + self.old.copies < self.old.bits.height }
-        ensures in_row { self.old.column + n < self.old.bits.width → self.new ≡ painted self.old n }
-        ensures row_ends { self.old.column + n ≡ self.old.bits.width
-            → self.new ≡ row_ended (painted self.old n) }
+        requires low { 0 < n → self.old.row < self.old.bits.height }
+        ensures none { n ≡ 0 → self.new ≡ record self.old { black = not self.old.black } }
+        ensures some { 0 < n
+            → self.new ≡ record (painted self.old n) { black = not self.old.black } }
     {
-        self.paint(n);
-        if self.column == self.bits.width() {
-            self.end_row();
+        if n > 0 {
+            self.paint(n);
         }
+        self.black = !self.black;
+    }
+
+    /// How many pixels of the next row aren't painted.
+    pub fn left(&self) -> u32
+        requires { self.now.column ≤ self.now.bits.width }
+        ensures { result ≡ self.now.bits.width - self.now.column }
+    {
+        self.bits.width() - self.column
     }
 
     /// Paints a run of n pixels in the colour that is due, over row ends. The next run has the
@@ -114,14 +122,14 @@ impl Painter {
             IsDrawn (ps ++ replicate n self.old.black) copies_of is_repeated self.old.bits.width
             self.old.bits.height self.new }
     {
-        let width = self.bits.width();
         let mut left = n;
-        while left > 0 {
-            let piece = left.min(width - self.column);
-            self.put(piece);
+        while left >= self.left() {
+            let piece = self.left();
+            self.paint(piece);
+            self.end_row();
             left -= piece;
         }
-        self.black = !self.black;
+        self.end_run(left);
     }
 
     /// Takes a repeat count for the next row.
@@ -132,17 +140,21 @@ impl Painter {
         self.repeated = true;
     }
 
-    /// How many pixels runs still have to give.
-    pub fn room(&self) -> u32
+    /// Whether runs still have n pixels to give.
+    pub fn has_room(&self, n: u64) -> bool
         requires narrow { self.now.bits.width < 2 ^ 16 }
         requires short { self.now.bits.height < 2 ^ 16 }
         requires inside { self.now.column < self.now.bits.width }
         requires fit { self.now.row + 1 + self.now.copies ≤ self.now.bits.height }
-        ensures { result ≡ (self.now.bits.width - self.now.column)
+        ensures { IsTrue result ↔ n ≤ (self.now.bits.width - self.now.column)
             + self.now.bits.width * (self.now.bits.height - (self.now.row + 1 + self.now.copies)) }
     {
-        let width = self.bits.width();
-        (width - self.column) + width * (self.bits.height() - (self.row + 1 + self.copies))
+        let left = self.left();
+        if n < u64::from(left) {
+            return true;
+        }
+        let rows = self.bits.height() - (self.row + 1 + self.copies);
+        n <= u64::from(left + self.bits.width() * rows)
     }
 
     /// The raster.

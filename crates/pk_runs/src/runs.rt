@@ -36,7 +36,7 @@ pub fn step(painter: &mut Painter, nybbles: &mut Nybbles, dyn_f: u8) -> Result<(
 {
     match next_item(nybbles, dyn_f, painter.row, painter.repeated)? {
         PackedNumber::Run(n) => {
-            if n > u64::from(painter.room()) {
+            if !painter.has_room(n) {
                 return Err(RunFault::Overrun);
             }
             painter.run(n as u32);
