@@ -1,5 +1,5 @@
 -- A key has the same decodings in two libraries that differ in how rasters are packed.
-use Rattle.std.proofs.Common.{◌≡◌, ◌∙◌, inl, inr, ℕ, ◌+◌, ◌-◌, Bool, true, false, List, [], ◌∷◌, Option, Some, None, refl, sym, ap, ap₂, subst}
+use Rattle.std.proofs.Common.{◌≡◌, ◌∙◌, inl, inr, ℕ, ◌+◌, ◌-◌, Bool, true, false, List, [], Option, Some, None, refl, sym, ap, ap₂, subst}
 use Rattle.std.specs.Prelude.{MatchBool, MatchOption, ◌&&◌, if◌then◌else◌, is_none, is_some}
 use Rattle.std.specs.FinMap.{get}
 use Rattle.std.specs.Option.{option_or}

@@ -1,5 +1,5 @@
 -- The PK files of the two samples give the same glyphs.
-use Rattle.std.proofs.Common.{◌≡◌, ℕ, zero, suc, ◌<◌, ◌≤◌, pos, Bool, true, false, List, [], ◌∷◌, Option, Some, None, length, get_or, refl, sym, subst, arith, inl, inr}
+use Rattle.std.proofs.Common.{◌≡◌, ℕ, zero, suc, ◌<◌, ◌≤◌, Bool, true, false, List, [], ◌∷◌, Some, None, length, get_or, refl, sym, subst, arith, inl, inr}
 use Rattle.std.specs.Prelude.{All, ◌==◌, if◌then◌else◌}
 use Rattle.packed_rows.specs.Bitmap.{IsShaped}
 use Rattle.pk_runs.specs.Limits.{MAX_RASTER_BYTES}

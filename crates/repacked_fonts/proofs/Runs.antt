@@ -1,6 +1,6 @@
 -- The pages of a document have the same values in runs over two libraries that differ in how rasters
 -- are packed, and two runs of the sample wrote one text.
-use Rattle.std.proofs.Common.{ℕ, suc, false, true, List, [], ◌∷◌, Option, Some, refl}
+use Rattle.std.proofs.Common.{ℕ, suc, false, true, List, [], ◌∷◌, Some, refl}
 use Rattle.outside.specs.Library.{FileTable}
 use Rattle.page_index.specs.Document.{Reading}
 use Rattle.page_index.specs.Pages.{document_units}

@@ -1,12 +1,11 @@
 -- The libraries of the two samples differ in how rasters are packed.
-use Rattle.std.proofs.Common.{◌≡◌, ◌≢◌, ◌∙◌, inl, inr, ℕ, Bool, true, false, cond, List, [], ◌∷◌, ◌++◌, Option, Some, None, refl, sym, ap, subst, arith}
+use Rattle.std.proofs.Common.{◌≡◌, ◌≢◌, ◌∙◌, inl, inr, ℕ, Bool, true, false, cond, List, ◌++◌, Option, Some, None, refl, sym, ap, subst, arith}
 use Rattle.std.specs.Prelude.{codes, decimal, fold}
 use Rattle.std.specs.Cmp.Lexicographic.{same_text, slice_cmp, texts_ties}
 use Rattle.std.specs.FinMap.{find, get}
 use Rattle.std.specs.Ordering.{eq_by_cmp, nat_cmp}
 use Rattle.std.proofs.lemmas.Bool.{cases_Bool, true≢false}
 use Rattle.std.proofs.lemmas.List.Sums.{fold-append}
-use Rattle.outside.specs.declared.keys.FontKey.{FontKey}
 use Rattle.font_decode.specs.Names.{glyph_name, tfm_name, vf_name}
 use Rattle.sample_maker.specs.Sample.{bar_pk, dot_pk, named_files, other_files, packed_bar_pk, packed_dot_pk, packed_files, sample_files}
 use Rattle.sample_maker.proofs.SampleFonts.{six_files}
