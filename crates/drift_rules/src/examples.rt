@@ -1,5 +1,5 @@
-//! Worked characters, rules, motions, pushes, pops and packets at one half of a dot for a unit and a
-//! space of 2, by computation.
+//! Worked characters, rules, motions, pushes, pops and packets at one half of a dot for a unit and
+//! a space of 2, by computation.
 
 ghost use Rattle.std.specs.Prelude.{◌≡◌, ℕ, Bool, pos, negsuc, true, false, Ok, Err, Some, None, [], ◌∷◌};
 ghost use Rattle.outside.specs.declared.keys.FontKey.{FontKey};
