@@ -1,5 +1,5 @@
 -- A VF file, its packets and its local fonts: Knuth, VFtoVP, "Virtual fonts".
-use Rattle.std.specs.Prelude.{◌≡◌, ℕ, ◌<◌, ◌++◌, ◌&&◌, List, [], ◌∷◌, drop, nat_lt, ◌==◌, if◌then◌else◌, Option, Some, None, IsTrue, IsFalse, slice_range, get_or}
+use Rattle.std.specs.Prelude.{◌≡◌, ℕ, ◌++◌, ◌&&◌, List, [], ◌∷◌, drop, nat_lt, ◌==◌, if◌then◌else◌, Option, Some, None, IsTrue, IsFalse, slice_range, get_or}
 use Rattle.std.specs.Map.{lookup}
 use Rattle.std.specs.Option.{option_map}
 use Rattle.dvi_commands.specs.Spelling.{DviCommand}
