@@ -264,6 +264,9 @@ runs_last n old zero p last short none some r =
       ready = record { low = r.ready.low; fit = r.ready.fit };
       wide = r.wide;
       high = r.high;
-      drawn = λ ps rep mark d. drawn_turned (ps ++ replicate n old.black) rep mark old.bits.width old.bits.height p (not p.black) (r.drawn ps rep mark d);
+      drawn = λ ps rep mark d.
+          let whole : n - 0 ≡ n = omega arith in
+          drawn_turned (ps ++ replicate n old.black) rep mark old.bits.width old.bits.height p (not p.black)
+          (subst (λ (k : ℕ). IsDrawn (ps ++ replicate k old.black) rep mark old.bits.width old.bits.height p) whole (r.drawn ps rep mark d));
     })
 runs_last n old (suc left) p last short none some r = runs_end n old (suc left) p last short (some (omega arith)) r

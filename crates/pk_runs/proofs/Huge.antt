@@ -1,5 +1,5 @@
 -- Run lengths and repeat counts of 2 ^ 32 and more.
-use Rattle.std.proofs.Common.{◌≡◌, ℕ, ◌-◌, ◌*◌, ◌^◌, ◌<◌, ◌≤◌, false, List, ◌++◌, refl, arith}
+use Rattle.std.proofs.Common.{◌≡◌, ℕ, ◌-◌, ◌^◌, ◌<◌, ◌≤◌, false, List, ◌++◌, refl, arith}
 use Rattle.std.proofs.lemmas.Bool.{ne_eqb}
 use Rattle.std.proofs.lemmas.Nat.{mul-le}
 use Rattle.pk_runs.specs.Huge.{HugeRepeatsAreTooManyRows, HugeRunsOverrun}
