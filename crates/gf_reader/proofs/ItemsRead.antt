@@ -1,22 +1,21 @@
 -- A file of which some items were read.
-use Rattle.std.proofs.Common.{◌≡◌, ◌∙◌, ◌+◌, ◌*◌, ◌≤◌, ◌<◌, ◌⊎◌, inl, inr, ℕ, ℤ, pos, negsuc, neg_ℤ, Bool, true, false, List, [], ◌∷◌, ◌++◌, drop, take, Option, Some, None, refl, sym, ap, subst, arith, append_assoc}
+use Rattle.std.proofs.Common.{◌≡◌, ◌∙◌, ◌+◌, ◌*◌, ◌≤◌, ◌<◌, ◌⊎◌, inl, inr, ℕ, ℤ, pos, negsuc, neg_ℤ, Bool, true, false, List, [], ◌∷◌, ◌++◌, take, Option, Some, None, refl, sym, ap, subst, arith, append_assoc}
 use Rattle.std.specs.Prelude.{◌==◌, ◌&&◌, int_le, int_lt, is_some, nat_abs, nat_lt, if◌then◌else◌}
 use Rattle.std.specs.Int.{div_ceil}
-use Rattle.std.proofs.lemmas.Bool.{eq-eqb, le-ltb, lt-ltb, ne_eqb, true≢false}
+use Rattle.std.proofs.lemmas.Bool.{and_parts, eq-eqb, le-ltb, lt-ltb, ne_eqb, true≢false}
 use Rattle.std.proofs.lemmas.Bool.Decides.{nat_tests}
 use Rattle.pk_runs.specs.Limits.{MAX_RASTER_BYTES}
 use Rattle.big_endian.specs.Numbers.{int_eq}
 use Rattle.packed_rows.specs.Bitmap.{Bitmap, IsShaped}
 use Rattle.pk_runs.specs.declared.glyph.Glyph.{Glyph}
 use Rattle.pk_runs.proofs.Shapes.{made_shaped}
-use Rattle.gf_reader.specs.Preamble.{preamble_fault, preamble_size}
 use Rattle.gf_reader.specs.Items.{IsItem, begins_character, ends_character, is_open, is_paint, item_size, opcode, text_of}
 use Rattle.gf_reader.specs.Characters.{Character, characters_of, code_of, glyph_for, glyph_of_character, height_of, min_m, raster_of, raster_size, raster_sum, width_of, with_command}
 use Rattle.gf_reader.specs.Commands.{is_painted}
 use Rattle.gf_reader.specs.Faults.{fault_after, earlier_fault, head_fault, is_outside, is_too_big, paint_fault, place_fault, fault_of_item}
 use Rattle.gf_reader.specs.FirstFault.{IsFirstFault}
-use Rattle.gf_reader.specs.Fonts.{AreSound, Glyphs, HasGlyphsOf, IsGfFile, glyph_of}
-use Rattle.gf_reader.specs.Reading.{IsDrawn, IsRead}
+use Rattle.gf_reader.specs.Fonts.{Glyphs, HasGlyphsOf, IsGfFile, glyph_of}
+use Rattle.gf_reader.specs.Reading.{IsDrawn, IsRead, IsReadTo}
 use Rattle.gf_reader.specs.Stops.{IfFault}
 use Rattle.gf_reader.specs.declared.drawing.Drawing.{Drawing}
 use Rattle.gf_reader.specs.declared.faults.GfFault.{GfFault}
@@ -74,6 +73,16 @@ command_read item before font d new h other read drawn =
       no_fault_inside ch earlier item before h read.3 next.1,
       (stays, with_item item ch, earlier, continued ch earlier item before h read.0 read.3, next.0, read.5),
     )
+
+-- a command that is outside
+pub command_wrong : (item : List ℕ) (before : List (List ℕ)) (font : Glyphs) (d : Drawing) (f : GfFault) → IsItem true item → IsRead before font (Some d)
+    → ((ch : Character) → IsDrawn ch d → ((is_paint (opcode item) && is_outside ch item) ≡ true) × (f ≡ Outside (code_of ch.head))) → fault_of_item before item ≡ Some f
+command_wrong item before font d f h read wrong =
+    let ch = read.1 in
+    let found = wrong ch read.4 in
+    let both = and_parts (is_paint (opcode item)) (is_outside ch item) found.0 in
+    ap (λ b. Wrong b (is_paint (opcode item)) before item (characters_of before)) (begins_none item h) ∙ ap (λ b. Wrong false b before item (characters_of before)) both.0
+    ∙ ap (λ cs. paint_fault cs item) read.3 ∙ ap (λ b. if b then Some (Outside (code_of ch.head)) else None) both.1 ∙ ap Some (sym found.1)
 
 abbrev glyph_with : Bitmap → ℤ → ℤ → Glyph
 glyph_with raster hoff voff = record { raster = raster; hoff = hoff; voff = voff }
@@ -150,15 +159,6 @@ head_too_much item before width height sum begins sum_is sides much =
 
 -- ---- the file so far
 
--- items were read up to the bytes that are left; their rasters take a sum
-pub record IsReadTo (bytes rest : List ℕ) (sum : ℕ) (font : Glyphs) (drawn : Option Drawing) : Type 0 where
-  pub items : List (List ℕ)
-  pub begins : preamble_fault bytes ≡ None
-  pub sound : AreSound items
-  pub text : drop (preamble_size bytes) bytes ≡ text_of items ++ rest
-  pub sum_is : sum ≡ raster_sum items
-  pub read : IsRead items font drawn
-
 inside_is : (items : List (List ℕ)) (font : Glyphs) (drawn : Option Drawing) → IsRead items font drawn → is_open items ≡ is_some drawn
 inside_is items font None h = h.0
 inside_is items font (Some d) h = h.0
@@ -188,10 +188,15 @@ pub place_first : (bytes before : List ℕ) (sum : ℕ) (font : Glyphs) (drawn :
 place_first bytes before sum font drawn f h wrong =
     first_fault bytes before sum font drawn f h (ap (λ o. earlier_fault o (fault_of_item h.items (take (item_size before) before))) (ap (λ b. place_fault b before) (inside_is h.items font drawn h.read) ∙ wrong))
 
+-- what is wrong with a whole item is the first fault
+pub item_first : (bytes before item rest : List ℕ) (sum : ℕ) (font : Glyphs) (drawn : Option Drawing) (f : GfFault) (h : IsReadTo bytes before sum font drawn) → before ≡ item ++ rest
+    → IsItem (is_some drawn) item → fault_of_item h.items item ≡ Some f → IsFirstFault bytes f
+item_first bytes before item rest sum font drawn f h here whole wrong =
+    first_fault bytes before sum font drawn f h (ap (fault_after h.items) here ∙ item_fault h.items item rest (item_here h.items font drawn item h.read whole) ∙ wrong)
+
 pub item_stop : (bytes before item rest : List ℕ) (sum : ℕ) (font : Glyphs) (drawn : Option Drawing) (stop : GfStop) (h : IsReadTo bytes before sum font drawn) → before ≡ item ++ rest
     → IsItem (is_some drawn) item → IfFault stop (λ f. fault_of_item h.items item ≡ Some f) → IfFault stop (IsFirstFault bytes)
-item_stop bytes before item rest sum font drawn (Fault f) h here whole wrong =
-    first_fault bytes before sum font drawn f h (ap (fault_after h.items) here ∙ item_fault h.items item rest (item_here h.items font drawn item h.read whole) ∙ wrong)
+item_stop bytes before item rest sum font drawn (Fault f) h here whole wrong = item_first bytes before item rest sum font drawn f h here whole wrong
 item_stop bytes before item rest sum font drawn NoMemory h here whole wrong = tt
 
 -- the closing command

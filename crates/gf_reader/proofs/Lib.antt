@@ -8,3 +8,5 @@ pub mod DrawingSteps
 pub mod ItemsRead
 pub mod BothWays
 pub mod OutsidePixels
+pub mod CharactersRead
+pub mod ShortCommands

@@ -1,10 +1,11 @@
 -- What was read and drawn so far.
-use Rattle.std.specs.Prelude.{◌≡◌, ℕ, ◌≤◌, min, List, ◌∷◌, Option, Some, None, neg_ℤ, IsTrue, IsFalse}
+use Rattle.std.specs.Prelude.{◌≡◌, ℕ, ◌≤◌, min, List, ◌∷◌, ◌++◌, drop, Option, Some, None, neg_ℤ, IsTrue, IsFalse, true}
 use Rattle.pk_runs.specs.Limits.{MAX_GLYPH_SIDE}
-use Rattle.gf_reader.specs.Items.{is_open}
+use Rattle.gf_reader.specs.Preamble.{preamble_fault, preamble_size}
+use Rattle.gf_reader.specs.Items.{IsItem, is_open, opcode, text_of}
 use Rattle.gf_reader.specs.Commands.{column_after, is_black_after, row_after}
-use Rattle.gf_reader.specs.Characters.{Character, characters_of, code_of, height_of, max_m, max_n, min_m, min_n, raster_of, width_of}
-use Rattle.gf_reader.specs.Fonts.{Glyphs, HasGlyphsOf}
+use Rattle.gf_reader.specs.Characters.{Character, characters_of, code_of, height_of, max_m, max_n, min_m, min_n, raster_of, raster_sum, width_of}
+use Rattle.gf_reader.specs.Fonts.{AreSound, Glyphs, HasGlyphsOf}
 use Rattle.gf_reader.specs.declared.drawing.Drawing.{Drawing}
 use Rattle.gf_reader.specs.declared.head.Head.{Head}
 
@@ -36,3 +37,26 @@ IsRead items font None = IsFalse (is_open items) × HasGlyphsOf (characters_of i
 IsRead items font (Some d) =
     IsTrue (is_open items) × (ch : Character) × (earlier : List Character)
     × (characters_of items ≡ ch ∷ earlier) × IsDrawn ch d × HasGlyphsOf earlier font
+
+-- items of the bytes were read up to those that are left; their rasters take a sum
+pub record IsReadTo (bytes rest : List ℕ) (sum : ℕ) (font : Glyphs) (drawn : Option Drawing)
+    : Type 0 where
+  pub items : List (List ℕ)
+  pub begins : preamble_fault bytes ≡ None
+  pub sound : AreSound items
+  pub text : drop (preamble_size bytes) bytes ≡ text_of items ++ rest
+  pub sum_is : sum ≡ raster_sum items
+  pub read : IsRead items font drawn
+
+-- where bytes were read up to some, with a character that is drawn, they were up to others, with
+-- more of it
+abbrev pub Reads : List ℕ → Drawing → List ℕ → Drawing → Type 0
+Reads rest d later e =
+    (bytes : List ℕ) (sum : ℕ) (font : Glyphs) → IsReadTo bytes rest sum font (Some d)
+    → IsReadTo bytes later sum font (Some e)
+
+-- bytes were read up to the end of a character, and what is left follows it
+abbrev pub IsAtEnd : List ℕ → List ℕ → ℕ → Glyphs → Drawing → Type 0
+IsAtEnd bytes rest sum font d =
+    (item : List ℕ) × IsItem true item × (opcode item ≡ 69)
+    × IsReadTo bytes (item ++ rest) sum font (Some d)

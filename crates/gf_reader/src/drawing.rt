@@ -1,5 +1,5 @@
 //! A character that is drawn.
-ghost use Rattle.std.specs.Prelude.{◌≡◌, ◌≤◌, ◌≤ℤ◌, ◌<◌, ◌+◌, ◌^◌, ◌&&◌, ◌||◌, ◌∷◌, [], IfOk, IsFalse, IsTrue, List, MatchResult, ℕ, false, length, min, nat_le, nat_lt, neg_ℤ, not, pos, true};
+ghost use Rattle.std.specs.Prelude.{◌≡◌, Some, ◌≤◌, ◌≤ℤ◌, ◌<◌, ◌+◌, ◌^◌, ◌&&◌, ◌||◌, ◌∷◌, [], IfOk, IsFalse, IsTrue, List, MatchResult, OnOk, ℕ, false, length, min, nat_le, nat_lt, neg_ℤ, not, pos, true};
 ghost use Rattle.packed_rows.specs.Bitmap.{IsShaped};
 ghost use Rattle.pk_runs.specs.Limits.{MAX_GLYPH_SIDE};
 ghost use Rattle.gf_reader.specs.Characters.{Character, code_of, height_of, width_of};
@@ -7,13 +7,16 @@ ghost use Rattle.gf_reader.specs.Commands.{paint_length};
 ghost use Rattle.gf_reader.specs.Faults.{is_outside};
 ghost use Rattle.gf_reader.specs.Items.{IsItem, is_paint, opcode};
 ghost use Rattle.gf_reader.specs.Painting.{after_move, after_paint};
-ghost use Rattle.gf_reader.specs.Reading.{IsDrawn, IsHeadOf};
+ghost use Rattle.gf_reader.specs.FirstFault.{IsFirstFault};
+ghost use Rattle.gf_reader.specs.Fonts.{Glyphs};
+ghost use Rattle.gf_reader.specs.Reading.{IsAtEnd, IsDrawn, IsHeadOf, IsReadTo};
 ghost use Rattle.gf_reader.specs.declared.faults.GfFault.TheVariants as fault;
 
 use crate::GfFault;
 use crate::fields::number_of;
 use crate::head::{Head, Sides};
-use crate::opcodes::{LAST_NEW_ROW, LAST_PAINT, LAST_SKIP, NEW_ROW, PAINT, SKIP};
+use crate::items::Items;
+use crate::opcodes::{EOC, LAST_NEW_ROW, LAST_PAINT, LAST_SKIP, NEW_ROW, PAINT, SKIP};
 use packed_rows::{PackedBitmap, Span};
 use pk_runs::{Glyph, Raster};
 use std::alloc::{AllocError as NoMemory, Global};
@@ -66,8 +69,8 @@ impl Drawing {
             && (self.column + n > self.bits.width() || self.row >= self.bits.height())
     }
 
-    // Gives n pixels of the row the colour that is due, and goes on behind them in the other.
-    fn paint(&mut self, n: u32)
+    /// Gives n pixels of the row the colour that is due, and goes on behind them in the other.
+    pub fn paint(&mut self, n: u32)
         requires column { self.old.column ≤ self.old.bits.width }
         requires row { self.old.row ≤ self.old.bits.height }
         requires narrow { self.old.bits.width ≤ MAX_GLYPH_SIDE }
@@ -94,8 +97,8 @@ impl Drawing {
         self.black = !self.black;
     }
 
-    // Goes n rows down, to a column that is counted from the first.
-    fn move_to(&mut self, n: u32, column: u32, black: bool)
+    /// Goes n rows down, to a column that is counted from the first.
+    pub fn move_to(&mut self, n: u32, column: u32, black: bool)
         requires row { self.old.row ≤ MAX_GLYPH_SIDE }
         requires few { n ≤ 2 ^ 24 }
         ensures { self.new ≡ after_move self.old n column black }
@@ -112,7 +115,11 @@ impl Drawing {
         requires low { self.old.bits.height ≤ MAX_GLYPH_SIDE }
         requires column { self.old.column ≤ self.old.bits.width }
         requires row { self.old.row ≤ self.old.bits.height }
-        ensures { (ch : Character) → IsDrawn ch self.old →
+        ensures wide { self.new.bits.width ≡ self.old.bits.width }
+        ensures high { self.new.bits.height ≡ self.old.bits.height }
+        ensures column { self.new.column ≤ self.new.bits.width }
+        ensures row { self.new.row ≤ self.new.bits.height }
+        ensures drawn { (ch : Character) → IsDrawn ch self.old →
             MatchResult result
             (λ _. IsDrawn (record { head = ch.head; commands = item.now ∷ ch.commands }) self.new
             × IsFalse (is_paint (opcode item.now) && is_outside ch item.now))
@@ -130,6 +137,30 @@ impl Drawing {
             self.move_to(1 + number_of(item), 0, false);
         } else if NEW_ROW <= op && op <= LAST_NEW_ROW {
             self.move_to(1, u32::from(op - NEW_ROW), true);
+        }
+        Ok(())
+    }
+
+    /// Carries out the commands up to the end of the character, which is read too, or tells the
+    /// first fault.
+    pub fn commands(&mut self, items: &mut Items) -> Result<(), GfFault>
+        requires narrow { self.old.bits.width ≤ MAX_GLYPH_SIDE }
+        requires low { self.old.bits.height ≤ MAX_GLYPH_SIDE }
+        requires column { self.old.column ≤ self.old.bits.width }
+        requires row { self.old.row ≤ self.old.bits.height }
+        ensures fewer { OnOk result (length items.new ≤ length items.old) }
+        ensures ended { (bytes : List ℕ) (sum : ℕ) (font : Glyphs) →
+            IsReadTo bytes items.old sum font (Some self.old) →
+            MatchResult result (λ _. IsAtEnd bytes items.new sum font self.new)
+            (IsFirstFault bytes) }
+    {
+        self.short_commands(items);
+        'commands: while let Some(item) = items.next(true)? {
+            if item[0] == EOC {
+                return Ok(());
+            }
+            self.command(item)?;
+            self.short_commands(items);
         }
         Ok(())
     }

@@ -1,12 +1,12 @@
 //! The items of a GF file, one by one.
-ghost use Rattle.std.specs.Prelude.{◌≡◌, ◌≤◌, ℕ, List, ◌++◌, ◌∷◌, IfErr, IfOk, IsFalse, MatchOption, None, OnOk, Some, length};
+ghost use Rattle.std.specs.Prelude.{◌≡◌, ◌+◌, ◌≤◌, ◌<◌, ℕ, List, ◌++◌, ◌∷◌, IfErr, IfOk, IsFalse, MatchOption, None, OnOk, Some, length};
 ghost use Rattle.byte_cursor.specs.Cursor.{cursor_after};
 ghost use Rattle.gf_reader.specs.Faults.{place_fault};
 ghost use Rattle.gf_reader.specs.Items.{IsItem, is_misplaced, item_size, opcode, text_size};
 
 use crate::GfFault;
 use crate::fields::field_size;
-use crate::opcodes::{BOC, BOC1, LAST_NEW_ROW, LAST_SPECIAL, NO_OP, POST, SPECIAL};
+use crate::opcodes::{BOC, BOC1, LAST_NEW_ROW, LAST_SPECIAL, NEW_ROW, NO_OP, PAINT, POST, SPECIAL};
 use byte_cursor::Cursor;
 use std::marker::Model;
 
@@ -47,6 +47,45 @@ impl<'a> Items<'a> {
         }
         self.rest = rest;
         Ok(Some(item))
+    }
+
+    /// Reads a paint of one byte, of at most so many pixels, and gives how many it has. `None`
+    /// where another item comes next, which stays unread.
+    #[inline(always)]
+    pub fn short_paint(&mut self, most: u32) -> Option<u32>
+        ensures { MatchOption result (self.new ≡ self.old)
+            (λ n. (self.old ≡ n ∷ self.new) × (n < 64) × (n ≤ most)) }
+    {
+        let len = self.rest.len();
+        if len == 0 {
+            return None;
+        }
+        let op = self.rest[0];
+        let n = u32::from(op);
+        if op >= PAINT || n > most {
+            return None;
+        }
+        self.rest = &self.rest[1..len];
+        Some(n)
+    }
+
+    /// Reads the beginning of a new row that begins with black, and gives its column. `None` where
+    /// another item comes next, which stays unread.
+    #[inline(always)]
+    pub fn new_row(&mut self) -> Option<u32>
+        ensures { MatchOption result (self.new ≡ self.old)
+            (λ k. (self.old ≡ (k + 74) ∷ self.new) × (k ≤ 164)) }
+    {
+        let len = self.rest.len();
+        if len == 0 {
+            return None;
+        }
+        let op = self.rest[0];
+        if op < NEW_ROW || op > LAST_NEW_ROW {
+            return None;
+        }
+        self.rest = &self.rest[1..len];
+        Some(u32::from(op - NEW_ROW))
     }
 }
 

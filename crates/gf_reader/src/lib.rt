@@ -14,6 +14,7 @@ pub mod laws;
 mod opcodes;
 mod preamble;
 mod read;
+mod rows;
 
 pub use faults::{GfFault, GfStop};
 pub use font::GfFont;

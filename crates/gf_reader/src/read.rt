@@ -1,11 +1,12 @@
 //! Reading a GF file.
-ghost use Rattle.std.specs.Prelude.{◌≡◌, ◌≤◌, ◌∷◌, IfErr, IfOk, IsTrue, List, MatchResult, None, Option, Some, ℕ, true, false};
+ghost use Rattle.std.specs.Prelude.{◌≡◌, ◌≤◌, ◌∷◌, IfErr, IfOk, List, MatchResult, None, OnOk, Some, ℕ, false, if◌then◌else◌, pos};
+ghost use Rattle.big_endian.specs.Numbers.{int_eq};
 ghost use Rattle.packed_rows.specs.Bitmap.{IsShaped};
 ghost use Rattle.pk_runs.specs.Limits.{MAX_GLYPH_SIDE, MAX_RASTER_BYTES};
 ghost use Rattle.gf_reader.specs.Characters.{Character, raster_sum};
 ghost use Rattle.gf_reader.specs.Faults.{fault_of_item};
 ghost use Rattle.gf_reader.specs.FirstFault.{IsFirstFault};
-ghost use Rattle.gf_reader.specs.Fonts.{Glyphs, HasGlyphsOf, IsGfFile};
+ghost use Rattle.gf_reader.specs.Fonts.{Glyphs, HasGlyphsOf, IsGfFile, glyph_of};
 ghost use Rattle.gf_reader.specs.Items.{IsItem};
 ghost use Rattle.gf_reader.specs.Reading.{IsRead};
 ghost use Rattle.gf_reader.specs.Stops.{IfFault};
@@ -15,10 +16,10 @@ ghost use Rattle.gf_reader.specs.declared.faults.GfStop.TheVariants as stop;
 use crate::drawing::Drawing;
 use crate::head::{Head, sum_with};
 use crate::items::Items;
-use crate::opcodes::{BOC, BOC1, EOC};
+use crate::opcodes::{BOC, BOC1};
 use crate::preamble::after_preamble;
 use crate::{GfFont, GfStop};
-use std::alloc::Global;
+use std::alloc::{AllocError as NoMemory, Global};
 
 impl GfFont {
     /// Reads the glyphs of a GF file, or tells its first fault. What stands after the closing
@@ -47,43 +48,30 @@ impl GfFont {
         let mut items = Items::new(after_preamble(bytes)?);
         let mut font = GfFont::empty(alloc)?;
         let mut sum = 0;
-        let mut open = None;
-        while let Some(item) = items.next(open.is_some())? {
-            open = match open {
-                Some(drawing) => font.continue_character(drawing, item)?,
-                None => begin_character(alloc, item, &mut sum)?,
-            };
+        'characters: while let Some(item) = items.next(false)? {
+            if let Some(mut drawing) = begin_character(alloc, item, &mut sum)? {
+                drawing.commands(&mut items)?;
+                font.keep(drawing)?;
+            }
         }
         Ok(font)
     }
 
-    // An item in a character: one of its commands, or its end, with which its glyph is kept.
-    fn continue_character(
-        &mut self,
-        mut drawing: Drawing,
-        item: &[u8],
-    ) -> Result<Option<Drawing>, GfStop>
-        requires item { IsItem true item.now }
+    // Keeps the glyph of a character that has ended, where a code that is asked for can be its own.
+    fn keep(&mut self, drawing: Drawing) -> Result<(), NoMemory>
         requires narrow { drawing.bits.width ≤ MAX_GLYPH_SIDE }
         requires low { drawing.bits.height ≤ MAX_GLYPH_SIDE }
         requires shaped { IsShaped drawing.bits }
-        requires column { drawing.column ≤ drawing.bits.width }
-        requires row { drawing.row ≤ drawing.bits.height }
-        ensures { (before : List (List ℕ)) → IsRead before self.old (Some drawing) →
-            MatchResult result
-            (λ drawn. (fault_of_item before item.now ≡ None)
-            × IsRead (item.now ∷ before) self.new drawn)
-            (λ stop. IfFault stop (λ f. fault_of_item before item.now ≡ Some f)) }
+        ensures { OnOk result ((k : ℕ) → glyph_of self.new k ≡
+            (if int_eq drawing.code (pos k)
+            then Some (record { raster = drawing.bits; hoff = drawing.hoff; voff = drawing.voff })
+            else glyph_of self.old k)) }
     {
-        if item[0] != EOC {
-            drawing.command(item)?;
-            return Ok(Some(drawing));
-        }
         if drawing.code >= 0 {
             let code = drawing.code as u32;
             self.put(code, drawing.finish())?;
         }
-        Ok(None)
+        Ok(())
     }
 }
 

@@ -1,70 +1,136 @@
-use Rattle.std.proofs.Common.{◌∙◌, None, Some, true, ap, sym, subst}
-use Rattle.std.specs.Prelude.{is_some}
+use Rattle.std.proofs.Common.{◌∷◌, None, Some, subst}
 use Rattle.std.proofs.lemmas.Result.{err_from_is_err_and}
-use Rattle.gf_reader.specs.Items.{IsItem}
 use Rattle.gf_reader.specs.Reading.{IsRead}
-use Rattle.gf_reader.proofs.ItemsRead.{file_read, item_read, item_stop, read_shaped, sum_kept}
+use Rattle.gf_reader.proofs.CharactersRead.{character_read, read_within}
+use Rattle.gf_reader.proofs.ItemsRead.{file_read, item_read, item_stop, read_shaped}
 use Rattle.gf_reader.proofs.font.GfFont.of_items.Goals as goal
 
-pub continue_character-requires-clause-shaped : goal.continue_character-requires-clause-shaped
-continue_character-requires-clause-shaped c =
-    let h = c.loop-open.invariant.read in
-    read_shaped h.items c.loop-open.font c.in-Some-open.drawing (subst (λ o. IsRead h.items c.loop-open.font o) c.in-Some-open.is h.read)
-
-pub returns-in_err-open-in-Some-open-clause-fault :
-    goal.returns-in_err-open-in-Some-open-clause-fault
-returns-in_err-open-in-Some-open-clause-fault c =
-    let p = err_from_is_err_and c.from_residual-in_err-open-in-Some-open.result c.from_residual-in_err-open-in-Some-open.ensures.1 in
-    let h = c.loop-open.invariant.read in
+pub returns-in_err-drawing-clause-fault : goal.returns-in_err-drawing-clause-fault
+returns-in_err-drawing-clause-fault c =
+    let h = c.characters.invariant.read in
     let item = c.in-Some.item.now in
     let next = rw c.in-Some.is at c.in_ok-item.ensures.item in
-    let whole : IsItem (is_some c.loop-open.open) item = subst (λ b. IsItem b item) c.is_some.ensures next.1 in
-    let read : IsRead h.items c.loop-open.font (Some c.in-Some-open.drawing) = subst (λ o. IsRead h.items c.loop-open.font o) c.in-Some-open.is h.read in
-    rw (p.1, p.2) (item_stop c.args.bytes.now c.loop-open.items item c.next.new.self c.loop-open.sum c.loop-open.font c.loop-open.open c.in_err-open-in-Some-open.field-0.0 h next.0 whole
-    (c.in_err-open-in-Some-open.ensures h.items read))
+    let p = err_from_is_err_and c.from_residual-in_err-drawing.result c.from_residual-in_err-drawing.ensures.1 in
+    rw (p.1, p.2) (item_stop c.args.bytes.now c.characters.items item c.next.new.self c.characters.sum c.characters.font None c.in_err-drawing.field-0.0 h next.0 next.1
+    (c.in_err-drawing.ensures.begun h.items c.characters.font h.sum_is h.read))
 
-pub returns-in_err-open-in-None-clause-fault : goal.returns-in_err-open-in-None-clause-fault
-returns-in_err-open-in-None-clause-fault c =
-    let p = err_from_is_err_and c.from_residual-in_err-open-in-None.result c.from_residual-in_err-open-in-None.ensures.1 in
-    let h = c.loop-open.invariant.read in
+pub commands-requires-clause-narrow : goal.commands-requires-clause-narrow
+commands-requires-clause-narrow c =
+    let h = c.characters.invariant.read in
     let item = c.in-Some.item.now in
     let next = rw c.in-Some.is at c.in_ok-item.ensures.item in
-    let whole : IsItem (is_some c.loop-open.open) item = subst (λ b. IsItem b item) c.is_some.ensures next.1 in
-    let read : IsRead h.items c.loop-open.font None = subst (λ o. IsRead h.items c.loop-open.font o) c.in-None.is h.read in
-    rw (p.1, p.2) (item_stop c.args.bytes.now c.loop-open.items item c.next.new.self c.loop-open.sum c.loop-open.font c.loop-open.open c.in_err-open-in-None.field-0.0 h next.0 whole
-    (c.in_err-open-in-None.ensures.begun h.items c.loop-open.font h.sum_is read))
+    let drawing = c.in-Some-2.drawing in
+    let e = c.in_ok-drawing.ensures.begun h.items c.characters.font h.sum_is h.read in
+    let read : IsRead (item ∷ h.items) c.characters.font (Some drawing) = subst (λ o. IsRead (item ∷ h.items) c.characters.font o) c.in-Some-2.is e.1 in
+    (read_within (item ∷ h.items) c.characters.font drawing read).narrow
 
-pub loop-open-preserved-in_ok-open-in-Some-open : goal.loop-open-preserved-in_ok-open-in-Some-open
-loop-open-preserved-in_ok-open-in-Some-open c =
-    let h = c.loop-open.invariant.read in
+pub commands-requires-clause-low : goal.commands-requires-clause-low
+commands-requires-clause-low c =
+    let h = c.characters.invariant.read in
     let item = c.in-Some.item.now in
     let next = rw c.in-Some.is at c.in_ok-item.ensures.item in
-    let whole : IsItem (is_some c.loop-open.open) item = subst (λ b. IsItem b item) c.is_some.ensures next.1 in
-    let inside : IsItem true item = subst (λ b. IsItem b item) (ap is_some c.in-Some-open.is) whole in
-    let read : IsRead h.items c.loop-open.font (Some c.in-Some-open.drawing) = subst (λ o. IsRead h.items c.loop-open.font o) c.in-Some-open.is h.read in
-    let e = c.in_ok-open-in-Some-open.ensures h.items read in
+    let drawing = c.in-Some-2.drawing in
+    let e = c.in_ok-drawing.ensures.begun h.items c.characters.font h.sum_is h.read in
+    let read : IsRead (item ∷ h.items) c.characters.font (Some drawing) = subst (λ o. IsRead (item ∷ h.items) c.characters.font o) c.in-Some-2.is e.1 in
+    (read_within (item ∷ h.items) c.characters.font drawing read).low
+
+pub commands-requires-clause-column : goal.commands-requires-clause-column
+commands-requires-clause-column c =
+    let h = c.characters.invariant.read in
+    let item = c.in-Some.item.now in
+    let next = rw c.in-Some.is at c.in_ok-item.ensures.item in
+    let drawing = c.in-Some-2.drawing in
+    let e = c.in_ok-drawing.ensures.begun h.items c.characters.font h.sum_is h.read in
+    let read : IsRead (item ∷ h.items) c.characters.font (Some drawing) = subst (λ o. IsRead (item ∷ h.items) c.characters.font o) c.in-Some-2.is e.1 in
+    (read_within (item ∷ h.items) c.characters.font drawing read).column
+
+pub commands-requires-clause-row : goal.commands-requires-clause-row
+commands-requires-clause-row c =
+    let h = c.characters.invariant.read in
+    let item = c.in-Some.item.now in
+    let next = rw c.in-Some.is at c.in_ok-item.ensures.item in
+    let drawing = c.in-Some-2.drawing in
+    let e = c.in_ok-drawing.ensures.begun h.items c.characters.font h.sum_is h.read in
+    let read : IsRead (item ∷ h.items) c.characters.font (Some drawing) = subst (λ o. IsRead (item ∷ h.items) c.characters.font o) c.in-Some-2.is e.1 in
+    (read_within (item ∷ h.items) c.characters.font drawing read).row
+
+pub returns-in_err-commands-clause-fault : goal.returns-in_err-commands-clause-fault
+returns-in_err-commands-clause-fault c =
+    let h = c.characters.invariant.read in
+    let item = c.in-Some.item.now in
+    let next = rw c.in-Some.is at c.in_ok-item.ensures.item in
+    let drawing = c.in-Some-2.drawing in
+    let e = c.in_ok-drawing.ensures.begun h.items c.characters.font h.sum_is h.read in
+    let read : IsRead (item ∷ h.items) c.characters.font (Some drawing) = subst (λ o. IsRead (item ∷ h.items) c.characters.font o) c.in-Some-2.is e.1 in
+    let begun = item_read c.args.bytes.now c.characters.items item c.next.new.self c.characters.sum c.begin_character.new.sum c.characters.font c.characters.font None (Some drawing) h next.0 next.1 e.0 read e.2 in
+    let p = err_from_is_err_and c.from_residual-in_err-commands.result c.from_residual-in_err-commands.ensures.1 in
+    rw (p.1, p.2) (c.in_err-commands.ensures.ended c.args.bytes.now c.begin_character.new.sum c.characters.font begun)
+
+pub keep-requires-clause-narrow : goal.keep-requires-clause-narrow
+keep-requires-clause-narrow c =
+    let h = c.characters.invariant.read in
+    let item = c.in-Some.item.now in
+    let next = rw c.in-Some.is at c.in_ok-item.ensures.item in
+    let drawing = c.in-Some-2.drawing in
+    let e = c.in_ok-drawing.ensures.begun h.items c.characters.font h.sum_is h.read in
+    let read : IsRead (item ∷ h.items) c.characters.font (Some drawing) = subst (λ o. IsRead (item ∷ h.items) c.characters.font o) c.in-Some-2.is e.1 in
+    let begun = item_read c.args.bytes.now c.characters.items item c.next.new.self c.characters.sum c.begin_character.new.sum c.characters.font c.characters.font None (Some drawing) h next.0 next.1 e.0 read e.2 in
+    let at = c.in_ok-commands.ensures.ended c.args.bytes.now c.begin_character.new.sum c.characters.font begun in
+    (read_within at.3.items c.characters.font c.commands.new.self at.3.read).narrow
+
+pub keep-requires-clause-low : goal.keep-requires-clause-low
+keep-requires-clause-low c =
+    let h = c.characters.invariant.read in
+    let item = c.in-Some.item.now in
+    let next = rw c.in-Some.is at c.in_ok-item.ensures.item in
+    let drawing = c.in-Some-2.drawing in
+    let e = c.in_ok-drawing.ensures.begun h.items c.characters.font h.sum_is h.read in
+    let read : IsRead (item ∷ h.items) c.characters.font (Some drawing) = subst (λ o. IsRead (item ∷ h.items) c.characters.font o) c.in-Some-2.is e.1 in
+    let begun = item_read c.args.bytes.now c.characters.items item c.next.new.self c.characters.sum c.begin_character.new.sum c.characters.font c.characters.font None (Some drawing) h next.0 next.1 e.0 read e.2 in
+    let at = c.in_ok-commands.ensures.ended c.args.bytes.now c.begin_character.new.sum c.characters.font begun in
+    (read_within at.3.items c.characters.font c.commands.new.self at.3.read).low
+
+pub keep-requires-clause-shaped : goal.keep-requires-clause-shaped
+keep-requires-clause-shaped c =
+    let h = c.characters.invariant.read in
+    let item = c.in-Some.item.now in
+    let next = rw c.in-Some.is at c.in_ok-item.ensures.item in
+    let drawing = c.in-Some-2.drawing in
+    let e = c.in_ok-drawing.ensures.begun h.items c.characters.font h.sum_is h.read in
+    let read : IsRead (item ∷ h.items) c.characters.font (Some drawing) = subst (λ o. IsRead (item ∷ h.items) c.characters.font o) c.in-Some-2.is e.1 in
+    let begun = item_read c.args.bytes.now c.characters.items item c.next.new.self c.characters.sum c.begin_character.new.sum c.characters.font c.characters.font None (Some drawing) h next.0 next.1 e.0 read e.2 in
+    let at = c.in_ok-commands.ensures.ended c.args.bytes.now c.begin_character.new.sum c.characters.font begun in
+    read_shaped at.3.items c.characters.font c.commands.new.self at.3.read
+
+pub characters-preserved-in_ok-keep : goal.characters-preserved-in_ok-keep
+characters-preserved-in_ok-keep c =
+    let h = c.characters.invariant.read in
+    let item = c.in-Some.item.now in
+    let next = rw c.in-Some.is at c.in_ok-item.ensures.item in
+    let drawing = c.in-Some-2.drawing in
+    let e = c.in_ok-drawing.ensures.begun h.items c.characters.font h.sum_is h.read in
+    let read : IsRead (item ∷ h.items) c.characters.font (Some drawing) = subst (λ o. IsRead (item ∷ h.items) c.characters.font o) c.in-Some-2.is e.1 in
+    let begun = item_read c.args.bytes.now c.characters.items item c.next.new.self c.characters.sum c.begin_character.new.sum c.characters.font c.characters.font None (Some drawing) h next.0 next.1 e.0 read e.2 in
+    let at = c.in_ok-commands.ensures.ended c.args.bytes.now c.begin_character.new.sum c.characters.font begun in
     record {
-      read = item_read c.args.bytes.now c.loop-open.items item c.next.new.self c.loop-open.sum c.loop-open.sum c.loop-open.font c.continue_character.new.self c.loop-open.open c.in_ok-open-in-Some-open.open
-          h next.0 whole e.0 e.1 (h.sum_is ∙ sym (sum_kept item h.items inside));
-      few = c.loop-open.invariant.few;
+      read = character_read c.args.bytes.now c.commands.new.items c.begin_character.new.sum c.characters.font c.keep.new.self c.commands.new.self at c.in_ok-keep.ensures;
+      few = c.in_ok-drawing.ensures.few;
     }
 
-pub loop-open-preserved : goal.loop-open-preserved
-loop-open-preserved c =
-    let h = c.loop-open.invariant.read in
+pub characters-preserved : goal.characters-preserved
+characters-preserved c =
+    let h = c.characters.invariant.read in
     let item = c.in-Some.item.now in
     let next = rw c.in-Some.is at c.in_ok-item.ensures.item in
-    let whole : IsItem (is_some c.loop-open.open) item = subst (λ b. IsItem b item) c.is_some.ensures next.1 in
-    let read : IsRead h.items c.loop-open.font None = subst (λ o. IsRead h.items c.loop-open.font o) c.in-None.is h.read in
-    let e = c.in_ok-open-in-None.ensures.begun h.items c.loop-open.font h.sum_is read in
+    let e = c.in_ok-drawing.ensures.begun h.items c.characters.font h.sum_is h.read in
+    let read : IsRead (item ∷ h.items) c.characters.font None = subst (λ o. IsRead (item ∷ h.items) c.characters.font o) c.in_default-2.is e.1 in
     record {
-      read = item_read c.args.bytes.now c.loop-open.items item c.next.new.self c.loop-open.sum c.begin_character.new.sum c.loop-open.font c.loop-open.font c.loop-open.open c.in_ok-open-in-None.open
-          h next.0 whole e.0 e.1 e.2;
-      few = c.in_ok-open-in-None.ensures.few;
+      read = item_read c.args.bytes.now c.characters.items item c.next.new.self c.characters.sum c.begin_character.new.sum c.characters.font c.characters.font None None h next.0 next.1 e.0 read e.2;
+      few = c.in_ok-drawing.ensures.few;
     }
 
 pub returns-clause-glyphs : goal.returns-clause-glyphs
 returns-clause-glyphs c =
-    let h = c.loop-open.invariant.read in
+    let h = c.characters.invariant.read in
     let end = rw c.in_default.is at c.in_ok-item.ensures.item in
-    file_read c.args.bytes.now c.loop-open.items end.1 c.loop-open.sum c.loop-open.font c.loop-open.open h (sym c.is_some.ensures ∙ end.0) end.2
+    file_read c.args.bytes.now c.characters.items end.1 c.characters.sum c.characters.font None h end.0 end.2
