@@ -1,5 +1,5 @@
 -- The characters of a GF file have glyphs by their codes.
-use Rattle.std.proofs.Common.{◌≡◌, ◌∙◌, ◌<◌, inl, inr, ℕ, ℤ, pos, negsuc, List, [], ◌∷◌, length, Option, Some, None, get_or, sym, ap, refl}
+use Rattle.std.proofs.Common.{◌≡◌, ◌∙◌, ◌<◌, inl, inr, ℕ, ℤ, pos, negsuc, List, [], ◌∷◌, length, Option, Some, None, get_or, ap, refl}
 use Rattle.std.specs.Prelude.{◌==◌, if◌then◌else◌}
 use Rattle.std.specs.Map.{lookup}
 use Rattle.std.proofs.lemmas.Bool.{cases_lt, lt-ltb, le-ltb}

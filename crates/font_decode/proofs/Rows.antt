@@ -18,7 +18,7 @@ use Rattle.vf_reader.proofs.OneMeaning as vf_file
 use Rattle.font_decode.specs.Names.{is_valid_name, dpi, is_resolution}
 use Rattle.font_decode.specs.Files.{FontFiles}
 use Rattle.font_decode.specs.Locals.{are_local_sizes}
-use Rattle.font_decode.specs.Decoding.{is_too_long, IsPackedFont, IsGenericFont, IsVirtualFont, DecodesPk, DecodesShortPk, DecodesGf, DecodesShortGf, DecodesGlyphs, DecodesItems, DecodesVf, DecodesSound, DecodesTfm}
+use Rattle.font_decode.specs.Decoding.{is_too_long, IsPackedFont, IsGenericFont, IsVirtualFont, DecodesPk, DecodesGf, DecodesShortGf, DecodesGlyphs, DecodesItems, DecodesVf, DecodesSound, DecodesTfm}
 use Rattle.font_decode.specs.Rows.{Row, WrongName, NoTfm, LongTfm, WrongTfm, LongVf, WrongVf, LocalSize, Resolution, LongPk, WrongPk, LongGf, WrongGf, NoGlyphs, Holds, HoldsNot, NoneHolds, FirstHolds, IsFirstOf, IsFirstRow}
 use Rattle.font_decode.specs.Laws.{RowsDetermineTheDecoding}
 use Rattle.font_decode.specs.declared.font_or_fault.Decoded.{Decoded}

@@ -1,6 +1,6 @@
 -- What may be wrong with a font: one list of rows, in the order in which its name and its files are
 -- judged. The first row that holds is the font's fault; where none holds, there is the font.
-use Rattle.std.specs.Prelude.{◌≡◌, ◌⊎◌, ℕ, List, [], ◌∷◌, Some, None, Option, IsTrue, IsFalse, MatchOption}
+use Rattle.std.specs.Prelude.{◌≡◌, ◌⊎◌, ℕ, List, [], ◌∷◌, Some, None, IsTrue, IsFalse, MatchOption}
 use Rattle.tfm_reader.specs.Tfm.{tfm_fault}
 use Rattle.tfm_reader.specs.declared.faults.TfmFault.{TfmFault}
 use Rattle.pk_packets.specs.Faults as pk_file
