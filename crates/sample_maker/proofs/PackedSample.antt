@@ -60,7 +60,7 @@ dot_again =
     let all = one_of_all (IsMeasured coding.Packed) (65, dot_glyph) dot_measured in
     let few : size_sum (alone dot_glyph) ≤ MAX_RASTER_BYTES = omega arith in
     let file = is_file coding.Packed (alone dot_glyph) all refl few in
-    (after coding.Packed [] (alone dot_glyph), file, glyphs_again coding.Packed (alone dot_glyph) all refl few (after coding.Packed [] (alone dot_glyph)) file 65)
+    (after coding.Packed [] (alone dot_glyph), file, glyphs_again coding.Packed (alone dot_glyph) all refl few (after coding.Packed [] (alone dot_glyph)) file)
 
 -- ---- the other one, as a bitmap
 
@@ -97,7 +97,7 @@ bar_again =
     let all = one_of_all (IsMeasured coding.Packed) (65, bar_glyph) bar_measured in
     let few : size_sum (alone bar_glyph) ≤ MAX_RASTER_BYTES = omega arith in
     let file = is_file coding.Packed (alone bar_glyph) all refl few in
-    (after coding.Packed [] (alone bar_glyph), file, glyphs_again coding.Packed (alone bar_glyph) all refl few (after coding.Packed [] (alone bar_glyph)) file 65)
+    (after coding.Packed [] (alone bar_glyph), file, glyphs_again coding.Packed (alone bar_glyph) all refl few (after coding.Packed [] (alone bar_glyph)) file)
 
 pub packed_glyphs_are_read : PackedGlyphsAreRead
 packed_glyphs_are_read = (dot_again, bar_again)

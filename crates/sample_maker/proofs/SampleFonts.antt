@@ -1,6 +1,6 @@
 -- The font files of the sample, read.
-use Rattle.std.proofs.Common.{◌≡◌, ℕ, ◌<◌, ◌≤◌, ℤ, pos, List, [], ◌∷◌, Some, refl, arith, inl, inr}
-use Rattle.std.specs.Prelude.{codes}
+use Rattle.std.proofs.Common.{◌≡◌, ℕ, ◌<◌, ◌≤◌, ℤ, pos, Bool, true, false, List, [], ◌∷◌, Some, None, refl, arith, inl, inr}
+use Rattle.std.specs.Prelude.{codes, ◌==◌, if◌then◌else◌}
 use Rattle.std.specs.List.{AllByRecursion}
 use Rattle.std.specs.FinMap.{get-from_entries}
 use Rattle.std.proofs.lemmas.Int.{ints}
@@ -8,11 +8,13 @@ use Rattle.std.specs.Cmp.Lexicographic.{nat_list_cmp_total}
 use Rattle.dvi_commands.specs.Spelling.{Font, Set}
 use Rattle.pk_runs.specs.Numbers.{Item, Repeat, Run, SpellsItem, SpellsItems}
 use Rattle.pk_runs.specs.Raster.{ItemsFit}
-use Rattle.pk_packets.specs.Fonts.{HasRaster}
+use Rattle.pk_runs.specs.declared.glyph.Glyph.{Glyph}
+use Rattle.pk_packets.specs.Fonts.{HasRaster, IsAnswer, IsGlyphFor, IsGlyphOf}
 use Rattle.fix_word.specs.FixWords.{IsFixWord}
 use Rattle.tfm_reader.specs.Right.{IsTfm}
 use Rattle.tfm_reader.specs.Tfm.{tfm_width}
 use Rattle.vf_reader.specs.Fonts.{IsVfFile}
+use Rattle.sample_maker.specs.PkFile.{glyph_given}
 use Rattle.sample_maker.specs.TfmFile.{tfm_file}
 use Rattle.sample_maker.specs.VfFile.{packet_item, vf_file, vf_items}
 use Rattle.sample_maker.specs.Sample.{FilesAreTheSix, GivesGlyph, MetricsAreRead, VirtualFontIsRead, bar_glyph, bar_pk, bar_tfm, dot_glyph, dot_pk, dot_tfm, duo_tfm, duo_vf, files_with, named_files, packed_bar_pk, packed_dot_pk, packed_files, sample_files}
@@ -112,12 +114,21 @@ virtual_read = (duo_items, duo_is, refl, refl)
 
 -- ---- glyphs
 
+-- the answers of a file with one packet
+answer_of : (b : Bool) (packet : List ℕ) (g : Glyph) → IsGlyphOf packet g → IsGlyphFor (if b then Some packet else None) (if b then Some g else None)
+answer_of true packet g h = (g, refl, h)
+answer_of false packet g h = refl
+
 dot_packet : List ℕ
 dot_packet = 0xe0 ∷ 0x09 ∷ 0x41 ∷ 0x01 ∷ 0x00 ∷ 0x00 ∷ 0x04 ∷ 0x02 ∷ 0x02 ∷ 0x00 ∷ 0x01 ∷ 0xf0 ∷ []
 
 dot_raster : HasRaster dot_packet dot_glyph.raster
 unfolding dot_packet
 dot_raster = (dot_glyph.raster.rows, refl, (omega arith, refl))
+
+dot_answers : (c : ℕ) → IsAnswer (dot_packet ∷ []) c (glyph_given ((65, dot_glyph) ∷ []) c)
+unfolding dot_packet
+dot_answers c = answer_of (65 == c) dot_packet dot_glyph (record { raster = dot_raster; hoff = refl; voff = refl })
 
 pub dot_read : GivesGlyph dot_pk dot_glyph
 unfolding dot_pk dot_packet
@@ -129,7 +140,7 @@ dot_read = (
     unused = [];
     whole = refl;
   },
-  (dot_glyph, refl, record { raster = dot_raster; hoff = refl; voff = refl }),
+  dot_answers,
 )
 
 bar_packet : List ℕ
@@ -183,6 +194,10 @@ bar_raster = (
   },
 )
 
+bar_answers : (c : ℕ) → IsAnswer (bar_packet ∷ []) c (glyph_given ((65, bar_glyph) ∷ []) c)
+unfolding bar_packet
+bar_answers c = answer_of (65 == c) bar_packet bar_glyph (record { raster = bar_raster; hoff = refl; voff = refl })
+
 pub bar_read : GivesGlyph bar_pk bar_glyph
 unfolding bar_pk bar_packet
 bar_read = (
@@ -193,5 +208,5 @@ bar_read = (
     unused = 0xf6 ∷ 0xf6 ∷ [];
     whole = refl;
   },
-  (bar_glyph, refl, record { raster = bar_raster; hoff = refl; voff = refl }),
+  bar_answers,
 )

@@ -19,7 +19,7 @@ use Rattle.vf_reader.specs.Fonts.{IsVfFile, program_with}
 use Rattle.vf_reader.specs.Locals.{locals_of}
 use Rattle.vf_reader.specs.declared.locals.LocalDef.{LocalDef}
 use Rattle.sample_maker.specs.DviFile.{GivesBack, document_text}
-use Rattle.sample_maker.specs.PkFile.{packed_file}
+use Rattle.sample_maker.specs.PkFile.{glyph_given, packed_file}
 use Rattle.sample_maker.specs.TfmFile.{tfm_file}
 use Rattle.sample_maker.specs.VfFile.{vf_file}
 
@@ -190,10 +190,11 @@ VirtualFontIsRead = (items : List (List ℕ)) × IsVfFile duo_vf items
     × (locals_of items ≡ local_of (pos 0) dot ∷ local_of (pos 1) bar ∷ [])
     × (program_with items 65 ≡ Some (0x41 ∷ 0xac ∷ 0x41 ∷ []))
 
--- a PK file gives the character 65 a glyph
+-- a PK file gives the character 65 a glyph, and no other character
 abbrev pub GivesGlyph : List ℕ → Glyph → Type 0
 GivesGlyph bytes glyph =
-    (items : List (List ℕ)) × IsPkFile bytes items × IsAnswer items 65 (Some glyph)
+    (items : List (List ℕ)) × IsPkFile bytes items
+    × ((c : ℕ) → IsAnswer items c (glyph_given ((65, glyph) ∷ []) c))
 
 abbrev pub GlyphsAreRead : Type 0
 GlyphsAreRead = GivesGlyph dot_pk dot_glyph × GivesGlyph bar_pk bar_glyph

@@ -12,8 +12,8 @@ pub fn samples()
 {}
 
 /// The library has the six font files and no other. Each is what its reader reads: the widths, the
-/// commands and the glyphs of the character 65. The PK files of the packed sample give the same
-/// glyphs.
+/// commands and the glyphs of the character 65, of which a PK file has no other. The PK files of
+/// the packed sample give the same glyphs.
 pub fn font_files()
     ensures six { FilesAreTheSix }
     ensures metrics { MetricsAreRead }
