@@ -1,4 +1,4 @@
-"""bench/pages tells a program's own memory and not that of the script, and counts whole pages."""
+"""bench/pages tells a program's own memory and not that of the script, and counts whole pages; bench/divisions finds what divides."""
 import os, re, subprocess, sys, tempfile, unittest
 
 from common import TOP
@@ -34,6 +34,41 @@ class Pages(unittest.TestCase):
 
     def test_a_shell_that_fails_has_no_page(self):
         self.assertEqual(self.measured('#!/bin/sh\nprintf "P4\\n8 2\\nx"\nexit 7\n')[:2], (7, 0))
+
+
+# What a disassembly says of a loop that calls a function of packed_rows, which calls another one that divides, and of one for rules.
+CODE = '''#!/bin/sh
+cat <<'END'
+0000000000000010 <page_draw::flats::draw_flats>:
+      10:\tcall   20 <packed_rows::strips::stamp>
+      15:\tcall   30 <drift_rules::marks::rule_at>
+      1a:\tret
+0000000000000020 <packed_rows::strips::stamp>:
+      20:\tjmp    40 <packed_rows::pieces::stamp_part>
+0000000000000030 <drift_rules::marks::rule_at>:
+      30:\tdiv    %ecx
+0000000000000040 <packed_rows::pieces::stamp_part>:
+      40:\t{instruction}
+      43:\tret
+END
+'''
+
+
+class Divisions(unittest.TestCase):
+    def looked(self, instruction):
+        with tempfile.TemporaryDirectory() as room:
+            path = os.path.join(room, 'objdump')
+            with open(path, 'w') as file:
+                file.write(CODE.format(instruction=instruction))
+            os.chmod(path, 0o755)
+            environment = dict(os.environ, PATH=f'{room}:{os.environ["PATH"]}')
+            ran = subprocess.run([sys.executable, f'{TOP}/bench/divisions', 'program'], capture_output=True, text=True, env=environment)
+        return ran.returncode, ran.stdout.splitlines()[-1:]
+
+    def test_what_divides_in_the_loop_is_found(self):
+        last = 'packed_rows::pieces::stamp_part: 2 instructions, {} divide, {} calls of a wide division'.format
+        found = [self.looked(instruction) for instruction in ('mul    %rcx', 'div    %rcx', 'call   50 <__udivti3>')]
+        self.assertEqual(found, [(0, [last(0, 0)]), (1, [last(1, 0)]), (1, [last(0, 1)])])
 
 
 if __name__ == '__main__':
