@@ -12,6 +12,7 @@ use crate::words::{join_word, span_word};
 
 /// Makes the pixels of some columns black in some rows, each of `stride` bytes: by one word a row
 /// where the columns lie in eight bytes of it, else by whole bytes with a mask at either end.
+#[inline(always)]
 pub fn blacken_rows(bytes: &mut [u8], stride: usize, columns: Span, rows: Span)
     requires small { stride < 2 ^ 20 }
     requires few { rows.until < 2 ^ 20 }
@@ -38,6 +39,7 @@ pub fn blacken_rows(bytes: &mut [u8], stride: usize, columns: Span, rows: Span)
 
 // Makes the pixels of some columns black that lie in eight bytes of a row. At a row's end the word
 // reaches into the next row, and is white there.
+#[inline(always)]
 fn blacken_words(bytes: &mut [u8], stride: usize, columns: Span, rows: Span)
     requires small { stride < 2 ^ 20 }
     requires few { rows.until < 2 ^ 20 }

@@ -114,6 +114,7 @@ impl PaddedBitmap {
     }
 
     /// Makes the pixels of some columns black in some rows, and leaves the others as they are.
+    #[inline(never)]
     pub fn blacken(&mut self, columns: Span, rows: Span)
         requires columns_ordered { columns.from ≤ columns.until }
         requires columns_inside { columns.until ≤ self.old.width }
