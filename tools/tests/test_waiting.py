@@ -1,6 +1,7 @@
-"""How the seats of a turn lock wait: every order of their steps, as tools/waiting_model.py has them, and bugs that it is to find."""
-import os, subprocess, sys, unittest
-from common import TOP
+"""How the seats of a turn lock wait: every order of their steps, as tools/waiting_model.py has them, and bugs that it is to find; and the real lock,
+of which one wake is lost."""
+import os, shutil, subprocess, sys, tempfile, unittest
+from common import TOP, needs
 
 sys.path.insert(0, f'{TOP}/tools')
 import waiting_model
@@ -36,6 +37,29 @@ class Waiting(unittest.TestCase):
         self.assertEqual(calls('waiting.rt', 'approach'), ['is_free_soon', 'announce', 'is_taken', 'sleep_until_called', 'come'])
         self.assertEqual(calls('waiting.rt', 'sleep_in_line'), ['announce', 'mark', 'peek(SERVING)', 'sleep_at', 'leave'])
         self.assertEqual(calls('waiting.rt', 'wake'), ['are_none', 'wake', 'is_taken', 'call'])
+
+
+@needs('rt')
+class LostWake(unittest.TestCase):
+    CALL = '            self.called.wake_one();\n'
+    LATE = 'test tests::turns::late::a_turn_given_late ... '
+
+    def test_a_lost_wake_fails_its_test(self):
+        """`rt try` proves nothing, so that a bug costs a minute of a processor. Each of the 2000 times costs a sleep of 50 milliseconds then,
+        100 seconds in all, however fast the machine is, and the test has 20."""
+        with tempfile.TemporaryDirectory() as room:
+            for name in ('crates.txt', 'HANDLES'):
+                shutil.copy(os.path.join(TOP, name), room)
+            shutil.copytree(f'{TOP}/crates', f'{room}/crates', ignore=shutil.ignore_patterns('out', 'proofs', 'must-fail', 'more-bugs'))
+            place = f'{room}/crates/turn_lock/src/sleepers.rt'
+            with open(place, encoding='utf-8') as file:
+                good = file.read()
+            self.assertEqual(good.count(self.CALL), 1)
+            with open(place, 'w', encoding='utf-8') as file:
+                file.write(good.replace(self.CALL, ''))
+            ran = subprocess.run(['rt', 'try', '--test', '--seconds', '20'], cwd=f'{room}/crates/seat_tests', stdin=subprocess.DEVNULL,
+                                 stdout=subprocess.PIPE, stderr=subprocess.STDOUT, text=True)
+        self.assertEqual([line for line in ran.stdout.splitlines() if line.startswith(self.LATE)], [f'{self.LATE}FAILED'], ran.stdout)
 
 
 if __name__ == '__main__':
