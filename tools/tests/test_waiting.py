@@ -1,7 +1,7 @@
 """How the seats of a turn lock wait: every order of their steps, as tools/waiting_model.py has them, and bugs that it is to find; and the real lock,
 of which one wake is lost."""
 import os, shutil, subprocess, sys, tempfile, unittest
-from common import TOP, needs
+from common import TOP
 
 sys.path.insert(0, f'{TOP}/tools')
 import waiting_model
@@ -39,7 +39,7 @@ class Waiting(unittest.TestCase):
         self.assertEqual(calls('waiting.rt', 'wake'), ['are_none', 'wake', 'is_taken', 'call'])
 
 
-@needs('rt')
+@unittest.skipUnless(shutil.which('rt'), 'not installed: rt')
 class LostWake(unittest.TestCase):
     CALL = '            self.called.wake_one();\n'
     LATE = 'test tests::turns::late::a_turn_given_late ... '
