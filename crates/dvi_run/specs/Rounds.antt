@@ -9,7 +9,9 @@ use Rattle.packed_rows.specs.Bitmap.{Bitmap}
 use Rattle.packed_rows.specs.Changes.{black_count}
 use Rattle.page_index.specs.Document.{Reading}
 use Rattle.page_index.specs.Pages.{Indexed, document_units}
+use Rattle.pixel_round.specs.Preamble.{AreUnits}
 use Rattle.turn_lock.specs.Seats.{SeatView}
+use Rattle.turn_lock.specs.Views.{opening_view}
 use Rattle.cache_core.specs.declared.calls.Call.{Call}
 use Rattle.cache_core.specs.Histories.{own, SeatCalls, NoneReleased, looks}
 use Rattle.font_decode.specs.Desks.{TrailGrew, ReleasedLast, Loaded, misses}
@@ -115,6 +117,17 @@ pub record MayBegin {F : Type 0} (s : Site F) (w : Worker F) : Type 0 where
   pub pages : w.pages.items ≡ []
   pub keys : keys_of w.seat ≡ []
   pub room : MAX_PAGES * MAX_FLAT_COMMANDS ≤ room_at w.loads w.seat
+
+-- A bench with a new cache, and the first seat of that, for a document that is indexed: it keeps n
+-- fonts at most, and is for fonts of this library where it is known.
+pub record IsNewBench (capacity : ℕ) (known : Option FileTable) (indexed : Indexed) (bench : Bench)
+    (first : SeatView) : Type 0 where
+  pub units : document_units indexed.res indexed.reading ≡ Some bench.units
+  pub sound : AreUnits bench.units
+  pub lock : first.lock ≡ bench.cache
+  pub opening : first.view
+      ≡ opening_view
+      (record { capacity = capacity; units = bench.units; library = known })
 
 -- ---- a result that is written
 

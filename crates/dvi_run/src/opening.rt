@@ -1,11 +1,13 @@
-//! A new cache.
-ghost use Rattle.std.specs.Prelude.{◌≡◌, ◌≤◌, IfOk};
+//! A new bench, with its cache.
+ghost use Rattle.std.specs.Prelude.{◌≡◌, ◌≤◌, IfOk, IfSome, Ok};
 ghost use Rattle.cache_core.specs.declared.common.Common.{Common};
 ghost use Rattle.turn_lock.specs.Views.{opening_view};
 ghost use Rattle.cache_core.specs.Limits.{MAX_CACHED_FONTS};
 
 use cache_core::Stands;
 use font_cache::{CacheSeat, FontCache};
+use font_decode::Decoded;
+use page_workers::Bench;
 use pixel_round::Units;
 use std::alloc::{AllocError as NoMemory, Global};
 
@@ -25,4 +27,18 @@ pub fn open_cache<T: Stands>(
     ensures seat { IfOk result (λ made. made.1.view ≡ opening_view part) }
 {
     FontCache::make(alloc, capacity)
+}
+
+/// A bench with this cache and these units, and the seat, where there was memory for the cache.
+pub fn bench_with(
+    opened: Result<(FontCache<Decoded>, CacheSeat<Decoded>), NoMemory>,
+    units: Units,
+) -> Option<(Bench, CacheSeat<Decoded>)>
+    ensures same { IfSome result (λ made. made.0.units ≡ units) }
+    ensures made { IfSome result (λ made. opened ≡ Ok (made.0.cache, made.1)) }
+{
+    let Ok((cache, first)) = opened else {
+        return None;
+    };
+    Some((Bench { cache, units }, first))
 }

@@ -1,5 +1,5 @@
 //! All pages of a document by workers that share one cache of fonts.
-ghost use Rattle.std.specs.Prelude.{◌≡◌, ◌+◌, ◌<◌, ◌≤◌, [], ℕ, List, Option, None, Some, length, slice_index_or};
+ghost use Rattle.std.specs.Prelude.{◌≡◌, ◌+◌, ◌<◌, ◌≤◌, [], ℕ, List, Option, None, Some, IfSome, is_some, length, slice_index_or};
 ghost use Rattle.outside.specs.Counts.{Rose};
 ghost use Rattle.outside.specs.Library.{FileTable};
 ghost use Rattle.cache_core.specs.Histories.{own};
@@ -17,12 +17,11 @@ ghost use Rattle.dvi_run.specs.Pages.{AreValues};
 ghost use Rattle.dvi_run.specs.Endings.{EndsPages, Source, value_of_ending};
 ghost use Rattle.dvi_run.specs.Looked.{EveryPageCameToItsEnd, MayBreakOff};
 ghost use Rattle.dvi_run.specs.Shares.{WorkersDrew};
-ghost use Rattle.dvi_run.specs.Rounds.{FailedAt, IsFresh, WorkerRan};
+ghost use Rattle.dvi_run.specs.Rounds.{FailedAt, IsFresh, IsNewBench, WorkerRan};
 ghost use Rattle.dvi_run.specs.Tally.{TallyMatches, TallyMatchesRun};
 ghost use Rattle.page_workers.specs.Limits.{MAX_WORKERS};
 
 use crate::ending::Ending;
-use crate::opening::open_cache;
 use crate::rounds::write_rounds;
 use crate::tally::Tally;
 use cache_core::Entry;
@@ -108,28 +107,29 @@ pub fn draw_with_cache<R: Threads + Wait + Sync, F: FontSource + Send, O: Output
     (ending, tally, cache.close(first))
 }
 
-/// Draws and writes the pages with a new cache of n fonts at most. The list of its calls goes into
-/// `history`. There is no tally where there is no memory for the cache.
+/// Draws and writes the pages with a new bench and the first seat of its cache, where there was
+/// memory for these, and gives the history of this cache. There is a tally exactly where there is a
+/// cache.
 pub fn draw_with_shared_cache<R: Threads + Wait + Sync, F: FontSource + Send, O: Output>(
     rt: &R,
     alloc: Global,
     settings: &Settings,
     index: &Index,
     workers: &mut [Worker<F>],
+    opening: Option<(Bench, CacheSeat<Decoded>)>,
     out: &mut O,
-    history: &mut Vec<Entry>,
-) -> (Ending, Option<Tally>)
+) -> (Ending, Option<Tally>, Vec<Entry>)
     ghost known: { Option FileTable }
     requires some { 1 ≤ length workers.old }
     requires few { length workers.old ≤ MAX_WORKERS }
-    requires some_font { 1 ≤ settings.now.cache }
-    requires few_fonts { settings.now.cache ≤ 256 }
     requires sheet { IsDrawable settings.now.sheet }
-    requires empty { history.old.items ≡ [] }
+    requires opening { IfSome opening (λ made. IsNewBench settings.now.cache known index.now made.0
+        made.1) }
     requires fresh { (k : ℕ) (d : _) → k < length workers.old
         → IsFresh F.library known (slice_index_or workers.old k d) }
     requires seatless { (k : ℕ) (d : _) → k < length workers.old
         → (slice_index_or workers.old k d).seat ≡ None }
+    ensures tallied { is_some result.1 ≡ is_some opening }
     ensures ends { (values : List PageValue)
         × AreValues (record { library = known; res = index.now.res; sheet = settings.now.sheet })
         index.now.reading values
@@ -137,33 +137,30 @@ pub fn draw_with_shared_cache<R: Threads + Wait + Sync, F: FontSource + Send, O:
         (Rose (O.faults out.old) (O.faults out.new))
         (Unit {0}) (value_of_ending result.0) index.now.reading values
         × TallyMatchesRun settings.now.summary (O.written out.old) (O.written out.new)
-        (calls_of history.new.items) result.1 (value_of_ending result.0) values }
+        (calls_of result.2.items) result.1 (value_of_ending result.0) values }
     ensures cause { (page : ℕ) → value_of_ending result.0 ≡ Source page
         → (k : ℕ) × (k < length workers.old)
         × ((d : _) → FailedAt F.faults page (slice_index_or workers.old k d)
         (slice_index_or workers.new k d)) }
     ensures shares { WorkersDrew (pages_begun index.now.reading) (length workers.old)
         (value_of_ending result.0) result.1 workers.new }
-    ensures legal { Legal settings.now.cache (calls_of history.new.items) }
-    ensures made { AllMade (length workers.old + 1) (calls_of history.new.items) }
-    ensures first { own 0 (calls_of history.new.items) ≡ [] }
-    ensures few_claims { FewClaims (calls_of history.new.items) }
+    ensures legal { Legal settings.now.cache (calls_of result.2.items) }
+    ensures made { AllMade (length workers.old + 1) (calls_of result.2.items) }
+    ensures first { own 0 (calls_of result.2.items) ≡ [] }
+    ensures few_claims { FewClaims (calls_of result.2.items) }
     ensures workers { (k : ℕ) (d : _) → k < length workers.old
         → WorkerRan (MayBreakOff (value_of_ending result.0) result.1)
         (EveryPageCameToItsEnd (length workers.old) (value_of_ending result.0))
         F.library F.faults F.loads
         (record { library = known; res = index.now.res; sheet = settings.now.sheet })
         index.now.reading
-        (calls_of history.new.items) (k + 1)
+        (calls_of result.2.items) (k + 1)
         (slice_index_or workers.old k d) (slice_index_or workers.new k d) }
     ensures output { O.faults out.old ≤ O.faults out.new }
 {
-    let units = index.units();
-    let Ok((cache, first)) = open_cache(alloc, settings.cache as usize, &units) else {
-        return (Ending::Memory, None);
+    let Some(opening) = opening else {
+        return (Ending::Memory, None, Vec::new(alloc));
     };
-    let opening = (Bench { cache, units }, first);
     let (ending, tally, calls) = draw_with_cache(rt, alloc, settings, index, workers, opening, out);
-    *history = calls;
-    (ending, Some(tally))
+    (ending, Some(tally), calls)
 }

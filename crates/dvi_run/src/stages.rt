@@ -11,6 +11,7 @@ ghost use Rattle.dvi_run.specs.Outside.{change_of, task_for_sample};
 ghost use Rattle.dvi_run.specs.Together.{WorkersAreDone, DrewDocument, PagesMatchHistory, IsReadyWorker, RestIsKept, SomeUsed, SourceRose};
 
 use crate::ending::Ending;
+use crate::opening::{bench_with, open_cache};
 use crate::reading::{ReadStop, read_all};
 use crate::shared_cache::draw_with_shared_cache;
 use crate::tally::Tally;
@@ -55,15 +56,20 @@ fn draw_pages<R: Threads + Wait + Sync, F: FontSource + Send, O: Output>(
     ensures rest { RestIsKept settings.now.workers workers.old workers.new }
     ensures output { O.faults out.old ≤ O.faults out.new }
 {
-    draw_with_shared_cache(
+    let units = index.units();
+    let opened = open_cache(alloc, settings.cache as usize, &units);
+    let opening = bench_with(opened, units);
+    let (ending, tally, calls) = draw_with_shared_cache(
         rt,
         alloc,
         settings,
         index,
         &mut workers[..settings.workers as usize],
+        opening,
         out,
-        history,
-    )
+    );
+    *history = calls;
+    (ending, tally)
 }
 
 /// Draws and writes the document of these bytes, and answers how that ended.
