@@ -2,6 +2,7 @@ pub mod HexDigits
 pub mod Spelled
 pub mod Groups
 pub mod Expanded
+pub mod FirstOther
 pub mod Added
 pub mod ReadAgain
 pub mod PlainBits
