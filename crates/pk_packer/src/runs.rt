@@ -7,7 +7,7 @@ ghost use Rattle.pk_packer.specs.Written.{pixel_rows, with_count, written_runs};
 ghost use Rattle.pk_packer.specs.Places.{IsPlace, IsReached, pixels_after, row_of};
 
 use crate::places::{Place, row_begin};
-use crate::row::run_end;
+use crate::row::run_end_or_none;
 use crate::rows::equal_below;
 use packed_rows::PackedBitmap;
 
@@ -42,7 +42,8 @@ pub fn next_run(bits: &PackedBitmap, place: Place) -> Option<Step>
     let mut len = 0;
     let mut after = Place { due: 0, ..place };
     while after.row < bits.height() {
-        let end = run_end(bits.row(after.row), after.column as usize, width, black) as u32;
+        let row = bits.row(after.row);
+        let end = run_end_or_none(row, after.column as usize, width, black) as u32;
         len += end - after.column;
         if end < bits.width() {
             return Some(Step {
@@ -54,7 +55,7 @@ pub fn next_run(bits: &PackedBitmap, place: Place) -> Option<Step>
                 },
             });
         }
-        let below = same_below(bits, after);
+        let below = same_below(bits, after, black);
         len += below.pixels;
         after = row_begin(bits, after.row + 1 + after.copies + below.rows);
     }
@@ -73,8 +74,9 @@ struct Below {
 }
 
 // The rows that equal a row of one colour, below it; none where the place isn't at the beginning of
-// a row.
-fn same_below(bits: &PackedBitmap, place: Place) -> Below
+// a row. Most often the next row's first pixel tells already that there is none.
+fn same_below(bits: &PackedBitmap, place: Place, black: bool) -> Below
+    requires some { 1 ≤ bits.now.width }
     requires narrow { bits.now.width ≤ MAX_GLYPH_SIDE }
     requires short { bits.now.height ≤ MAX_GLYPH_SIDE }
     requires inside { place.row < bits.now.height }
@@ -86,7 +88,11 @@ fn same_below(bits: &PackedBitmap, place: Place) -> Below
     ensures begins { 1 ≤ result.rows → place.column ≡ 0 }
     ensures pixels { result.pixels ≡ result.rows * bits.now.width }
 {
+    let next = place.row + 1;
     if place.column > 0 || place.copies > 0 {
+        return Below { rows: 0, pixels: 0 };
+    }
+    if next < bits.height() && bits.is_black(0, next) != black {
         return Below { rows: 0, pixels: 0 };
     }
     let rows = equal_below(bits, place.row);

@@ -1,0 +1,11 @@
+use Rattle.std.proofs.Common.{◌≡◌, ℕ, ◌+◌, ◌<◌, ◌≤◌, get_or, length}
+use Rattle.pk_packer.specs.Spelling.{number_text}
+use Rattle.pk_packer.proofs.lengths.Lengths.add_number.Given as goal
+
+abbrev pub invariant-loop-f : goal.invariant-loop-f
+invariant-loop-f l = record {
+  all : length l.self-inside.counts ≡ 14;
+  added : (k : ℕ) → k < l.f → get_or l.self-inside.counts k 0 ≡ get_or l.fn.self k 0 + length (number_text k l.n);
+  few : (k : ℕ) → k < l.f → get_or l.self-inside.counts k 0 ≤ get_or l.fn.self k 0 + 15;
+  later : (k : ℕ) → l.f ≤ k → k < 14 → get_or l.self-inside.counts k 0 ≡ get_or l.fn.self k 0;
+}
