@@ -1,44 +1,11 @@
--- The pixels of a byte or a word that has one colour, and of the rows of a raster.
-use Rattle.std.proofs.Common.{◌≡◌, ◌∙◌, ◌⊎◌, inl, inr, ℕ, zero, suc, ◌+◌, ◌-◌, ◌*◌, ◌/◌, ◌%◌, ◌<◌, ◌≤◌, Bool, true, false, not, cond, eqb, List, [], ◌∷◌, length, get_or, w64, refl, sym, ap, arith}
-use Rattle.std.specs.Int.{bit_at, from_be_bytes}
+-- The pixels of the rows of a raster.
+use Rattle.std.proofs.Common.{◌≡◌, ◌∙◌, ◌⊎◌, inl, inr, ℕ, zero, suc, ◌+◌, ◌-◌, ◌<◌, ◌≤◌, Bool, true, false, not, List, [], ◌∷◌, length, get_or, refl, sym, ap, arith}
 use Rattle.std.specs.List.{list_any}
-use Rattle.std.proofs.lemmas.Bool.{agree_below_at, and_from, cases_lt, and_left, and_right, eqb-true, or_from, or_left, or_right}
-use Rattle.std.proofs.lemmas.Nat.Bits.{bit_at-zero}
+use Rattle.std.proofs.lemmas.Bool.{and_from, cases_lt, and_left, and_right, or_from, or_left, or_right}
 use Rattle.packed_rows.specs.Bitmap.{Bitmap, from_fn, is_black}
 use Rattle.packed_rows.specs.Packing.{pixel, pixels_of, row_text}
-use Rattle.packed_rows.specs.Stamped.{word_pixel}
-use Rattle.packed_rows.proofs.EightBytes.{word_read}
 use Rattle.packed_rows.proofs.Lists.{from_fn_same, get_or-from_fn, length-from_fn}
-use Rattle.pk_runs.proofs.RowWords.{all_pixels}
 use Rattle.pk_packer.specs.Written.{has_both_colours, pixel_rows}
-
-bit_of_black : (j : ℕ) → j < 8 → eqb (bit_at 255 j) 1 ≡ true
-bit_of_black j h = agree_below_at (λ k. eqb (bit_at 255 k) 1) (λ k. true) 8 j refl h
-
-same_byte : (x k : ℕ) → x % 8 ≡ 0 → x ≤ k → k < x + 8 → k / 8 ≡ x / 8
-same_byte x k e low high = omega (arith, e, low, high)
-
-pub whole_byte : (row : List ℕ) (x b : ℕ) (black : Bool) → x % 8 ≡ 0 → b ≡ get_or row (x / 8) 0 → cond black (eqb b 255) (eqb b 0) ≡ true → (k : ℕ) → x ≤ k → k < x + 8 → pixel row k ≡ black
-whole_byte row x b true e is whole k low high =
-    ap (λ i. eqb (bit_at (get_or row i 0) (7 - k % 8)) 1) (same_byte x k e low high)
-    ∙ ap (λ v. eqb (bit_at v (7 - k % 8)) 1) (sym is ∙ eqb-true b 255 whole)
-    ∙ bit_of_black (7 - k % 8) (omega arith)
-whole_byte row x b false e is whole k low high =
-    ap (λ i. eqb (bit_at (get_or row i 0) (7 - k % 8)) 1) (same_byte x k e low high)
-    ∙ ap (λ v. eqb (bit_at v (7 - k % 8)) 1) (sym is ∙ eqb-true b 0 whole)
-    ∙ ap (λ v. eqb v 1) (bit_at-zero (7 - k % 8))
-
-word_colour : (black : Bool) (i : ℕ) → i < 64 → word_pixel (cond black 18446744073709551615 0) i ≡ black
-word_colour true i h = all_pixels i h
-word_colour false i h = ap (λ n. eqb n 1) (bit_at-zero (63 - i))
-
-pub whole_word : (row : List ℕ) (at word : ℕ) (black : Bool) → ((j : ℕ) → get_or row j 0 < 256)
-    → word ≡ from_be_bytes w64 (get_or row at 0 ∷ get_or row (at + 1) 0 ∷ get_or row (at + 2) 0 ∷ get_or row (at + 3) 0 ∷ get_or row (at + 4) 0 ∷ get_or row (at + 5) 0 ∷ get_or row (at + 6) 0 ∷ get_or row (at + 7) 0 ∷ [])
-    → word ≡ cond black 18446744073709551615 0 → (x : ℕ) → 8 * at ≤ x → x < 8 * at + 64 → pixel row x ≡ black
-whole_word row at word black small is colour x low high =
-    let place : x ≡ 8 * at + (x - 8 * at) = omega (arith, low) in
-    let within : x - 8 * at < 64 = omega (arith, low, high) in
-    ap (pixel row) place ∙ sym (word_read row at word (x - 8 * at) small within is) ∙ ap (λ w. word_pixel w (x - 8 * at)) colour ∙ word_colour black (x - 8 * at) within
 
 -- ---- a row as it is seen
 

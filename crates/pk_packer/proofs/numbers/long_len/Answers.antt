@@ -1,5 +1,4 @@
-use Rattle.std.proofs.Common.{◌≤◌, length, arith}
-use Rattle.std.specs.Int.Digits.{digits_of}
+use Rattle.std.proofs.Common.{arith}
 use Rattle.std.proofs.lemmas.Int.Digits.{length-digits_of-le}
 use Rattle.pk_packer.proofs.HexDigits.{length-long_text, some_digits, two_digits}
 use Rattle.pk_packer.proofs.numbers.long_len.Goals as goal

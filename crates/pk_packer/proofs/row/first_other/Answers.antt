@@ -1,5 +1,4 @@
-use Rattle.std.proofs.Common.{◌≡◌, ◌∙◌, ◌/◌, ◌^◌, ◌<◌, ◌≤◌, cond, sym, ap, arith, w64, bit_and}
-use Rattle.std.specs.Int.{bit_not}
+use Rattle.std.proofs.Common.{◌∙◌, sym, arith}
 use Rattle.pk_packer.proofs.FirstOther.{is_behind, other_there, others_are, same_before}
 use Rattle.pk_packer.proofs.row.first_other.Goals as goal
 use Rattle.pk_packer.proofs.row.first_other.Goals.{then-black, else-black}
