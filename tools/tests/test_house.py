@@ -42,6 +42,7 @@ NEIGHBOURS = {
     'crates/pk_packer/src/lengths.rt: add',             # how many runs, and of which length
     'crates/pk_packer/src/writer.rt: write_run',        # the same
     'crates/pk_packer/src/row.rt: run_end',             # a column, and the columns of the row
+    'crates/pk_packer/src/row.rt: run_end_or_none',     # as run_end
     'crates/pk_runs/src/given.rt: paint_given',         # the columns of a row, and a place
     'crates/pk_runs/src/numbers.rt: number',            # dyn_f, and a nybble
     'crates/cache_seats/src/pace.rt: steps_from',       # a number, and how many steps from it
