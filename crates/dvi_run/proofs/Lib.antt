@@ -13,10 +13,10 @@ pub mod WorkersInRounds
 pub mod Shares
 pub mod ResultsToWrite
 pub mod StackWritten
-pub mod RoundResults
-pub mod CollectedResults
+pub mod Pressed
 pub mod RoundsInProgress
 pub mod WorkersAfterRounds
+pub mod RoundPressed
 pub mod WorkerSeats
 pub mod PromisesKept
 pub mod CountedPages

@@ -1,7 +1,7 @@
 -- The results of a round at hand, and how they are written.
-use Rattle.std.proofs.Common.{◌≡◌, inl, inr, ℕ, suc, ◌+◌, ◌*◌, ◌<◌, ◌≤◌, Bool, List, [], ◌∷◌, ◌++◌, length, reverse, get_or, All, Contains, Option, Result, Ok, Err, IfOk, IsOk, IsErrOf, refl, sym, ap, subst, ◌∙◌, add-one, arith}
-use Rattle.std.proofs.lemmas.List.{length-append, reverse-append}
-use Rattle.std.proofs.lemmas.List.Elements.{Contains-get_or, Contains-append_cases, Contains-append_left, Contains-append_right, Contains-push}
+use Rattle.std.proofs.Common.{◌≡◌, inl, inr, ℕ, suc, ◌+◌, ◌*◌, ◌<◌, ◌≤◌, Bool, List, [], ◌∷◌, ◌++◌, length, get_or, All, Contains, Option, Result, Ok, Err, IfOk, IsOk, IsErrOf, refl, sym, ap, subst, ◌∙◌, add-one, arith}
+use Rattle.std.proofs.lemmas.List.{length-append}
+use Rattle.std.proofs.lemmas.List.Elements.{Contains-get_or, Contains-append_cases}
 use Rattle.packed_rows.specs.Bitmap.{Bitmap}
 use Rattle.packed_rows.specs.Changes.{black_count}
 use Rattle.page_index.specs.Document.{Reading, pages_begun}
@@ -24,33 +24,9 @@ use Rattle.dvi_run.proofs.Dots.{few_on_sheet}
 use Rattle.dvi_run.proofs.PagesDrawn.{AreWhole, CutAmong, bitmap_whole, cons_cases, few_sure, only, source_failed, sure_where_cut, whole_outcome, why_stops, wrote_it}
 use Rattle.dvi_run.proofs.PagesWritten.{IsWrittenTo, ends_at, written_more}
 
--- ---- a stack, from its top on
+-- ---- lists
 
-pub reverse_push : {A : Type 0} (xs : List A) (x : A) → reverse (xs ++ x ∷ []) ≡ x ∷ reverse xs
-reverse_push xs x = reverse-append xs (x ∷ [])
-
-pub reverse_cons : {A : Type 0} (x : A) (xs : List A) → reverse (x ∷ xs) ≡ reverse xs ++ x ∷ []
-reverse_cons x xs = reverse-append (x ∷ []) xs
-
-pub in_reverse : {A : Type 0} (xs : List A) (y : A) → Contains (reverse xs) y → Contains xs y
-in_reverse [] y h = h
-in_reverse (x ∷ xs) y h =
-    let there : Contains (reverse xs ++ x ∷ []) y = subst (λ (l : List _). Contains l y) (reverse_cons x xs) h in
-    elim (Contains-append_cases (reverse xs) (x ∷ []) y there) [
-      | inl before ↦ Contains-append_right (x ∷ []) xs y (in_reverse xs y before)
-      | inr last ↦ Contains-append_left (x ∷ []) xs y last
-    ]
-
-pub to_reverse : {A : Type 0} (xs : List A) (y : A) → Contains xs y → Contains (reverse xs) y
-to_reverse [] y h = h
-to_reverse (x ∷ xs) y h =
-    let there : Contains (reverse xs ++ x ∷ []) y = elim (cons_cases x xs y h) [
-      | inl same ↦ subst (λ z. Contains (reverse xs ++ x ∷ []) z) same (Contains-push (reverse xs) x)
-      | inr rest ↦ Contains-append_left (reverse xs) (x ∷ []) y (to_reverse xs y rest)
-    ] in
-    subst (λ (l : List _). Contains l y) (sym (reverse_cons x xs)) there
-
-pub all_of : {A : Type 0} (P : A → Type 0) (xs : List A) → ((x : A) → Contains xs x → P x) → All P xs
+all_of : {A : Type 0} (P : A → Type 0) (xs : List A) → ((x : A) → Contains xs x → P x) → All P xs
 all_of P xs each k d lt = each (get_or xs k d) (Contains-get_or xs k d lt)
 
 is_empty : {A : Type 0} (xs : List A) → length xs ≡ 0 → xs ≡ []
@@ -102,9 +78,9 @@ module _ (g : Setup) (reading : Reading) (SomeFailed : ℕ → Type 0) where
     | inr rest ↦ few_held (suc page) rs sheet h.1 r rest
   ]
 
-  -- no page of a stack has too many
-  pub few_on_stack : (page : ℕ) (stack : List PageResult) → IsDrawable g.sheet → AreHeld page (reverse stack) → All HasFewDots stack
-  few_on_stack page stack sheet h = all_of HasFewDots stack (λ r has. few_held page (reverse stack) sheet h r (to_reverse stack r has))
+  -- no page has too many
+  pub few_at_hand : (page : ℕ) (rs : List PageResult) → IsDrawable g.sheet → AreHeld page rs → All HasFewDots rs
+  few_at_hand page rs sheet h = all_of HasFewDots rs (few_held page rs sheet h)
 
   -- ---- pages that were written
 

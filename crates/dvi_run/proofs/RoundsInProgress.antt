@@ -1,9 +1,9 @@
 -- A round whose results are at hand, with the workers that drew it, and the round after it.
-use Rattle.std.proofs.Common.{◌≡◌, ◌⊎◌, inl, inr, ℕ, zero, suc, ◌+◌, ◌-◌, ◌*◌, ◌%◌, min, ◌<◌, ◌≤◌, List, [], ◌∷◌, ◌++◌, length, reverse, get_or, Contains, Result, IsErr, IsOk, Ok, Err, refl, sym, ap, subst, ◌∙◌, arith}
+use Rattle.std.proofs.Common.{◌≡◌, ◌⊎◌, inl, inr, ℕ, zero, suc, ◌+◌, ◌-◌, ◌*◌, ◌%◌, min, ◌<◌, ◌≤◌, List, [], ◌∷◌, ◌++◌, length, get_or, Contains, Result, IsErr, IsOk, Ok, Err, refl, sym, ap, subst, ◌∙◌, arith}
 use Rattle.std.specs.Prelude.{◌^◌, None}
 use Rattle.std.specs.List.Sorted.{IsStrictlyIncreasing}
 use Rattle.std.proofs.lemmas.Bool.{cases_lt}
-use Rattle.std.proofs.lemmas.List.{length-map, reverse-reverse}
+use Rattle.std.proofs.lemmas.List.{length-map}
 use Rattle.std.proofs.lemmas.List.Elements.{Contains-get_or, Contains-append_right}
 use Rattle.page_index.specs.Document.{pages_begun}
 use Rattle.packed_rows.specs.Bitmap.{Bitmap}
@@ -14,7 +14,7 @@ use Rattle.page_workers.specs.declared.worker.PageResult.{PageResult}
 use Rattle.page_workers.specs.declared.worker.Worker.{Worker}
 use Rattle.page_workers.proofs.Drawn.{drew_pages, drew_results}
 use Rattle.dvi_run.specs.Shares.{PartitionPages}
-use Rattle.dvi_run.specs.Stacks.{AreFrom, DrewStack}
+use Rattle.page_workers.specs.Handing.{AreFrom, HandedRound}
 use Rattle.dvi_run.specs.Rounds.{FailedAt, IsOutcomeOf, MayBegin, Site, indexed_of}
 use Rattle.dvi_run.proofs.ResultsToWrite.{AreHeld}
 use Rattle.dvi_run.proofs.Shares.{none_shared, shared_more}
@@ -125,13 +125,10 @@ module _ {F : Type 0} (s : Site F) (n : ℕ) (xs : List (Worker F)) where
           record { fits = st.drawn.kept.fits; no_result = st.none; no_counter = st.counter; room = omega (arith, room, start, below) }
 
       -- a round more
-      module _ (now : List (Worker F)) (stack : List PageResult) (drew : DrewStack s.library s.faults s.loads s.bench (indexed_of s.given s.reading) s.given.sheet next count ws now stack) (long : length ws ≡ n)
+      module _ (now : List (Worker F)) (results : List PageResult) (drew : HandedRound s.library s.faults s.loads s.bench (indexed_of s.given s.reading) s.given.sheet next count ws now results) (long : length ws ≡ n)
           (counters : (k : ℕ) (d : Worker F) → k < n → (get_or now k d).counter ≡ None) where
         abbrev mid : List (Worker F)
         mid = drew.drawn
-
-        abbrev results : List PageResult
-        results = drew.taken.results
 
         abbrev drawn : ℕ → List PageResult
         drawn = drew.round.drawn
@@ -240,9 +237,8 @@ module _ {F : Type 0} (s : Site F) (n : ℕ) (xs : List (Worker F)) where
             held = held_from next results drew.taken.are (λ r has. has);
           }
 
-          -- the results of the round, from the top of the stack on
-          pub next_at_hand : (after : ℕ) → after ≡ done + length rs → RoundInProgress now (next + count) after (reverse stack)
+          -- the results of the round
+          pub next_at_hand : (after : ℕ) → after ≡ done + length rs → RoundInProgress now (next + count) after results
           next_at_hand after is =
               let at : next ≡ after = omega (arith, next_is, is) in
-              let top : results ≡ reverse stack = sym (ap reverse drew.taken.stacked ∙ reverse-reverse results) in
-              subst (λ (m : ℕ). RoundInProgress now (next + count) m (reverse stack)) at (subst (λ (l : List PageResult). RoundInProgress now (next + count) next l) top results_at_hand)
+              subst (λ (m : ℕ). RoundInProgress now (next + count) m results) at results_at_hand

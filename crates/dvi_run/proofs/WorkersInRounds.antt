@@ -20,7 +20,8 @@ use Rattle.page_workers.specs.Seats.{BenchFits, asked_at, library_at, units_at, 
 use Rattle.page_workers.specs.Rounds.{BitmapsToLast, Drew, DrewPage, IsOutcome, DrewNothing, trail_of}
 use Rattle.dvi_run.specs.Pages.{finding}
 use Rattle.dvi_run.specs.Looked.{WholeLooks, BrokenLooks}
-use Rattle.dvi_run.specs.Rounds.{Site, IsSteady, Trails, BetweenRounds, AfterRounds, MayBegin, WasCleared, FailedAt, IsOutcomeOf, keys_of, indexed_of}
+use Rattle.page_workers.specs.Handing.{WasCleared}
+use Rattle.dvi_run.specs.Rounds.{Site, IsSteady, Trails, BetweenRounds, AfterRounds, MayBegin, FailedAt, IsOutcomeOf, keys_of, indexed_of}
 use Rattle.dvi_run.proofs.Looks.{broken_as, keys_are}
 use Rattle.dvi_run.proofs.PagesDrawn.{CutAmong, LooksTo, NeverCut, bitmap_sound, bitmap_whole, cons_cases, looks_to, value_of}
 

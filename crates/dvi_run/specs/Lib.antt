@@ -11,6 +11,7 @@ pub mod Laws
 pub mod Looked
 pub mod Rounds
 pub mod Stacks
+pub mod Pressing
 pub mod Shares
 pub mod Tally
 pub mod Report

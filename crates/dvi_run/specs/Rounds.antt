@@ -147,19 +147,6 @@ WroteOutcome counted old new OutputFails (Err reason) (Err (stop.Draw cause)) =
     (cause ≡ reason) × (new ≡ old)
 WroteOutcome counted old new OutputFails (Err reason) (Err stop.Output) = ⊥
 
--- a worker but for its results
-pub record SameBut {F : Type 0} (before after : Worker F) : Type 0 where
-  pub source : after.source ≡ before.source
-  pub seat : after.seat ≡ before.seat
-  pub loads : after.loads ≡ before.loads
-  pub pages : after.pages.items ≡ before.pages.items
-  pub counter : after.counter ≡ before.counter
-
--- and it has no result any more
-pub record WasCleared {F : Type 0} (before after : Worker F) : Type 0 where
-  pub same : SameBut before after
-  pub none : after.results.items ≡ []
-
 -- the source of the worker that drew this page, from 1, rose in its faults
 pub record FailedAt {F : Type 0} (faults : F → ℕ) (page : ℕ) (start now : Worker F) : Type 0 where
   pub rose : Rose (faults start.source) (faults now.source)

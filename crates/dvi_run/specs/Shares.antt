@@ -25,18 +25,13 @@ PartitionPages {F} total n workers =
 abbrev pub round_end : (n page : ℕ) → ℕ
 round_end n page = cond (nat_lt 1 n) ((page + 31) / 32 * 32) page
 
--- and the next round, which several workers draw while the pages of this one are written
-abbrev pub next_end : (n page : ℕ) → ℕ
-next_end n page = cond (nat_lt 1 n) ((page + 31) / 32 * 32 + 32) page
-
 -- n pages of a document were drawn in a run that ended so: all of them where all were written.
--- Else the page named is one of them, and none is after its round, or where its write failed after
--- the next one.
+-- Else the page named is one of them, and none is after its round.
 abbrev pub DrewUpTo : (pages n drawn : ℕ) → EndingValue → Type 0
 DrewUpTo pages n drawn Written = drawn ≡ pages
 DrewUpTo pages n drawn (Page page) = (page.page ≤ drawn) × (drawn ≤ round_end n page.page)
 DrewUpTo pages n drawn (Source page) = (page ≤ drawn) × (drawn ≤ round_end n page)
-DrewUpTo pages n drawn (Output page) = (page ≤ drawn) × (drawn ≤ next_end n page)
+DrewUpTo pages n drawn (Output page) = (page ≤ drawn) × (drawn ≤ round_end n page)
 DrewUpTo pages n drawn Notes = drawn ≡ pages
 DrewUpTo pages n drawn _ = Unit {0}
 

@@ -6,7 +6,6 @@
 //! contracts don't name.
 #![tactic(auto)]
 
-mod collecting;
 mod ending;
 pub mod laws;
 mod note;

@@ -54,6 +54,7 @@ pub fn move_results<G: FontSource, F: FontSource>(own: &mut [Worker<G>], workers
     ensures rest { RestIsKept (length own.old) workers.old workers.new }
 {
     for k in 0..own.len() {
-        move_results_of(&mut own[k], &mut workers[k]);
+        let worker = &mut workers[k];
+        move_results_of(&mut own[k], worker);
     }
 }

@@ -1,18 +1,16 @@
 //! Pages that are written, and how the run ends where one isn't.
-ghost use Rattle.std.specs.Prelude.{◌≡◌, ◌<◌, ◌≤◌, ◌+◌, ◌*◌, All, IfErr, IfOk, OnOk, length, reverse};
-ghost use Rattle.std.proofs.Props.{props};
+ghost use Rattle.std.specs.Prelude.{◌≡◌, ◌<◌, ◌≤◌, ◌+◌, None, Ok};
 ghost use Rattle.outside.specs.Counts.{Rose};
 ghost use Rattle.dvi_run.specs.Endings.{ending_at, value_of_ending};
 ghost use Rattle.dvi_run.specs.Rounds.{WroteOutcome};
-ghost use Rattle.dvi_run.specs.Stacks.{HasFewDots, WroteUpTo, WroteWhole};
-ghost use Rattle.raster_page.specs.Limits.{MAX_PAGE_SIDE};
+ghost use Rattle.dvi_run.specs.Pressing.{TookBy};
 ghost use Rattle.page_index.specs.Limits.{MAX_PAGES};
 
 use crate::ending::Ending;
 use crate::tally::Tally;
 use outside::Output;
 use page_draw::PageStop;
-use page_workers::PageResult;
+use page_workers::{PageResult, PageTaker};
 use pbm_output::{WriteFault, write_page_gathered};
 use raster_page::Page;
 use std::alloc::{AllocError as NoMemory, Global};
@@ -57,21 +55,15 @@ impl From<WriteFault> for WriteStop {
     }
 }
 
-/// What the pages of a run are written from: the results that come next, and what is kept of those
-/// that were written.
+/// Writes the pages of a run, in their order, up to the first that can't be.
 #[derive(Drop)]
 pub struct Press {
-    /// The results of the pages that come next, the first of them on top.
-    pub stack: Vec<PageResult>,
     /// The pages written whole, with their black pixels where they are counted.
     pub tally: Tally,
     /// Whether black pixels are counted.
     pub counted: bool,
-    /// Pages that were written, on whose memory others may be drawn.
-    pub written_pages: Vec<Page>,
-    ghost dots: { All HasFewDots stack.items } by { Prim.hlevel props },
-    ghost few: { tally.pages + length stack.items ≤ MAX_PAGES },
-    ghost black: { tally.black ≤ tally.pages * (MAX_PAGE_SIDE * MAX_PAGE_SIDE) },
+    /// Why the page after them wasn't written, where it wasn't.
+    pub stopped: Option<WriteStop>,
 }
 
 // How a run ends that doesn't write the page with this number, from 0.
@@ -88,46 +80,59 @@ pub(crate) fn ending_of_stop(i: usize, stop: WriteStop) -> Ending
     }
 }
 
-impl Press {
-    // Writes a page, whose memory is then for other pages, and answers how many of its pixels are
-    // black, where they are counted. A written page that there is no memory to note is dropped.
-    fn write_one<O: Output>(
-        &mut self,
-        alloc: Global,
-        drawn: PageResult,
-        out: &mut O,
-    ) -> Result<u64, WriteStop>
-        ensures wrote { WroteOutcome self.old.counted (O.written out.old) (O.written out.new)
-            (Rose (O.faults out.old) (O.faults out.new)) drawn.outcome result }
-        ensures stack { self.new.stack ≡ self.old.stack }
-        ensures tally { self.new.tally ≡ self.old.tally }
-        ensures counted { self.new.counted ≡ self.old.counted }
-        ensures output { O.faults out.old ≤ O.faults out.new }
-    {
-        let page = drawn.outcome?;
-        write_page_gathered(alloc, out, &page)?;
-        let black = if self.counted { page.count() } else { 0 };
-        let _noted = self.written_pages.push(page);
-        Ok(black)
-    }
+// Writes a page, and answers how many of its pixels are black, where they are counted.
+fn write_one<O: Output>(
+    alloc: Global,
+    page: &Page,
+    counted: bool,
+    out: &mut O,
+) -> Result<u64, WriteStop>
+    ensures wrote { WroteOutcome counted (O.written out.old) (O.written out.new)
+        (Rose (O.faults out.old) (O.faults out.new)) (Ok page.now) result }
+    ensures output { O.faults out.old ≤ O.faults out.new }
+{
+    write_page_gathered(alloc, out, page)?;
+    Ok(if counted { page.count() } else { 0 })
+}
 
-    /// Writes the pages of the stack from its top on, up to the first that can't be. Each is spare
-    /// as soon as it is written. The tally grows by those written whole, with their black pixels
-    /// where they are counted.
-    pub fn write_stack<O: Output>(&mut self, alloc: Global, out: &mut O) -> Result<(), WriteStop>
-        ensures written { OnOk result (WroteWhole self.old.counted (O.written out.old)
-            (O.written out.new) (reverse self.old.stack.items) self.old.tally self.new.tally) }
-        ensures stopped { IfErr result (λ why. WroteUpTo self.old.counted (O.written out.old)
-            (O.written out.new) (Rose (O.faults out.old) (O.faults out.new))
-            (reverse self.old.stack.items) self.old.tally self.new.tally why) }
+impl Press {
+    // Writes a page, and counts it where it was written whole.
+    fn write<O: Output>(&mut self, alloc: Global, page: &Page, out: &mut O)
+        requires goes_on { self.old.stopped ≡ None }
         ensures counted { self.new.counted ≡ self.old.counted }
         ensures output { O.faults out.old ≤ O.faults out.new }
+        ensures wrote { TookBy self.old.counted (O.written out.old) (O.written out.new)
+            (out.new ≡ out.old) (Rose (O.faults out.old) (O.faults out.new)) (Ok page.now)
+            self.old.tally self.new.tally None self.new.stopped }
     {
-        while let Some(drawn) = self.stack.pop() {
-            let black = self.write_one(alloc, drawn, out)?;
-            self.tally.black += black;
-            self.tally.pages += 1;
+        match write_one(alloc, page, self.counted, out) {
+            Ok(black) => {
+                self.tally.pages = self.tally.pages.saturating_add(1);
+                self.tally.black = self.tally.black.saturating_add(black);
+            }
+            Err(stop) => self.stopped = Some(stop),
         }
-        Ok(())
+    }
+}
+
+impl<O: Output> PageTaker<O> for Press {
+    ghost use Rattle.dvi_run.specs.Pressing.{TookPage};
+
+    ghost takes = { λ p o r q n. TookPage O.written O.faults p o r q n };
+
+    fn take(&mut self, alloc: Global, out: &mut O, drawn: PageResult) -> Option<Page> {
+        if self.stopped.is_some() {
+            return drawn.outcome.ok();
+        }
+        match drawn.outcome {
+            Ok(page) => {
+                self.write(alloc, &page, out);
+                Some(page)
+            }
+            Err(stop) => {
+                self.stopped = Some(WriteStop::from(stop));
+                None
+            }
+        }
     }
 }

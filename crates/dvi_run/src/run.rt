@@ -32,17 +32,17 @@ use std::thread::Threads;
 /// The input is read to its end, or to one byte more than a document may have (67,108,864 bytes);
 /// it may fail (6). Bytes that aren't a document have a first fault, which the line names with its
 /// position (2). Then the pages are drawn in rounds, of one page where one worker is used and else
-/// of 32. A round is written while the next one is drawn, which is begun only where each page
-/// before it has a bitmap. The first page without a bitmap ends the run, whatever came of the pages
-/// after it: with 4 where a font that it uses has a fault, and the line then gives the font's name,
-/// size and design size and what is wrong with its files; with 3 where a font isn't defined, no
-/// font is current, a character isn't in its font, the page has more than 2^24 commands, a command
-/// leads the pen too far, restores registers where none are saved or saves them where 1000 are
-/// saved already, or the page ends with some saved. The line names the page, counted from 1, and
-/// the command's position in the file. A source that fails to load a font ends the run too (5), and
-/// so does a failed write (7): the output then took the pages before the one that the line names,
-/// whole, and a prefix of that one. In place of any of these the answer may be that memory ran out
-/// (9); no page is then written in part.
+/// of 32. A page is written while others of its round are drawn, and a round is begun only where
+/// each page before it was written. The first page without a bitmap ends the run, whatever came of
+/// the pages after it: with 4 where a font that it uses has a fault, and the line then gives the
+/// font's name, size and design size and what is wrong with its files; with 3 where a font isn't
+/// defined, no font is current, a character isn't in its font, the page has more than 2^24
+/// commands, a command leads the pen too far, restores registers where none are saved or saves them
+/// where 1000 are saved already, or the page ends with some saved. The line names the page, counted
+/// from 1, and the command's position in the file. A source that fails to load a font ends the run
+/// too (5), and so does a failed write (7): the output then took the pages before the one that the
+/// line names, whole, and a prefix of that one. In place of any of these the answer may be that
+/// memory ran out (9); no page is then written in part.
 ///
 /// At the end the report is written to the notes, piece by piece: with `trace` a line for each call
 /// of the cache, in their order; with `summary` nine lines of counts, of the pages written whole,

@@ -1,5 +1,5 @@
-//! Tests that the workers of a run overlap, and that a round is drawn while the one before is
-//! written: from the outside, by `run_with`.
+//! Tests that the workers of a run overlap, that a page is written while others of its round are
+//! drawn, and how many pages there are at once: from the outside, by `run_with`.
 #![tactic(auto)]
 
 #[cfg(test)]

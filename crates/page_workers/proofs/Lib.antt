@@ -9,5 +9,11 @@ pub mod Parts
 pub mod Shares
 pub mod Rounds
 pub mod Claims
-pub mod WithSparePages
-pub mod EvenShares
+pub mod NotBegun
+pub mod Taken
+pub mod Handed
+pub mod Sending
+pub mod HandedParts
+pub mod InOrder
+pub mod RoundHanded
+pub mod HandedRounds

@@ -162,6 +162,9 @@ module _ {F : Type 0} (library : F → Option FileTable) (faults loads : F → �
             ∙ (ap (λ (x : ℕ). map (λ claim. first + claim) claims ++ x ∷ []) of_round.1
             ∙ sym (map-more first claims claimed.claim)))
 
+        pub one_claim_more : length (claims_at after.counter) ≡ length claims + 1
+        one_claim_more = let e = ap (λ (l : List ℕ). length l) are_after in let long = length-append claims (claimed.claim ∷ []) in omega (arith, e, long)
+
         pub falls : count - length (claims_at after.counter) < count - length claims
         falls = let lt = few in let e = ap (λ (l : List ℕ). length l) are_after in let long = length-append claims (claimed.claim ∷ []) in omega arith
 

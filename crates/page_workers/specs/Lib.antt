@@ -6,3 +6,5 @@ pub mod Claims
 pub mod Seating
 pub mod Laws
 pub mod SparePages
+pub mod Handing
+pub mod HandedParts

@@ -1,6 +1,5 @@
 -- A worker's spare pages, on which nothing else may depend.
-use Rattle.std.specs.Prelude.{◌≡◌, ◌⊎◌, ℕ, ◌+◌, ◌/◌, ◌%◌, ◌≤◌, List, [], ◌∷◌, ◌++◌, length, nat_lt, if◌then◌else◌}
-use Rattle.std.specs.List.{sum_by}
+use Rattle.std.specs.Prelude.{◌≡◌, ◌⊎◌, ℕ, ◌/◌, ◌≤◌, [], ◌∷◌, ◌++◌, length}
 use Rattle.packed_rows.specs.Bitmap.{Bitmap}
 use Rattle.page_workers.specs.declared.worker.Worker.{Worker}
 
@@ -27,10 +26,6 @@ MayKeepPage page before after =
 abbrev pub HasNoMoreSparePages : {F : Type 0} → (before after : Worker F) → Type 0
 HasNoMoreSparePages before after = length after.spare_pages.items ≤ length before.spare_pages.items
 
--- how many spare pages the workers have together
-abbrev pub spare_page_count : {F : Type 0} → List (Worker F) → ℕ
-spare_page_count workers = sum_by (λ w. length w.spare_pages.items) workers
-
--- of n pages the even share of worker k, counted from 0, among so many
-abbrev pub even_share : ℕ → ℕ → ℕ → ℕ
-even_share n workers k = n / workers + (if nat_lt k (n % workers) then 1 else 0)
+-- how many spare pages each of n workers keeps at most after a round: together no more than 32
+abbrev pub spare_pages_kept : ℕ → ℕ
+spare_pages_kept workers = 32 / workers

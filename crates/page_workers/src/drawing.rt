@@ -1,5 +1,5 @@
 //! A worker's part of a round: the pages that it claims, one after another.
-ghost use Rattle.std.specs.Prelude.{◌≡◌, ◌+◌, ◌^◌, ◌<◌, ◌≤◌, Some, IsErrOf, length};
+ghost use Rattle.std.specs.Prelude.{◌≡◌, ◌+◌, ◌^◌, ◌<◌, ◌≤◌, Some, IsErrOf, length, vec_len, vec_capacity};
 ghost use Rattle.outside.specs.Counts.{HasCause};
 ghost use Rattle.page_index.specs.Document.{pages_begun};
 ghost use Rattle.font_decode.specs.Decoding.{IsFontOf};
@@ -59,7 +59,7 @@ fn draw_on_spare_page<R: Wait, F: FontSource>(
 // Draws a page, and answers whether it has a bitmap. The results, the pages, the spare pages and
 // the seat at the round's counter are kept out of the worker in the meantime, since drawing says
 // nothing of them.
-fn draw_page<R: Wait, F: FontSource>(
+pub(crate) fn draw_page<R: Wait, F: FontSource>(
     rt: &R,
     alloc: Global,
     worker: &mut Worker<F>,
@@ -70,10 +70,16 @@ fn draw_page<R: Wait, F: FontSource>(
     requires fits { BenchFits (F.library worker.old.source) job.now.bench.now worker.old.seat }
     requires look_ups { MAX_FLAT_COMMANDS ≤ room_at worker.old.loads worker.old.seat }
     requires space { HasRoom 1 worker.old }
-    ensures { DrewNext F.library F.faults F.loads job.now.bench.now job.now.index.now
+    ensures drew { DrewNext F.library F.faults F.loads job.now.bench.now job.now.index.now
         job.now.sheet.now page result worker.old worker.new }
+    ensures outlet { worker.new.outlet ≡ worker.old.outlet }
+    ensures results_room { (vec_len worker.new.results ≡ vec_len worker.old.results + 1)
+        × (vec_capacity worker.new.results ≡ vec_capacity worker.old.results) }
+    ensures pages_room { (vec_len worker.new.pages ≡ vec_len worker.old.pages + 1)
+        × (vec_capacity worker.new.pages ≡ vec_capacity worker.old.pages) }
 {
     let counter = worker.counter.take();
+    let outlet = worker.outlet.take();
     let mut results = mem::replace(&mut worker.results, Vec::new(alloc));
     let mut pages = mem::replace(&mut worker.pages, Vec::new(alloc));
     let mut spare_pages = mem::replace(&mut worker.spare_pages, Vec::new(alloc));
@@ -85,6 +91,7 @@ fn draw_page<R: Wait, F: FontSource>(
     worker.pages = pages;
     worker.spare_pages = spare_pages;
     worker.counter = counter;
+    worker.outlet = outlet;
     has_bitmap
 }
 

@@ -6,21 +6,19 @@ ghost use Rattle.page_draw.specs.Sheets.{IsDrawable};
 ghost use Rattle.page_workers.specs.Rounds.{DrewRound, MayDraw, DrewNothing};
 ghost use Rattle.page_workers.specs.Seats.{HoldsNoClaim};
 ghost use Rattle.page_workers.specs.Claims.{HasRoom, DrewNothingAtCounter, MayTakePart, TookPart};
-ghost use Rattle.page_workers.specs.SparePages.{HasNoMoreSparePages, spare_page_count};
+ghost use Rattle.page_workers.specs.SparePages.{HasNoMoreSparePages};
 ghost use Rattle.page_workers.specs.Limits as limits;
 
 use crate::Bench;
 use crate::claiming::{Round, join_at_counter, seat_at_counter};
 use crate::drawing::take_part;
 use crate::job::{Job, PageRange};
-use crate::spare_pages::share_spare_pages;
 use crate::worker::Worker;
 use font_decode::Desk;
 use outside::FontSource;
 use page_counter::PageCounter;
 use page_draw::Sheet;
 use page_index::Index;
-use raster_page::Page;
 use std::alloc::{AllocError as NoMemory, Global};
 use std::sync::Wait;
 use std::thread;
@@ -40,7 +38,10 @@ fn reserve<F: FontSource>(worker: &mut Worker<F>, count: usize) -> Result<(), No
 }
 
 // Takes room for n results and pages more of each worker.
-fn reserve_all<F: FontSource>(workers: &mut [Worker<F>], count: usize) -> Result<(), NoMemory>
+pub(crate) fn reserve_all<F: FontSource>(
+    workers: &mut [Worker<F>],
+    count: usize,
+) -> Result<(), NoMemory>
     ensures kept { (k : ℕ) (d : _) → k < length workers.old
         → DrewNothingAtCounter (slice_index_or workers.old k d) (slice_index_or workers.new k d) }
     ensures room { OnOk result ((k : ℕ) (d : _) → k < length workers.old
@@ -120,38 +121,4 @@ pub fn draw_round<R: Threads + Wait + Sync, F: FontSource + Send>(
     join_at_counter(&counter, &mut seat, workers);
     counter.close(seat);
     Ok(())
-}
-
-/// Draws a round as `draw_round` does, on the memory of `spare_pages`, of which each worker takes
-/// its share. The others are dropped, and none is left. The workers have at most as many spare
-/// pages together as the round has pages, then and afterwards.
-pub fn draw_round_on<R: Threads + Wait + Sync, F: FontSource + Send>(
-    rt: &R,
-    alloc: Global,
-    workers: &mut [Worker<F>],
-    job: &Job,
-    pages: PageRange,
-    spare_pages: &mut Vec<Page>,
-) -> Result<(), NoMemory>
-    requires some_worker { 1 ≤ length workers.old }
-    requires few_workers { length workers.old ≤ limits.MAX_WORKERS }
-    requires inside { pages.first + pages.count ≤ pages_begun job.now.index.now.reading }
-    requires ready { (k : ℕ) (d : _) → k < length workers.old
-        → MayDraw F.library job.now.bench.now pages.count (slice_index_or workers.old k d) }
-    ensures drawn { OnOk result (DrewRound F.library F.faults F.loads job.now.bench.now
-        job.now.index.now job.now.sheet.now pages.first pages.count workers.old workers.new) }
-    ensures refused { OnErr result ((k : ℕ) (d : _) → k < length workers.old
-        → DrewNothing (slice_index_or workers.old k d) (slice_index_or workers.new k d)) }
-    ensures no_counter { (k : ℕ) (d : _) → k < length workers.old
-        → (slice_index_or workers.new k d).counter ≡ None }
-    ensures no_claim { (k : ℕ) (d : _) → k < length workers.old
-        → HoldsNoClaim (slice_index_or workers.new k d).seat }
-    ensures taken { spare_pages.new.items ≡ [] }
-    ensures kept { spare_page_count workers.new ≤ pages.count }
-{
-    let PageRange { first, count } = pages;
-    share_spare_pages(workers, spare_pages, count);
-    draw_round(
-        rt, alloc, workers, job.bench, job.index, job.sheet, first, count,
-    )
 }

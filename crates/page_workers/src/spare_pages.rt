@@ -4,14 +4,16 @@
 ghost use Rattle.std.specs.Prelude.{◌≡◌, ℕ, ◌<◌, ◌≤◌, [], IfOk, length, slice_index_or};
 ghost use Rattle.page_draw.specs.Sheets.{IsDrawable};
 ghost use Rattle.raster_page.specs.Ink.{page_of};
-ghost use Rattle.page_workers.specs.SparePages.{HasNoSparePages, MayKeepPage, SameButSparePages, spare_page_count};
-ghost use Rattle.page_workers.specs.SparePages.{even_share as even_share_of};
+ghost use Rattle.page_workers.specs.SparePages.{HasNoSparePages, MayKeepPage, SameButSparePages, spare_pages_kept};
 
 use crate::worker::Worker;
 use outside::FontSource;
 use page_draw::Sheet;
 use raster_page::Page;
 use std::alloc::{AllocError as NoMemory, Global};
+
+// How many spare pages the workers keep together after a round.
+const KEPT: usize = 32;
 
 /// A blank page: a spare one of the sheet's sides, cleared, or else a new one. Spare pages of other
 /// sides are dropped.
@@ -43,6 +45,14 @@ impl<F: FontSource> Worker<F> {
         let _kept = self.spare_pages.push(page);
     }
 
+    // Drops the spare pages beyond n.
+    fn keep_spare_pages(&mut self, most: usize)
+        ensures same { SameButSparePages self.old self.new }
+        ensures most { length self.new.spare_pages.items ≤ most }
+    {
+        self.spare_pages.truncate(most);
+    }
+
     // Drops the spare pages.
     fn drop_spare_pages(&mut self)
         ensures same { SameButSparePages self.old self.new }
@@ -50,49 +60,29 @@ impl<F: FontSource> Worker<F> {
     {
         self.spare_pages.clear();
     }
-
-    // Takes spare pages, until it has `share` of them, and drops those that it has beyond.
-    fn take_spare_pages(&mut self, spare_pages: &mut Vec<Page>, share: usize)
-        ensures same { SameButSparePages self.old self.new }
-        ensures most { length self.new.spare_pages.items ≤ share }
-    {
-        self.spare_pages.truncate(share);
-        for _page in self.spare_pages.len()..share {
-            if let Some(page) = spare_pages.pop() {
-                self.give_back(page);
-            }
-        }
-    }
 }
 
-// Of n pages the even share of worker k, counted from 0.
-fn even_share<F: FontSource>(count: usize, workers: &[Worker<F>], k: usize) -> usize
-    requires { k < length workers.now }
-    ensures { result ≡ even_share_of count (length workers.now) k }
+// How many spare pages each worker keeps after a round.
+fn share_kept<F: FontSource>(workers: &[Worker<F>]) -> usize
+    requires { 1 ≤ length workers.now }
+    ensures { result ≡ spare_pages_kept (length workers.now) }
 {
-    count / workers.len() + usize::from(k < count % workers.len())
+    KEPT / workers.len()
 }
 
-/// Hands spare pages to the workers, until each has its even share of `count` pages: together they
-/// have no more. Those that are left are dropped, and those that a worker has beyond its share.
-pub fn share_spare_pages<F: FontSource>(
-    workers: &mut [Worker<F>],
-    spare_pages: &mut Vec<Page>,
-    count: usize,
-)
+/// Drops the spare pages that a worker has beyond its share of 32.
+pub(crate) fn trim_spare_pages<F: FontSource>(workers: &mut [Worker<F>])
+    requires { 1 ≤ length workers.old }
     ensures same { (k : ℕ) (d : _) → k < length workers.old
         → SameButSparePages (slice_index_or workers.old k d) (slice_index_or workers.new k d) }
-    ensures share { (k : ℕ) (d : _) → k < length workers.old
+    ensures kept { (k : ℕ) (d : _) → k < length workers.old
         → length (slice_index_or workers.new k d).spare_pages.items
-        ≤ even_share_of count (length workers.old) k }
-    ensures together { spare_page_count workers.new ≤ count }
-    ensures none_left { spare_pages.new.items ≡ [] }
+        ≤ spare_pages_kept (length workers.old) }
 {
+    let most = share_kept(workers);
     for k in 0..workers.len() {
-        let share = even_share(count, workers, k);
-        workers[k].take_spare_pages(spare_pages, share);
+        workers[k].keep_spare_pages(most);
     }
-    spare_pages.clear();
 }
 
 /// Drops the spare pages of all workers.

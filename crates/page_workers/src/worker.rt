@@ -11,6 +11,7 @@ ghost use Rattle.page_workers.specs.Seats.{SeatFits, asked_at, room_at, trail_at
 use crate::Bench;
 use crate::counting::load_counted;
 use crate::keeping::keep;
+use crate::rings::Outlet;
 use cache_core::Look;
 use font_cache::CacheSeat;
 use font_decode::{Decoded, Desk, DeskStop};
@@ -45,6 +46,11 @@ pub struct Worker<F: FontSource> {
     pub counter: Option<CounterSeat>,
     /// Pages that were written, on whose memory it draws again.
     pub spare_pages: Vec<Page>,
+    /// Its ends of the rings of a round, while it hands the round's pages on.
+    pub outlet: Option<Outlet>,
+    /// Whether no thread began to draw in an earlier round, as where none can be made. Rounds are
+    /// then handed on by the caller's thread alone.
+    pub no_threads: bool,
 }
 
 impl<F: FontSource> Worker<F> {
@@ -67,6 +73,8 @@ impl<F: FontSource> Worker<F> {
             pages: Vec::new(alloc),
             counter: None,
             spare_pages: Vec::new(alloc),
+            outlet: None,
+            no_threads: false,
         }
     }
 }

@@ -25,8 +25,8 @@ pub static SHEET: Sheet = Sheet {
     top: 1,
 };
 
-/// A page whose dots are all black.
-pub fn black_page(alloc: Global, width: u8, height: u8) -> Result<Page, Fail> {
+// A page whose dots are all black.
+fn black_page(alloc: Global, width: u8, height: u8) -> Result<Page, Fail> {
     let (width, height) = (width.max(1), height.max(1));
     let mut page = Page::blank(alloc, u32::from(width), u32::from(height))?;
     page.rule(0, 0, i64::from(width), i64::from(height));

@@ -1,8 +1,8 @@
-//! Paper: which of it becomes a blank page, and how spare pages are shared out.
+//! Paper: which of it becomes a blank page.
 
-use super::crew::{SHEET, black_page, crew};
+use super::crew::{SHEET, crew};
 use super::source::Plan;
-use page_workers::spare_pages::{blank_page, share_spare_pages};
+use page_workers::spare_pages::blank_page;
 use std::alloc::Global;
 use std::test::Fail;
 
@@ -43,37 +43,6 @@ static BLANKS: [(&'static [(u8, u8)], Blanks); 5] = [
 fn paper_becomes_blank_pages(rt: HostRuntime) -> Result<(), Fail> {
     for (row, (sides, expected)) in BLANKS.iter().enumerate() {
         assert_eq!(rt; blanks(rt.alloc(), sides)?, *expected, "row {row}");
-    }
-    Ok(())
-}
-
-// How many of n spare pages each of two workers has for a round of three pages, and how many are
-// left.
-fn shares(alloc: Global, spare: usize) -> Result<([usize; 2], usize), Fail> {
-    let mut workers = crew(alloc, 2, Plan::Sure, &[])?;
-    let mut spare_pages = Vec::new(alloc);
-    for _ in 0..spare {
-        spare_pages.push(black_page(alloc, 8, 2)?)?;
-    }
-    share_spare_pages(&mut workers, &mut spare_pages, 3);
-    let mut told = [0; 2];
-    for (share, worker) in told.iter_mut().zip(&workers) {
-        *share = worker.spare_pages.len();
-    }
-    Ok((told, spare_pages.len()))
-}
-
-static SHARES: [(usize, ([usize; 2], usize)); 4] = [
-    (5, ([2, 1], 0)),
-    (3, ([2, 1], 0)),
-    (2, ([2, 0], 0)),
-    (1, ([1, 0], 0)),
-];
-
-#[test]
-fn spare_pages_are_shared(rt: HostRuntime) -> Result<(), Fail> {
-    for (spare, expected) in SHARES.iter() {
-        assert_eq!(rt; shares(rt.alloc(), *spare)?, *expected, "of {spare}");
     }
     Ok(())
 }

@@ -1,4 +1,4 @@
-use Rattle.std.proofs.Common.{◌<◌, length, get_or, refl, subst, rules, arith}
+use Rattle.std.proofs.Common.{◌≡◌, ◌<◌, List, [], length, get_or, refl, subst, sym, rules, arith}
 use Rattle.page_workers.proofs.Lists.{each_step, here, left_step}
 use Rattle.dvi_run.specs.Sampled.{TookResults}
 use Rattle.dvi_run.proofs.own_workers.move_results.Goals as goal
@@ -27,3 +27,13 @@ loop-k-preserved g c =
       mine = left_step first own i one within inv.mine;
       left = left_step xs ws i v inside inv.left;
     }
+
+pub move_results_of-requires : goal.move_results_of-requires
+move_results_of-requires g c =
+    let i = c.loop-k.k in
+    let xs = c.args.workers.now in
+    let ws = c.loop-k.workers in
+    let d = c.index-workers-k.result in
+    let below : i < length c.args.own.now = search rules in
+    let inside : i < length ws = search rules in
+    record { unused = subst (λ w. w.pages.items ≡ []) (sym (here xs ws i d inside c.loop-k.invariant.left d d)) (c.requires.unused i d below) }

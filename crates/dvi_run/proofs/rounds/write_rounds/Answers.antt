@@ -1,26 +1,22 @@
-use Rattle.std.proofs.Common.{Bool, ◌*◌, ◌≡◌, ◌≤◌, ◌<◌, ◌+◌, ℕ, List, length, reverse, get_or, map, All, Contains, refl, sym, subst, ◌∙◌, arith, rules}
-use Rattle.std.specs.Prelude.{None}
-use Rattle.std.proofs.lemmas.List.{length-reverse}
-use Rattle.std.proofs.lemmas.List.Elements.{All-contains}
+use Rattle.std.proofs.Common.{Bool, ◌*◌, ◌≡◌, ◌≤◌, ◌<◌, ◌+◌, ℕ, List, [], length, get_or, Option, refl, sym, ap, subst, ◌∙◌, arith, rules}
+use Rattle.std.specs.Prelude.{None, Some}
 use Rattle.outside.specs.Counts.{Rose}
 use Rattle.outside.proofs.Growth.{rose_later}
 use Rattle.page_index.specs.Document.{pages_begun}
-use Rattle.page_workers.specs.Rounds.{HasBitmap}
-use Rattle.page_workers.specs.declared.worker.PageResult.{PageResult}
+use Rattle.page_draw.specs.declared.stop.PageStop.TheVariants as draw
 use Rattle.page_workers.specs.declared.worker.Worker.{Worker}
-use Rattle.dvi_run.specs.Laws.{good}
+use Rattle.dvi_run.specs.Endings.{EndingValue, Memory, ending_at, value_of_ending}
+use Rattle.dvi_run.specs.declared.pages.Press.{Press}
+use Rattle.dvi_run.specs.declared.pages.WriteStop.{WriteStop}
+use Rattle.dvi_run.specs.declared.pages.WriteStop.TheVariants as stop
+use Rattle.dvi_run.specs.declared.tally.Tally.{Tally}
 use Rattle.dvi_run.specs.Rounds.{site}
-use Rattle.dvi_run.specs.Stacks.{DrewStack, HasFewDots, StoppedAhead, WroteUpTo, WroteWhole}
-use Rattle.dvi_run.proofs.RoundsInProgress.{RoundInProgress, IsCount, SomeFailed, is_count, may_draw, next_at_hand, nothing_at_hand}
-use Rattle.dvi_run.proofs.ResultsToWrite.{all_of, ends_up_to, few_on_stack, good_whole, in_reverse, inside_hand, to_reverse, wrote_whole}
-use Rattle.dvi_run.proofs.WorkersAfterRounds.{ends_ahead, over_ahead, over_here, over_written}
-use Rattle.dvi_run.proofs.PagesWritten.{IsWrittenTo, ends_written, written_none}
-use Rattle.dvi_run.proofs.rounds.write_rounds.Goals.{then-loop-first-test+else-have_bitmaps, else-loop-first-test}
+use Rattle.dvi_run.specs.Stacks.{WroteUpTo, WroteWhole}
+use Rattle.dvi_run.proofs.RoundPressed.{Ends, all_written, at_now, below_all, ends_here, ends_rested, last_now, pressed_as, pressed_so, workers_here, workers_rested, workers_written, written_now}
+use Rattle.dvi_run.proofs.RoundsInProgress.{IsCount, is_count, nothing_at_hand}
+use Rattle.dvi_run.proofs.PagesWritten.{written_none}
+use Rattle.dvi_run.proofs.WorkersAfterRounds.{WorkersAfterRounds}
 use Rattle.dvi_run.proofs.rounds.write_rounds.Goals as goal
-
--- a stack whose results have bitmaps
-good_on : (stack : List PageResult) → All HasBitmap stack → (r : PageResult) → Contains (reverse stack) r → HasBitmap r
-good_on stack all r has = All-contains HasBitmap stack r all (in_reverse stack r has)
 
 pub loop-first-init : goal.loop-first-init
 loop-first-init g c =
@@ -28,99 +24,13 @@ loop-first-init g c =
     let xs = c.args.workers.now in
     let q = c.requires.1.1.1.1.1 in
     record {
-      hand = subst (λ (l : List PageResult). RoundInProgress s (length xs) xs xs 0 0 (reverse l)) (sym c.new.ensures.items) (nothing_at_hand s (length xs) xs q.1.1);
+      hand = (0, [], nothing_at_hand s (length xs) xs q.1.1, λ r has. let less : has.0 < 0 = has.1 in absurd (omega arith));
       written = written_none s.given s.reading (g.O.Output.written c.args.out.now) c.args.counted;
+      at = refl;
+      goes_on = refl;
       counted = refl;
       black = omega arith;
       output = omega arith;
-    }
-
-pub write_and_draw-requires-after_bounds : goal.write_and_draw-requires-after_bounds
-write_and_draw-requires-after_bounds g c κs within =
-    let s = site g.F.FontSource.library g.F.FontSource.faults g.F.FontSource.loads c.args.job.now.bench.now g.known c.args.job.now.index.now c.args.job.now.sheet.now in
-    let xs = c.args.workers.now in
-    let n = length xs in
-    let q = c.requires.1.1.1.1.1 in
-    let ws = c.loop-first.workers in
-    let long : length ws ≡ n = c.loop-first.auto.workers in
-    let next = c.loop-first.first in
-    let stack = c.loop-first.press.0.items in
-    let pages = c.pages-pages.ensures.count in
-    let most = c.round_size-most.ensures in
-    let below : next < pages_begun c.args.job.now.index.now.reading = omega (arith, c.loop-first-test.true, pages) in
-    let sized : IsCount n next (pages_begun c.args.job.now.index.now.reading) c.min-count.result =
-    subst (λ (m : ℕ). IsCount n next m c.min-count.result) pages (is_count n next c.pages-pages.result c.round_size-most.result c.min-count.result c.min-count.ensures c.loop-first-test.true most.some most.few most.alone most.several) in
-    let all : All HasBitmap stack = subst (λ (l : List PageResult). All HasBitmap l) c.deref.ensures.value (c.if-have_bitmaps.ensures.0 refl) in
-    let drawable = may_draw s n xs q.1.1 ws next c.loop-first.press.1.0.pages c.min-count.result (reverse stack) c.loop-first.invariant.hand (good_on stack all) (let fits = sized.inside in let few = c.pages-pages.ensures.few in omega (arith, fits, few, pages)) in
-    record {
-      some_worker = subst (λ (m : ℕ). 1 ≤ m) (sym long) q.0;
-      few_workers = subst (λ (m : ℕ). m ≤ 32) (sym long) q.1.0;
-      inside = sized.inside;
-      ready = λ k d lt. drawable k d (subst (λ (m : ℕ). k < m) long lt);
-    }
-
-pub invariant_of-press : goal.invariant_of-press
-invariant_of-press g c =
-    let s = site g.F.FontSource.library g.F.FontSource.faults g.F.FontSource.loads c.args.job.now.bench.now g.known c.args.job.now.index.now c.args.job.now.sheet.now in
-    let xs = c.args.workers.now in
-    let hand = c.loop-first.invariant.hand in
-    let stack = c.loop-first.press.0.items in
-    record {
-      dots = few_on_stack s.given s.reading (SomeFailed s (length xs) xs c.loop-first.workers) c.loop-first.press.1.0.pages stack c.args.job.now.drawable hand.held;
-      few = let few = c.pages-pages.ensures.few in let pages = c.pages-pages.ensures.count in let long = length-reverse stack in let reach = hand.reach in let less = hand.few in omega (arith, few, pages, long, reach, less);
-      black = c.loop-first.invariant.black;
-    }
-
-pub invariant_of-press-2 : goal.invariant_of-press-2
-invariant_of-press-2 g c =
-    let s = site g.F.FontSource.library g.F.FontSource.faults g.F.FontSource.loads c.args.job.now.bench.now g.known c.args.job.now.index.now c.args.job.now.sheet.now in
-    let xs = c.args.workers.now in
-    let hand = c.loop-first.invariant.hand in
-    let stack = c.loop-first.press.0.items in
-    let press = c.loop-first-test.press in
-    let same : press ≡ c.loop-first.press = elim c.loop-first-test.branch [
-      | then-loop-first-test+else-have_bitmaps w ↦ w.press-is
-      | else-loop-first-test w ↦ w.press-is
-    ] in
-    let few : c.loop-first.press.1.0.pages + length stack ≤ 1000000 =
-    let few = c.pages-pages.ensures.few in let pages = c.pages-pages.ensures.count in let long = length-reverse stack in let reach = hand.reach in let less = hand.few in omega (arith, few, pages, long, reach, less) in
-    record {
-      dots = subst (λ p. All HasFewDots p.0.items) (sym same) (few_on_stack s.given s.reading (SomeFailed s (length xs) xs c.loop-first.workers) c.loop-first.press.1.0.pages stack c.args.job.now.drawable hand.held);
-      few = subst (λ p. p.1.0.pages + length p.0.items ≤ 1000000) (sym same) few;
-      black = subst (λ p. p.1.0.black ≤ p.1.0.pages * (20000 * 20000)) (sym same) c.loop-first.invariant.black;
-    }
-
-pub loop-first-preserved : goal.loop-first-preserved
-loop-first-preserved g c =
-    let s = site g.F.FontSource.library g.F.FontSource.faults g.F.FontSource.loads c.args.job.now.bench.now g.known c.args.job.now.index.now c.args.job.now.sheet.now in
-    let xs = c.args.workers.now in
-    let n = length xs in
-    let q = c.requires.1.1.1.1.1 in
-    let ws = c.loop-first.workers in
-    let now = c.write_and_draw.new.workers in
-    let long : length ws ≡ n = c.loop-first.auto.workers in
-    let same : length now ≡ length ws = search rules in
-    let next = c.loop-first.first in
-    let stack = c.loop-first.press.0.items in
-    let t = c.loop-first.press.1.0 in
-    let u = c.write_and_draw.new.press.tally in
-    let inv = c.loop-first.invariant in
-    let pages = c.pages-pages.ensures.count in
-    let most = c.round_size-most.ensures in
-    let sized : IsCount n next (pages_begun c.args.job.now.index.now.reading) c.min-count.result =
-    subst (λ (m : ℕ). IsCount n next m c.min-count.result) pages (is_count n next c.pages-pages.result c.round_size-most.result c.min-count.result c.min-count.ensures c.loop-first-test.true most.some most.few most.alone most.several) in
-    let all : All HasBitmap stack = subst (λ (l : List PageResult). All HasBitmap l) c.deref.ensures.value (c.if-have_bitmaps.ensures.0 refl) in
-    let answers = c.in-Ok.ensures in
-    let mid = g.O.Output.written c.loop-first.out in
-    let new = g.O.Output.written c.write_and_draw.new.out in
-    let written : WroteWhole c.args.counted mid new (reverse stack) t u = subst (λ (b : Bool). WroteWhole b mid new (reverse stack) t u) inv.counted answers.written in
-    record {
-      hand = next_at_hand s n xs q.1.1 ws next t.pages c.min-count.result (reverse stack) inv.hand (good_on stack all) now c.in-Ok.later.items answers.drawn long
-          (λ k d lt. answers.no_counter k d (subst (λ (m : ℕ). k < m) (sym (same ∙ long)) lt)) sized u.pages answers.written.pages_are;
-      written = wrote_whole s.given s.reading (SomeFailed s n xs ws) (g.O.Output.written c.args.out.now) c.args.counted (reverse stack) mid new t u inv.hand.held written inv.written;
-      counted = answers.counted ∙ inv.counted;
-      black = c.write_and_draw.new.press.black;
-      output = omega (arith, inv.output, answers.output);
     }
 
 pub returns-in-Err : goal.returns-in-Err
@@ -130,129 +40,181 @@ returns-in-Err g c =
     let n = length xs in
     let q = c.requires.1.1.1.1.1 in
     let ws = c.loop-first.workers in
-    let now = c.write_and_draw.new.workers in
-    let long : length ws ≡ n = c.loop-first.auto.workers in
-    let same : length now ≡ length ws = search rules in
     let next = c.loop-first.first in
-    let stack = c.loop-first.press.0.items in
-    let t = c.loop-first.press.1.0 in
-    let u = c.write_and_draw.new.press.tally in
+    let t = c.loop-first.press.tally in
     let inv = c.loop-first.invariant in
     let pages = c.pages-pages.ensures.count in
-    let most = c.round_size-most.ensures in
-    let below : next < pages_begun c.args.job.now.index.now.reading = omega (arith, c.loop-first-test.true, pages) in
-    let sized : IsCount n next (pages_begun c.args.job.now.index.now.reading) c.min-count.result =
-    subst (λ (m : ℕ). IsCount n next m c.min-count.result) pages (is_count n next c.pages-pages.result c.round_size-most.result c.min-count.result c.min-count.ensures c.loop-first-test.true most.some most.few most.alone most.several) in
-    let all : All HasBitmap stack = subst (λ (l : List PageResult). All HasBitmap l) c.deref.ensures.value (c.if-have_bitmaps.ensures.0 refl) in
-    let answers = c.in-Err.ensures in
     let old = g.O.Output.written c.args.out.now in
     let mid = g.O.Output.written c.loop-first.out in
-    let new = g.O.Output.written c.write_and_draw.new.out in
-    let P = Rose (g.O.Output.faults c.loop-first.out) (g.O.Output.faults c.write_and_draw.new.out) in
-    let Fails = Rose (g.O.Output.faults c.args.out.now) (g.O.Output.faults c.write_and_draw.new.out) in
-    let why = c.in-Err.stop in
-    let Later = DrewStack g.F.FontSource.library g.F.FontSource.faults g.F.FontSource.loads c.args.job.now.bench.now c.args.job.now.index.now c.args.job.now.sheet.now next c.min-count.result ws now in
-    let stopped : StoppedAhead Later c.args.counted mid new P (reverse stack) t u ws now why = subst (λ (b : Bool). StoppedAhead Later b mid new P (reverse stack) t u ws now why) inv.counted answers.stopped in
-    let counters : (k : ℕ) (d : Worker _) → k < n → (get_or now k d).counter ≡ None = λ k d lt. answers.no_counter k d (subst (λ (m : ℕ). k < m) (sym (same ∙ long)) lt) in
-    let over = over_ahead s n xs q.0 q.1.1 ws now next c.min-count.result (reverse stack) t u c.args.counted mid new P why inv.hand (good_on stack all) counters long sized stopped in
-    let ends = ends_ahead s n xs q.0 q.1.1 ws now next c.min-count.result (reverse stack) t u c.args.counted mid new P why inv.hand (good_on stack all) counters long old Fails
-    (λ rose. rose_later (g.O.Output.faults c.args.out.now) (g.O.Output.faults c.loop-first.out) (g.O.Output.faults c.write_and_draw.new.out) inv.output rose answers.output) inv.written below stopped in
-    rw c.ending_of_stop.ensures (record {
-      ends = ends;
+    let now = c.hand_round.new.workers in
+    let u = c.hand_round.new.taker.tally in
+    let new = g.O.Output.written c.hand_round.new.out in
+    let Fails = Rose (g.O.Output.faults c.args.out.now) (g.O.Output.faults c.hand_round.new.out) in
+    let long : length ws ≡ n = c.loop-first.auto.workers in
+    let same : length now ≡ length ws = search rules in
+    let counters : (k : ℕ) (d : Worker _) → k < n → (get_or now k d).counter ≡ None = λ k d lt. c.hand_round.ensures.no_counter k d (subst (λ (m : ℕ). k < m) (sym long) lt) in
+    let below : next < pages_begun c.args.job.now.index.now.reading = omega (arith, c.loop-first-test.true, pages) in
+    let rest = c.in-Err.ensures.refused in
+    let tally : u ≡ t = ap (λ (p : Press). p.tally) rest.1 in
+    let output : g.O.Output.faults c.hand_round.new.out ≡ g.O.Output.faults c.loop-first.out = ap g.O.Output.faults rest.2 in
+    let ending : value_of_ending c.ending_of_stop.result ≡ Memory = c.ending_of_stop.ensures ∙ ap (λ (x : WriteStop). ending_at (u.pages + 1) x) c.into.ensures in
+    let over : WorkersAfterRounds s n xs q.0 q.1.1 now (value_of_ending c.ending_of_stop.result) u = subst (λ (e : EndingValue). WorkersAfterRounds s n xs q.0 q.1.1 now e u) (sym ending)
+    (subst (λ (v : Tally). WorkersAfterRounds s n xs q.0 q.1.1 now Memory v) (sym tally) (workers_rested s n xs q.0 q.1.1 ws next inv.hand old mid c.args.counted t inv.written inv.at now counters long rest.0)) in
+    record {
+      ends = subst (λ (e : EndingValue). Ends s n xs q.0 q.1.1 old new Fails c.args.counted e u) (sym ending)
+          (subst (λ (v : Tally). Ends s n xs q.0 q.1.1 old new Fails c.args.counted Memory v) (sym tally) (ends_rested s n xs q.0 q.1.1 ws next inv.hand old mid c.args.counted t inv.written inv.at new Fails (ap g.O.Output.written rest.2) below));
       whole = over.whole;
       cause = over.cause;
       shares = over.shares;
       workers = over.workers;
-      output = omega (arith, inv.output, answers.output);
-    })
+      output = omega (arith, inv.output, output);
+    }
 
-pub returns-in-Ok-write_stack : goal.returns-in-Ok-write_stack
-returns-in-Ok-write_stack g c =
+pub ending_of_stop-requires-in-Some : goal.ending_of_stop-requires-in-Some
+ending_of_stop-requires-in-Some g c =
     let s = site g.F.FontSource.library g.F.FontSource.faults g.F.FontSource.loads c.args.job.now.bench.now g.known c.args.job.now.index.now c.args.job.now.sheet.now in
-    let reading = c.args.job.now.index.now.reading in
     let xs = c.args.workers.now in
     let n = length xs in
     let q = c.requires.1.1.1.1.1 in
     let ws = c.loop-first.workers in
     let next = c.loop-first.first in
-    let press = c.loop-first-test.press in
-    let same : press ≡ c.loop-first.press = elim c.loop-first-test.branch [
-      | then-loop-first-test+else-have_bitmaps w ↦ w.press-is
-      | else-loop-first-test w ↦ w.press-is
-    ] in
-    let stack = press.0.items in
-    let t = press.1.0 in
-    let u = c.write_stack.new.self.tally in
+    let t = c.loop-first.press.tally in
     let inv = c.loop-first.invariant in
-    let hand = subst (λ p. RoundInProgress s n xs ws next p.1.0.pages (reverse p.0.items)) (sym same) inv.hand in
-    let so_far = subst (λ p. IsWrittenTo s.given s.reading (g.O.Output.written c.args.out.now) (g.O.Output.written c.loop-first.out) p.1.0.pages c.args.counted p.1.0.black) (sym same) inv.written in
-    let counted = subst (λ p. p.1.1.0 ≡ c.args.counted) (sym same) inv.counted in
     let pages = c.pages-pages.ensures.count in
     let old = g.O.Output.written c.args.out.now in
     let mid = g.O.Output.written c.loop-first.out in
-    let new = g.O.Output.written c.write_stack.new.out in
-    let written : WroteWhole c.args.counted mid new (reverse stack) t u = subst (λ (b : Bool). WroteWhole b mid new (reverse stack) t u) counted c.in-Ok-write_stack.ensures.written in
-    let good_rs : (r : PageResult) → Contains (reverse stack) r → HasBitmap r = good_whole s.given reading (SomeFailed s n xs ws) mid c.args.counted (reverse stack) mid new t u written in
-    let all : All HasBitmap stack = all_of HasBitmap stack (λ r has. good_rs r (to_reverse stack r has)) in
-    let few = hand.few in
-    let last : next ≡ pages_begun reading = elim c.loop-first-test.branch [
-      | then-loop-first-test+else-have_bitmaps w ↦
-          let yes = w.have_bitmaps.ensures.1 (subst (λ (l : List PageResult). All HasBitmap l) (sym w.deref.ensures.value) (subst (λ p. All HasBitmap p.0.items) same all)) in
-          absurd (let no = w.if-have_bitmaps.false in cc)
-      | else-loop-first-test w ↦ omega (arith, w.loop-first-test.false, few, pages)
-    ] in
-    let over = over_written s n xs q.0 q.1.1 ws next (reverse stack) t u c.args.counted mid new hand last written in
-    let to : IsWrittenTo s.given reading old new u.pages c.args.counted u.black = wrote_whole s.given reading (SomeFailed s n xs ws) old c.args.counted (reverse stack) mid new t u hand.held written so_far in
-    let whole : u.pages ≡ pages_begun reading = let is = written.pages_are in let full = hand.full good_rs in omega (arith, is, full, last) in
-    let e = ends_written s.given reading old new u.pages c.args.counted u.black to whole in
-    record {
-      ends = (map good to.pages, e.0, e.1, e.2);
+    let now = c.hand_round.new.workers in
+    let u = c.hand_round.new.taker.tally in
+    let new = g.O.Output.written c.hand_round.new.out in
+    let Fails = Rose (g.O.Output.faults c.args.out.now) (g.O.Output.faults c.hand_round.new.out) in
+    let long : length ws ≡ n = c.loop-first.auto.workers in
+    let same : length now ≡ length ws = search rules in
+    let counters : (k : ℕ) (d : Worker _) → k < n → (get_or now k d).counter ≡ None = λ k d lt. c.hand_round.ensures.no_counter k d (subst (λ (m : ℕ). k < m) (sym long) lt) in
+    let below : next < pages_begun c.args.job.now.index.now.reading = omega (arith, c.loop-first-test.true, pages) in
+    let count = c.min-count.result in
+    let most = c.round_size-most.ensures in
+    let few : pages_begun c.args.job.now.index.now.reading ≤ 1000000 = let less = c.pages-pages.ensures.few in omega (arith, less, pages) in
+    let sized : IsCount n next (pages_begun c.args.job.now.index.now.reading) count =
+    subst (λ (m : ℕ). IsCount n next m count) pages (is_count n next c.pages-pages.result c.round_size-most.result count c.min-count.ensures c.loop-first-test.true most.some most.few most.alone most.several) in
+    let handed = c.in_default.ensures.handed in
+    let results = handed.0 in
+    let all = pressed_so s n xs q.0 q.1.1 ws next inv.hand old mid c.args.counted t inv.written inv.at count sized few now results handed.1 long counters g.O.Output.written g.O.Output.faults c.args.job.now.drawable c.loop-first.press c.loop-first.out c.hand_round.new.taker c.hand_round.new.out refl inv.goes_on inv.black handed.2 in
+    let P = Rose (g.O.Output.faults c.loop-first.out) (g.O.Output.faults c.hand_round.new.out) in
+    let why = c.in-Some.stop in
+    let stopped : c.hand_round.new.taker.stopped ≡ Some why = search rules in
+    let up : WroteUpTo c.args.counted mid new P results t u why = pressed_as c.args.counted c.loop-first.press.counted mid new P results t u c.hand_round.new.taker.stopped (Some why) stopped inv.counted all.pressed in
+    let inside = below_all s n xs q.0 q.1.1 ws next inv.hand old mid c.args.counted t inv.written inv.at count sized few now results handed.1 long counters new u P why up in
+    omega (arith, inside, few)
+
+pub returns-in-Some : goal.returns-in-Some
+returns-in-Some g c =
+    let s = site g.F.FontSource.library g.F.FontSource.faults g.F.FontSource.loads c.args.job.now.bench.now g.known c.args.job.now.index.now c.args.job.now.sheet.now in
+    let xs = c.args.workers.now in
+    let n = length xs in
+    let q = c.requires.1.1.1.1.1 in
+    let ws = c.loop-first.workers in
+    let next = c.loop-first.first in
+    let t = c.loop-first.press.tally in
+    let inv = c.loop-first.invariant in
+    let pages = c.pages-pages.ensures.count in
+    let old = g.O.Output.written c.args.out.now in
+    let mid = g.O.Output.written c.loop-first.out in
+    let now = c.hand_round.new.workers in
+    let u = c.hand_round.new.taker.tally in
+    let new = g.O.Output.written c.hand_round.new.out in
+    let Fails = Rose (g.O.Output.faults c.args.out.now) (g.O.Output.faults c.hand_round.new.out) in
+    let long : length ws ≡ n = c.loop-first.auto.workers in
+    let same : length now ≡ length ws = search rules in
+    let counters : (k : ℕ) (d : Worker _) → k < n → (get_or now k d).counter ≡ None = λ k d lt. c.hand_round.ensures.no_counter k d (subst (λ (m : ℕ). k < m) (sym long) lt) in
+    let below : next < pages_begun c.args.job.now.index.now.reading = omega (arith, c.loop-first-test.true, pages) in
+    let count = c.min-count.result in
+    let most = c.round_size-most.ensures in
+    let few : pages_begun c.args.job.now.index.now.reading ≤ 1000000 = let less = c.pages-pages.ensures.few in omega (arith, less, pages) in
+    let sized : IsCount n next (pages_begun c.args.job.now.index.now.reading) count =
+    subst (λ (m : ℕ). IsCount n next m count) pages (is_count n next c.pages-pages.result c.round_size-most.result count c.min-count.ensures c.loop-first-test.true most.some most.few most.alone most.several) in
+    let handed = c.in_default.ensures.handed in
+    let results = handed.0 in
+    let all = pressed_so s n xs q.0 q.1.1 ws next inv.hand old mid c.args.counted t inv.written inv.at count sized few now results handed.1 long counters g.O.Output.written g.O.Output.faults c.args.job.now.drawable c.loop-first.press c.loop-first.out c.hand_round.new.taker c.hand_round.new.out refl inv.goes_on inv.black handed.2 in
+    let P = Rose (g.O.Output.faults c.loop-first.out) (g.O.Output.faults c.hand_round.new.out) in
+    let why = c.in-Some.stop in
+    let stopped : c.hand_round.new.taker.stopped ≡ Some why = search rules in
+    let up : WroteUpTo c.args.counted mid new P results t u why = pressed_as c.args.counted c.loop-first.press.counted mid new P results t u c.hand_round.new.taker.stopped (Some why) stopped inv.counted all.pressed in
+    let over = workers_here s n xs q.0 q.1.1 ws next inv.hand old mid c.args.counted t inv.written inv.at count sized few now results handed.1 long counters new u P why up in
+    let ends = ends_here s n xs q.0 q.1.1 ws next inv.hand old mid c.args.counted t inv.written inv.at count sized few now results handed.1 long counters new u P why up Fails
+    (λ rose. rose_later (g.O.Output.faults c.args.out.now) (g.O.Output.faults c.loop-first.out) (g.O.Output.faults c.hand_round.new.out) inv.output rose all.output) in
+    rw c.ending_of_stop-in-Some.ensures (record {
+      ends = ends;
       whole = over.whole;
       cause = over.cause;
       shares = over.shares;
       workers = over.workers;
-      output = omega (arith, inv.output, c.in-Ok-write_stack.ensures.output);
+      output = omega (arith, inv.output, all.output);
+    })
+
+pub loop-first-preserved : goal.loop-first-preserved
+loop-first-preserved g c =
+    let s = site g.F.FontSource.library g.F.FontSource.faults g.F.FontSource.loads c.args.job.now.bench.now g.known c.args.job.now.index.now c.args.job.now.sheet.now in
+    let xs = c.args.workers.now in
+    let n = length xs in
+    let q = c.requires.1.1.1.1.1 in
+    let ws = c.loop-first.workers in
+    let next = c.loop-first.first in
+    let t = c.loop-first.press.tally in
+    let inv = c.loop-first.invariant in
+    let pages = c.pages-pages.ensures.count in
+    let old = g.O.Output.written c.args.out.now in
+    let mid = g.O.Output.written c.loop-first.out in
+    let now = c.hand_round.new.workers in
+    let u = c.hand_round.new.taker.tally in
+    let new = g.O.Output.written c.hand_round.new.out in
+    let Fails = Rose (g.O.Output.faults c.args.out.now) (g.O.Output.faults c.hand_round.new.out) in
+    let long : length ws ≡ n = c.loop-first.auto.workers in
+    let same : length now ≡ length ws = search rules in
+    let counters : (k : ℕ) (d : Worker _) → k < n → (get_or now k d).counter ≡ None = λ k d lt. c.hand_round.ensures.no_counter k d (subst (λ (m : ℕ). k < m) (sym long) lt) in
+    let below : next < pages_begun c.args.job.now.index.now.reading = omega (arith, c.loop-first-test.true, pages) in
+    let count = c.min-count.result in
+    let most = c.round_size-most.ensures in
+    let few : pages_begun c.args.job.now.index.now.reading ≤ 1000000 = let less = c.pages-pages.ensures.few in omega (arith, less, pages) in
+    let sized : IsCount n next (pages_begun c.args.job.now.index.now.reading) count =
+    subst (λ (m : ℕ). IsCount n next m count) pages (is_count n next c.pages-pages.result c.round_size-most.result count c.min-count.ensures c.loop-first-test.true most.some most.few most.alone most.several) in
+    let handed = c.in_default.ensures.handed in
+    let results = handed.0 in
+    let all = pressed_so s n xs q.0 q.1.1 ws next inv.hand old mid c.args.counted t inv.written inv.at count sized few now results handed.1 long counters g.O.Output.written g.O.Output.faults c.args.job.now.drawable c.loop-first.press c.loop-first.out c.hand_round.new.taker c.hand_round.new.out refl inv.goes_on inv.black handed.2 in
+    let P = Rose (g.O.Output.faults c.loop-first.out) (g.O.Output.faults c.hand_round.new.out) in
+    let goes_on : c.hand_round.new.taker.stopped ≡ None = search rules in
+    let wrote : WroteWhole c.args.counted mid new results t u = pressed_as c.args.counted c.loop-first.press.counted mid new P results t u c.hand_round.new.taker.stopped None goes_on inv.counted all.pressed in
+    record {
+      hand = last_now s n xs q.0 q.1.1 ws next inv.hand old mid c.args.counted t inv.written inv.at count sized few now results handed.1 long counters new u wrote;
+      written = written_now s n xs q.0 q.1.1 ws next inv.hand old mid c.args.counted t inv.written inv.at count sized few now results handed.1 long counters new u wrote;
+      at = at_now s n xs q.0 q.1.1 ws next inv.hand old mid c.args.counted t inv.written inv.at count sized few now results handed.1 long counters new u wrote;
+      goes_on = c.take.ensures.after;
+      counted = all.counted ∙ inv.counted;
+      black = all.black;
+      output = omega (arith, inv.output, all.output);
     }
 
 pub returns : goal.returns
 returns g c =
     let s = site g.F.FontSource.library g.F.FontSource.faults g.F.FontSource.loads c.args.job.now.bench.now g.known c.args.job.now.index.now c.args.job.now.sheet.now in
-    let reading = c.args.job.now.index.now.reading in
     let xs = c.args.workers.now in
     let n = length xs in
     let q = c.requires.1.1.1.1.1 in
     let ws = c.loop-first.workers in
     let next = c.loop-first.first in
-    let press = c.loop-first-test.press in
-    let same : press ≡ c.loop-first.press = elim c.loop-first-test.branch [
-      | then-loop-first-test+else-have_bitmaps w ↦ w.press-is
-      | else-loop-first-test w ↦ w.press-is
-    ] in
-    let stack = press.0.items in
-    let t = press.1.0 in
-    let u = c.write_stack.new.self.tally in
+    let t = c.loop-first.press.tally in
     let inv = c.loop-first.invariant in
-    let hand = subst (λ p. RoundInProgress s n xs ws next p.1.0.pages (reverse p.0.items)) (sym same) inv.hand in
-    let so_far = subst (λ p. IsWrittenTo s.given s.reading (g.O.Output.written c.args.out.now) (g.O.Output.written c.loop-first.out) p.1.0.pages c.args.counted p.1.0.black) (sym same) inv.written in
-    let counted = subst (λ p. p.1.1.0 ≡ c.args.counted) (sym same) inv.counted in
+    let pages = c.pages-pages.ensures.count in
     let old = g.O.Output.written c.args.out.now in
     let mid = g.O.Output.written c.loop-first.out in
-    let new = g.O.Output.written c.write_stack.new.out in
-    let P = Rose (g.O.Output.faults c.loop-first.out) (g.O.Output.faults c.write_stack.new.out) in
-    let Fails = Rose (g.O.Output.faults c.args.out.now) (g.O.Output.faults c.write_stack.new.out) in
-    let why = c.in-Err-write_stack.stop in
-    let up : WroteUpTo c.args.counted mid new P (reverse stack) t u why = subst (λ (b : Bool). WroteUpTo b mid new P (reverse stack) t u why) counted c.in-Err-write_stack.ensures.stopped in
-    let over = over_here s n xs q.0 q.1.1 ws next (reverse stack) t u c.args.counted mid new P why hand up in
-    let i = inside_hand s.given reading (SomeFailed s n xs ws) old c.args.counted (reverse stack) mid new t u why P hand.held up in
-    let reach = hand.reach in
-    let few = hand.few in
-    let ends = ends_up_to s.given reading (SomeFailed s n xs ws) old c.args.counted (reverse stack) mid new t u why P hand.held up Fails
-    (λ rose. rose_later (g.O.Output.faults c.args.out.now) (g.O.Output.faults c.loop-first.out) (g.O.Output.faults c.write_stack.new.out) inv.output rose c.in-Err-write_stack.ensures.output) so_far (omega (arith, i.1, reach, few)) in
-    rw c.ending_of_stop-in-Err-write_stack.ensures (record {
-      ends = ends;
+    let Fails = Rose (g.O.Output.faults c.args.out.now) (g.O.Output.faults c.loop-first.out) in
+    let few = inv.hand.2.few in
+    let last : next ≡ pages_begun c.args.job.now.index.now.reading = omega (arith, c.loop-first-test.false, few, pages) in
+    let over = workers_written s n xs q.0 q.1.1 ws next inv.hand old mid c.args.counted t inv.written inv.at last in
+    record {
+      ends = all_written s n xs q.0 q.1.1 ws next inv.hand old mid c.args.counted t inv.written inv.at Fails last;
       whole = over.whole;
       cause = over.cause;
       shares = over.shares;
       workers = over.workers;
-      output = omega (arith, inv.output, c.in-Err-write_stack.ensures.output);
-    })
+      output = inv.output;
+    }

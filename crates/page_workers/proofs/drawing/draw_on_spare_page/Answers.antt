@@ -2,7 +2,7 @@ use Rattle.std.proofs.lemmas.Result.{err_from_is_err_and}
 use Rattle.font_decode.proofs.Trails.{trail_none}
 use Rattle.page_workers.specs.Rounds.{trail_of}
 use Rattle.page_workers.specs.Seats.{asked_at}
-use Rattle.page_workers.proofs.WithSparePages.{not_begun}
+use Rattle.page_workers.proofs.NotBegun.{not_begun}
 use Rattle.page_workers.proofs.drawing.draw_on_spare_page.Goals as goal
 
 pub returns-in_err-blank-clause-value : goal.returns-in_err-blank-clause-value

@@ -13,15 +13,15 @@ draw_page-requires-clause-space g c =
 pub returns-then-not-draw_page : goal.returns-then-not-draw_page
 returns-then-not-draw_page g c =
     let broken : c.draw_page.result ≡ false = search rules in
-    ends_at g.F.FontSource.library g.F.FontSource.faults g.F.FontSource.loads c.args.job.now.bench.now c.args.job.now.index.now c.args.job.now.sheet.now c.args.round.now.counter c.args.round.now.pages.first c.args.round.now.pages.count c.args.worker.now c.loop-page.worker c.claim_page.new.worker c.loop-page.invariant c.claim_page.result c.claim_page.ensures c.in-Some.page c.in-Some.is c.draw_page.new.worker c.draw_page.result c.draw_page.ensures broken
+    ends_at g.F.FontSource.library g.F.FontSource.faults g.F.FontSource.loads c.args.job.now.bench.now c.args.job.now.index.now c.args.job.now.sheet.now c.args.round.now.counter c.args.round.now.pages.first c.args.round.now.pages.count c.args.worker.now c.loop-page.worker c.claim_page.new.worker c.loop-page.invariant c.claim_page.result c.claim_page.ensures c.in-Some.page c.in-Some.is c.draw_page.new.worker c.draw_page.result c.draw_page.ensures.drew broken
 
 pub loop-page-smaller : goal.loop-page-smaller
-loop-page-smaller g c = falls g.F.FontSource.library g.F.FontSource.faults g.F.FontSource.loads c.args.job.now.bench.now c.args.job.now.index.now c.args.job.now.sheet.now c.args.round.now.counter c.args.round.now.pages.first c.args.round.now.pages.count c.args.worker.now c.loop-page.worker c.claim_page.new.worker c.loop-page.invariant c.claim_page.result c.claim_page.ensures c.in-Some.page c.in-Some.is c.draw_page.new.worker c.draw_page.result c.draw_page.ensures
+loop-page-smaller g c = falls g.F.FontSource.library g.F.FontSource.faults g.F.FontSource.loads c.args.job.now.bench.now c.args.job.now.index.now c.args.job.now.sheet.now c.args.round.now.counter c.args.round.now.pages.first c.args.round.now.pages.count c.args.worker.now c.loop-page.worker c.claim_page.new.worker c.loop-page.invariant c.claim_page.result c.claim_page.ensures c.in-Some.page c.in-Some.is c.draw_page.new.worker c.draw_page.result c.draw_page.ensures.drew
 
 pub loop-page-preserved : goal.loop-page-preserved
 loop-page-preserved g c =
     let whole : c.draw_page.result ≡ true = search rules in
-    goes_on g.F.FontSource.library g.F.FontSource.faults g.F.FontSource.loads c.args.job.now.bench.now c.args.job.now.index.now c.args.job.now.sheet.now c.args.round.now.counter c.args.round.now.pages.first c.args.round.now.pages.count c.args.worker.now c.loop-page.worker c.claim_page.new.worker c.loop-page.invariant c.claim_page.result c.claim_page.ensures c.in-Some.page c.in-Some.is c.draw_page.new.worker c.draw_page.result c.draw_page.ensures whole
+    goes_on g.F.FontSource.library g.F.FontSource.faults g.F.FontSource.loads c.args.job.now.bench.now c.args.job.now.index.now c.args.job.now.sheet.now c.args.round.now.counter c.args.round.now.pages.first c.args.round.now.pages.count c.args.worker.now c.loop-page.worker c.claim_page.new.worker c.loop-page.invariant c.claim_page.result c.claim_page.ensures c.in-Some.page c.in-Some.is c.draw_page.new.worker c.draw_page.result c.draw_page.ensures.drew whole
 
 pub returns : goal.returns
 returns g c =
