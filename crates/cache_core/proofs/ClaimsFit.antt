@@ -5,7 +5,7 @@ use Rattle.std.proofs.lemmas.Bool.{eqb-true, eq-eqb}
 use Rattle.outside.specs.declared.keys.FontKey.{FontKey}
 use Rattle.cache_core.specs.Machine.{claims_key, claim_of, key_eq}
 use Rattle.cache_core.specs.Laws.{ClaimsAlwaysFit}
-use Rattle.cache_core.proofs.Keys.{key_is_itself}
+use Rattle.cache_core.proofs.SameKeys.{key_is_itself}
 use Rattle.cache_core.proofs.Sound.{Alone, by_test, both_true, second_true, sound_after}
 
 abbrev Claims : Type 0
@@ -50,8 +50,8 @@ looked_up (c ∷ cs) h (suc i) seat k a = by_test (nat_eq seat c.0)
     (λ e. rw e (looked_up cs h.2 i seat k a))
 
 pub claims_always_fit : ClaimsAlwaysFit
-claims_always_fit capacity history m is =
-    let s = sound_after capacity m history is in record {
+claims_always_fit limits history m is =
+    let s = sound_after limits m history is in record {
       absent = λ i seat k at_. s.apart k (has_claim m.claims i seat k at_);
       key_once = key_once m.claims s.alone;
       seat_once = seat_once m.claims s.alone;

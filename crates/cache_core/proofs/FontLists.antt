@@ -1,11 +1,12 @@
 -- The resident fonts as a list of the code's, as contracts see them, and as the machine's keys.
-use Rattle.std.proofs.Common.{◌≡◌, ℕ, zero, suc, Bool, true, false, cond, ◌||◌, ◌⊎◌, List, [], ◌∷◌, map, take, Option, Some, None, refl, sym, ap, ◌∙◌, inl, inr, true≢false}
+use Rattle.std.proofs.Common.{◌≡◌, ℕ, zero, suc, Bool, true, false, cond, ◌||◌, ◌⊎◌, List, [], ◌∷◌, map, take, Option, Some, None, refl, sym, ap, ◌∙◌, inl, inr, true≢false, arith, ◌≤◌}
 use Rattle.std.specs.Option.{option_map, option_map_or, is_some}
-use Rattle.std.specs.Map.{lookup, lookup_entry, remove_entry, keys_of}
+use Rattle.std.specs.Map.{lookup, lookup_entry, remove_entry}
 use Rattle.lru.specs.LruCache.{promoted}
 use Rattle.outside.specs.declared.keys.FontKey.{FontKey}
-use Rattle.cache_core.specs.Machine.{key_eq, has_key, without, brought_forward}
-use Rattle.cache_core.proofs.Keys.{keys_are_equal, key_is_itself}
+use Rattle.cache_core.specs.Machine.{key_eq, has_key, brought_forward}
+use Rattle.cache_core.specs.Views.{weighed}
+use Rattle.cache_core.proofs.SameKeys.{keys_are_equal, key_is_itself}
 
 -- ---- a list of pairs, of which another list is an image
 
@@ -59,9 +60,9 @@ module _ {T : Type 0} where
   first_found k font es = rw (key_is_itself k) refl
 
   -- a key has a font exactly where it is resident
-  pub found_key : (k : FontKey) (es : List (FontKey × T)) → is_some (lookup (key_eq k) es) ≡ has_key k (keys_of es)
-  found_key k [] = refl
-  found_key k (e ∷ es) = is_found (key_eq k e.0) e.1 (lookup (key_eq k) es) (has_key k (keys_of es)) (found_key k es)
+  pub found_key : (weighs : T → ℕ) (k : FontKey) (es : List (FontKey × T)) → is_some (lookup (key_eq k) es) ≡ has_key k (weighed weighs es)
+  found_key weighs k [] = refl
+  found_key weighs k (e ∷ es) = is_found (key_eq k e.0) e.1 (lookup (key_eq k) es) (has_key k (weighed weighs es)) (found_key weighs k es)
 
   pub found_entry : (k : FontKey) (es : List (FontKey × T)) (v : T) → lookup (key_eq k) es ≡ Some v → lookup_entry (key_eq k) es ≡ Some (k, v)
   found_entry k [] v h = absurd cc
@@ -78,16 +79,8 @@ module _ {T : Type 0} where
     | false ↦ λ t. rw t (no_entry k es (rw t at h))
   ]) refl
 
-  key_dropped : (b : Bool) (j : FontKey) (v : T) (xs ys : List (FontKey × T)) (zs : List FontKey) → keys_of ys ≡ zs → keys_of (cond b xs ((j, v) ∷ ys)) ≡ cond b (keys_of xs) (j ∷ zs)
-  key_dropped true j v xs ys zs h = refl
-  key_dropped false j v xs ys zs h = ap (λ l. j ∷ l) h
-
-  keys_removed : (k : FontKey) (es : List (FontKey × T)) → keys_of (remove_entry (key_eq k) es) ≡ without k (keys_of es)
-  keys_removed k [] = refl
-  keys_removed k (e ∷ es) = key_dropped (key_eq k e.0) e.0 e.1 es (remove_entry (key_eq k) es) (without k (keys_of es)) (keys_removed k es)
-
-  pub keys_forward : (k : FontKey) (es : List (FontKey × T)) (v : T) → lookup (key_eq k) es ≡ Some v → keys_of (promoted (key_eq k) es) ≡ brought_forward k (keys_of es)
-  keys_forward k es v h = rw (found_entry k es v h) (ap (λ l. k ∷ l) (keys_removed k es))
+  pub weights_moved : (weighs : T → ℕ) (k : FontKey) (es : List (FontKey × T)) → weighed weighs (promoted (key_eq k) es) ≡ brought_forward k (weighed weighs es)
+  weights_moved weighs k es = sym (promoted_image (λ (j : FontKey). j) weighs (key_eq k) es)
 
   pub not_there : (k : FontKey) (es : List (FontKey × T)) → lookup (key_eq k) es ≡ None → promoted (key_eq k) es ≡ es
   not_there k es h = rw (no_entry k es h) refl
@@ -128,10 +121,17 @@ module _ {T : Type 0} where
     | false ↦ λ t. rw t (found_in_front j n es w (rw t at h))
   ]) refl
 
-  -- the fonts after one is added: that one, and fonts that were there
-  pub values_after : (k j : FontKey) (v w : T) (n : ℕ) (es : List (FontKey × T)) → lookup (key_eq j) ((k, v) ∷ take n es) ≡ Some w
+  -- the fonts after one is added and some left: that one, and fonts that were there
+  pub values_after : (k j : FontKey) (v w : T) (n : ℕ) (es : List (FontKey × T)) → lookup (key_eq j) (take n ((k, v) ∷ es)) ≡ Some w
       → ((j ≡ k) × (w ≡ v)) ⊎ (lookup (key_eq j) es ≡ Some w)
-  values_after k j v w n es h = (elim (key_eq j k) as (λ b. key_eq j k ≡ b → ((j ≡ k) × (w ≡ v)) ⊎ (lookup (key_eq j) es ≡ Some w)) [
-    | true ↦ λ t. let h' = rw t at h in let value : w ≡ v = cc in inl (keys_are_equal j k t, value)
-    | false ↦ λ t. inr (found_in_front j n es w (rw t at h))
-  ]) refl
+  values_after k j v w n es h =
+      let found = found_in_front j n ((k, v) ∷ es) w h in
+      (elim (key_eq j k) as (λ b. key_eq j k ≡ b → ((j ≡ k) × (w ≡ v)) ⊎ (lookup (key_eq j) es ≡ Some w)) [
+        | true ↦ λ t. let h' = rw t at found in let value : w ≡ v = cc in inl (keys_are_equal j k t, value)
+        | false ↦ λ t. inr (rw t at found)
+      ]) refl
+
+  -- the one that was added is found
+  pub added_found : (k : FontKey) (v : T) (n : ℕ) (es : List (FontKey × T)) → 1 ≤ n → lookup (key_eq k) (take n ((k, v) ∷ es)) ≡ Some v
+  added_found k v zero es some = absurd (omega arith)
+  added_found k v (suc n) es some = first_found k v (take n es)

@@ -4,11 +4,16 @@ pub mod Changes
 pub mod ClaimsFit
 pub mod FewClaims
 pub mod FontLists
-pub mod Keys
+pub mod FontsFit
+pub mod Leaving
 pub mod Looks
 pub mod OwnClaims
+pub mod Resident
+pub mod SameKeys
 pub mod SeatCalls
 pub mod Solo
 pub mod Sound
 pub mod Steps
+pub mod TakenOut
 pub mod Turns
+pub mod Weights

@@ -4,7 +4,7 @@ use Rattle.std.proofs.lemmas.Bool.{and_parts, eqb-true, eq-eqb}
 use Rattle.outside.specs.declared.keys.FontKey.{FontKey}
 use Rattle.cache_core.specs.Machine.{Machine, key_eq, has_key, claims_key, claim_of}
 use Rattle.cache_core.specs.Laws.{IsClaimedByAnother, LooksAreAnswered}
-use Rattle.cache_core.proofs.Keys.{keys_are_equal}
+use Rattle.cache_core.proofs.SameKeys.{keys_are_equal}
 use Rattle.cache_core.proofs.Sound.{Alone, by_test, either, never, not_true, claimed_of, sound_after}
 
 -- a claimed key is the claim of a seat
@@ -31,8 +31,8 @@ module _ (m : Machine) (seat : ℕ) (k : FontKey) (free : claim_of seat m.claims
   unclaimed f other holds = true≢false (sym (claimed_of other k m.claims holds) ∙ f)
 
 pub looks_are_answered : LooksAreAnswered
-looks_are_answered capacity history m is seat k free =
-    let alone = (sound_after capacity m history is).alone in
+looks_are_answered limits history m is seat k free =
+    let alone = (sound_after limits m history is).alone in
     record {
       hit = (λ t. rw free at t, λ t. rw free t);
       busy = (

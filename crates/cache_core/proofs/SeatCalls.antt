@@ -4,7 +4,7 @@ use Rattle.std.proofs.lemmas.List.Elements.{filter-append}
 use Rattle.outside.specs.declared.keys.FontKey.{FontKey}
 use Rattle.cache_core.specs.declared.calls.Call.{Call}
 use Rattle.cache_core.specs.declared.calls.Done.{Done}
-use Rattle.cache_core.specs.Histories.{own, IsAnswer, SeatCalls, look_of, looks}
+use Rattle.cache_core.specs.Histories.{IsAnswer, SeatCalls, look_of, looks}
 use Rattle.cache_core.specs.Laws.{OwnsAreJoined, OwnsAreHistory, KeysAreLooks, PrefixesHaveCalls, CallsAreJoined}
 
 pub owns_are_joined : OwnsAreJoined
@@ -30,7 +30,7 @@ one_look k calls a = elim a [
   | inr two ↦
       let c : Call = two.0 in
       let d : Call = two.1 in
-      let none : look_of d.key d.done ≡ [] = elim two.6 [ inl filled ↦ ap (look_of d.key) filled.1 | inr released ↦ ap (look_of d.key) released ] in
+      let none : look_of d.key d.done ≡ [] = elim two.6 [ inl filled ↦ ap (look_of d.key) filled.3 | inr released ↦ ap (look_of d.key) released ] in
       ap looks two.2 ∙ (ap (λ (x : Done). look_of c.key x ++ (look_of d.key d.done ++ [])) two.4
       ∙ (ap (λ (l : List FontKey). c.key ∷ (l ++ [])) none ∙ ap (λ (j : FontKey). j ∷ []) two.3))
 ]

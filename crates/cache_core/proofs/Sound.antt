@@ -1,6 +1,6 @@
 -- In each state that a legal history leads to, no claimed key is resident, and no seat and no key
 -- is claimed twice.
-use Rattle.std.proofs.Common.{◌≡◌, ◌⊎◌, ℕ, zero, suc, Bool, true, false, cond, not, ◌&&◌, ◌||◌, List, [], ◌∷◌, take, Option, Some, None, nat_eq, refl, sym, ap, ◌∙◌, subst, inl, inr, true≢false}
+use Rattle.std.proofs.Common.{◌≡◌, ◌⊎◌, ℕ, zero, suc, leb, Bool, true, false, cond, not, ◌&&◌, ◌||◌, List, [], ◌∷◌, take, Option, Some, None, nat_eq, refl, sym, ap, ◌∙◌, subst, inl, inr, true≢false}
 use Rattle.std.specs.Option.{is_some}
 use Rattle.std.specs.Map.{remove_entry}
 use Rattle.std.proofs.lemmas.Bool.{and_parts}
@@ -8,8 +8,10 @@ use Rattle.outside.specs.declared.keys.FontKey.{FontKey}
 use Rattle.cache_core.specs.declared.calls.Call.{Call}
 use Rattle.cache_core.specs.declared.calls.Done.{Done}
 use Rattle.cache_core.specs.declared.calls.Done.TheVariants.{Hit, Claimed, Busy, Filled, Released}
-use Rattle.cache_core.specs.Machine.{Machine, empty, key_eq, option_key_eq, has_key, claims_key, claim_of, without, key_evicted, allows, allows_done, next, changed_by, machine_after}
-use Rattle.cache_core.proofs.Keys.{keys_are_equal, key_is_itself}
+use Rattle.cache_core.specs.declared.limits.Limits.{Limits}
+use Rattle.cache_core.specs.Machine.{Machine, empty, key_eq, option_key_eq, keys_eq, has_key, claims_key, claim_of, stay, kept_of, gone_of, allows, allows_done, next, changed_by, machine_after}
+use Rattle.cache_core.proofs.SameKeys.{keys_are_equal, key_is_itself}
+use Rattle.cache_core.proofs.Resident.{has_forward}
 
 abbrev Claims : Type 0
 Claims = List (ℕ × FontKey)
@@ -95,35 +97,22 @@ ended_key s k (c ∷ cs) h at_ = by_test (nat_eq s c.0)
       | inr more ↦ both_true (claims_key k (remove_entry (nat_eq s) cs)) more (ended_key s k cs h.2 rest)
     ])))
 
-through_keys : (k : FontKey) (b : Bool) (j : FontKey) (xs ys : List FontKey) → has_key k (cond b xs (j ∷ ys)) ≡ cond b (has_key k xs) (key_eq k j || has_key k ys)
-through_keys k true j xs ys = refl
-through_keys k false j xs ys = refl
-
-keys_less : (j k : FontKey) (keys : List FontKey) → has_key k (without j keys) ≡ true → has_key k keys ≡ true
-keys_less j k [] h = h
-keys_less j k (x ∷ keys) h = kept_key (key_eq k x) (key_eq j x) (has_key k keys) (has_key k (without j keys)) (keys_less j k keys)
-    (sym (through_keys k (key_eq j x) x keys (without j keys)) ∙ h)
-
-keys_front : (k : FontKey) (n : ℕ) (keys : List FontKey) → has_key k (take n keys) ≡ true → has_key k keys ≡ true
+pub keys_front : (k : FontKey) (n : ℕ) (keys : List (FontKey × ℕ)) → has_key k (take n keys) ≡ true → has_key k keys ≡ true
 keys_front k zero keys h = absurd cc
 keys_front k (suc n) [] h = absurd cc
-keys_front k (suc n) (x ∷ keys) h = elim (either (key_eq k x) (has_key k (take n keys)) h) [
+keys_front k (suc n) (x ∷ keys) h = elim (either (key_eq k x.0) (has_key k (take n keys)) h) [
   | inl here ↦ rw here refl
-  | inr there ↦ second_true (key_eq k x) (has_key k keys) (keys_front k n keys there)
+  | inr there ↦ second_true (key_eq k x.0) (has_key k keys) (keys_front k n keys there)
 ]
 
-sound_changed : (capacity : ℕ) (m : Machine) (seat : ℕ) (j : FontKey) (d : Done) → Sound m → allows_done capacity m seat j d ≡ true → Sound (changed_by capacity m seat j d)
-sound_changed capacity m seat j Hit s h =
-    let there = (and_parts (not (is_some (claim_of seat m.claims))) (has_key j m.resident) h).1 in
+sound_changed : (limits : Limits) (m : Machine) (seat : ℕ) (j : FontKey) (d : Done) → Sound m → allows_done limits m seat j d ≡ true → Sound (changed_by limits m seat j d)
+sound_changed limits m seat j Hit s h =
     record {
       alone = s.alone;
-      apart = λ k claimed. never (key_eq k j || has_key k (without j m.resident)) (λ t. elim (either (key_eq k j) (has_key k (without j m.resident)) t) [
-        | inl same ↦ both_true (has_key k m.resident) (subst (λ x. has_key x m.resident ≡ true) (sym (keys_are_equal k j same)) there) (s.apart k claimed)
-        | inr more ↦ both_true (has_key k m.resident) (keys_less j k m.resident more) (s.apart k claimed)
-      ]);
+      apart = λ k claimed. has_forward k j m.resident ∙ s.apart k claimed;
     }
-sound_changed capacity m seat j Busy s h = s
-sound_changed capacity m seat j Claimed s h =
+sound_changed limits m seat j Busy s h = s
+sound_changed limits m seat j Claimed s h =
     let two = and_parts (not (is_some (claim_of seat m.claims)) && not (has_key j m.resident)) (not (claims_key j m.claims)) h in
     let one = and_parts (not (is_some (claim_of seat m.claims))) (not (has_key j m.resident)) two.0 in
     record {
@@ -133,29 +122,34 @@ sound_changed capacity m seat j Claimed s h =
         | inr more ↦ s.apart k more
       ];
     }
-sound_changed capacity m seat j (Filled gone) s h =
-    let holds = the_key (claim_of seat m.claims) j (and_parts (option_key_eq (claim_of seat m.claims) (Some j)) (option_key_eq gone (key_evicted capacity (j ∷ m.resident))) h).0 in
+sound_changed limits m seat j (Filled w false gone) s h = record {
+  alone = alone_less seat m.claims s.alone;
+  apart = λ k claimed. s.apart k (claims_less seat k m.claims claimed);
+}
+sound_changed limits m seat j (Filled w true gone) s h =
+    let one = and_parts (option_key_eq (claim_of seat m.claims) (Some j) && leb w limits.budget) (keys_eq gone (gone_of limits ((j, w) ∷ m.resident))) h in
+    let holds = the_key (claim_of seat m.claims) j (and_parts (option_key_eq (claim_of seat m.claims) (Some j)) (leb w limits.budget) one.0).0 in
     record {
       alone = alone_less seat m.claims s.alone;
-      apart = λ k claimed. never (has_key k (take capacity (j ∷ m.resident))) (λ t. elim (either (key_eq k j) (has_key k m.resident) (keys_front k capacity (j ∷ m.resident) t)) [
+      apart = λ k claimed. never (has_key k (kept_of limits ((j, w) ∷ m.resident))) (λ t. elim (either (key_eq k j) (has_key k m.resident) (keys_front k (stay limits ((j, w) ∷ m.resident)) ((j, w) ∷ m.resident) t)) [
         | inl same ↦ both_true (claims_key k (remove_entry (nat_eq seat) m.claims)) claimed
             (subst (λ x. claims_key x (remove_entry (nat_eq seat) m.claims) ≡ false) (sym (keys_are_equal k j same)) (ended_key seat j m.claims s.alone holds))
         | inr more ↦ both_true (has_key k m.resident) more (s.apart k (claims_less seat k m.claims claimed))
       ]);
     }
-sound_changed capacity m seat j Released s h = record {
+sound_changed limits m seat j Released s h = record {
   alone = alone_less seat m.claims s.alone;
   apart = λ k claimed. s.apart k (claims_less seat k m.claims claimed);
 }
 
-pub sound_next : (capacity : ℕ) (m : Machine) (c : Call) → Sound m → allows capacity m c ≡ true → Sound (next capacity m c)
-sound_next capacity m c s h = sound_changed capacity m c.seat c.key c.done s h
+pub sound_next : (limits : Limits) (m : Machine) (c : Call) → Sound m → allows limits m c ≡ true → Sound (next limits m c)
+sound_next limits m c s h = sound_changed limits m c.seat c.key c.done s h
 
-sound_from : (capacity : ℕ) (m n : Machine) (calls : List Call) → Sound m → machine_after capacity m calls ≡ Some n → Sound n
-sound_from capacity m n [] s h = let same : m ≡ n = cc in subst Sound same s
-sound_from capacity m n (c ∷ calls) s h = by_test (allows capacity m c)
-    (λ t. sound_from capacity (next capacity m c) n calls (sound_next capacity m c s t) (rw t at h))
+sound_from : (limits : Limits) (m n : Machine) (calls : List Call) → Sound m → machine_after limits m calls ≡ Some n → Sound n
+sound_from limits m n [] s h = let same : m ≡ n = cc in subst Sound same s
+sound_from limits m n (c ∷ calls) s h = by_test (allows limits m c)
+    (λ t. sound_from limits (next limits m c) n calls (sound_next limits m c s t) (rw t at h))
     (λ t. let h' = rw t at h in absurd cc)
 
-pub sound_after : (capacity : ℕ) (n : Machine) (calls : List Call) → machine_after capacity empty calls ≡ Some n → Sound n
-sound_after capacity n calls h = sound_from capacity empty n calls (record { alone = tt; apart = λ k claimed. absurd cc }) h
+pub sound_after : (limits : Limits) (n : Machine) (calls : List Call) → machine_after limits empty calls ≡ Some n → Sound n
+sound_after limits n calls h = sound_from limits empty n calls (record { alone = tt; apart = λ k claimed. absurd cc }) h

@@ -17,7 +17,7 @@ units_code =
 
 abbrev pub common_code : Coded Common
 common_code =
-    code_by (ℕ × (Units × Option FileTable))
-    (coded× coded_ℕ (coded× units_code (coded_option files_code)))
-    (λ c. (c.capacity, (c.units, c.library)))
-    (λ p. record { capacity = p.0; units = p.1.0; library = p.1.1 }) (λ _. refl)
+    code_by (ℕ × (ℕ × (Units × Option FileTable)))
+    (coded× coded_ℕ (coded× coded_ℕ (coded× units_code (coded_option files_code))))
+    (λ c. (c.capacity, (c.budget, (c.units, c.library))))
+    (λ p. record { capacity = p.0; budget = p.1.0; units = p.1.1.0; library = p.1.1.1 }) (λ _. refl)

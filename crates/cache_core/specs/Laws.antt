@@ -1,11 +1,13 @@
 -- Laws over the machine's histories.
-use Rattle.std.specs.Prelude.{◌≡◌, ◌≢◌, ◌↔◌, ℕ, ◌+◌, ◌≤◌, Bool, true, false, ◌&&◌, ◌||◌, List, ◌++◌, filter, length, slice_get, Some, None, IsTrue, IsFalse}
+use Rattle.std.specs.Prelude.{◌≡◌, ◌≢◌, ◌↔◌, ℕ, ◌+◌, ◌≤◌, leb, Bool, true, false, not, ◌&&◌, ◌||◌, if◌then◌else◌, List, [], ◌∷◌, ◌++◌, filter, length, slice_get, Some, None, IsTrue, IsFalse}
+use Rattle.std.specs.List.{list_any}
 use Rattle.outside.specs.declared.keys.FontKey.{FontKey}
 use Rattle.cache_core.specs.declared.calls.Call.{Call}
 use Rattle.cache_core.specs.declared.calls.Done.{Done}
 use Rattle.cache_core.specs.declared.calls.Done.TheVariants.{Hit, Claimed, Busy, Filled, Released}
-use Rattle.cache_core.specs.Machine.{Machine, Legal, key_eq, has_key, claim_of, allows_done, machine_after, empty}
-use Rattle.cache_core.specs.Histories.{own, open_claim, looks, AreOf, NoneReleased, NoneBusy, SeatCalls}
+use Rattle.cache_core.specs.declared.limits.Limits.{Limits}
+use Rattle.cache_core.specs.Machine.{Machine, Legal, key_eq, has_key, claim_of, allows_done, machine_after, empty, weights, gone_of}
+use Rattle.cache_core.specs.Histories.{own, open_claim, looks, AreOf, NoneReleased, NoneBusy, SeatCalls, WeighSo}
 use Rattle.cache_core.specs.Solo.{solo_history}
 
 abbrev pub is_claim : Done → Bool
@@ -16,15 +18,20 @@ abbrev pub is_release : Done → Bool
 is_release Released = true
 is_release _ = false
 
+-- whether a font was handed in that wasn't kept
+abbrev pub is_not_kept : Done → Bool
+is_not_kept (Filled _ kept _) = not kept
+is_not_kept _ = false
+
 -- whether the key's font left
 abbrev pub leaves_by : FontKey → Done → Bool
-leaves_by k (Filled (Some left)) = key_eq k left
+leaves_by k (Filled _ _ gone) = list_any (key_eq k) gone
 leaves_by k _ = false
 
 -- each prefix of a legal history is legal
 abbrev pub PrefixesAreLegal : Type 0
 PrefixesAreLegal =
-    (capacity : ℕ) (xs ys : List Call) → Legal capacity (xs ++ ys) → Legal capacity xs
+    (limits : Limits) (xs ys : List Call) → Legal limits (xs ++ ys) → Legal limits xs
 
 -- the test of two keys is equality: two that pass it are one, and each passes it with itself
 abbrev pub KeysAreEqual : Type 0
@@ -36,26 +43,29 @@ KeysAreThemselves = (k : FontKey) → key_eq k k ≡ true
 -- a seat's claim is the one that the last of its calls has left to it
 abbrev pub ClaimsAreOwn : Type 0
 ClaimsAreOwn =
-    (capacity : ℕ) (history : List Call) (m : Machine)
-    → machine_after capacity empty history ≡ Some m → (seat : ℕ)
+    (limits : Limits) (history : List Call) (m : Machine)
+    → machine_after limits empty history ≡ Some m → (seat : ℕ)
     → claim_of seat m.claims ≡ open_claim (own seat history)
 
 -- whether the call claims the key
 abbrev pub claims_it : FontKey → Call → Bool
 claims_it k c = key_eq k c.key && is_claim c.done
 
--- whether the key may be claimed again after the call: its font left, or its claim was given up
+-- whether the key may be claimed again after the call: its font left or wasn't kept, or its claim
+-- was given up
 abbrev pub frees_it : FontKey → Call → Bool
-frees_it k c = leaves_by k c.done || (key_eq k c.key && is_release c.done)
+frees_it k c =
+    leaves_by k c.done || (key_eq k c.key && (is_not_kept c.done || is_release c.done))
 
--- each key is claimed at most once more than its font left and its claims were given up together
+-- each key is claimed at most once more than its font left, wasn't kept and its claims were given
+-- up together
 abbrev pub FewClaims : List Call → Type 0
 FewClaims history =
     (k : FontKey) → length (filter (claims_it k) history) ≤ length (filter (frees_it k) history) + 1
 
 -- so it is in each legal history
 abbrev pub ClaimsAreFew : Type 0
-ClaimsAreFew = (capacity : ℕ) (history : List Call) → Legal capacity history → FewClaims history
+ClaimsAreFew = (limits : Limits) (history : List Call) → Legal limits history → FewClaims history
 
 -- the claim at this place of the list is the seat's on the key
 abbrev pub ClaimsAt : Machine → ℕ → ℕ → FontKey → Type 0
@@ -76,8 +86,28 @@ pub record ClaimsFit (m : Machine) : Type 0 where
 -- so they are in the state after each legal history
 abbrev pub ClaimsAlwaysFit : Type 0
 ClaimsAlwaysFit =
-    (capacity : ℕ) (history : List Call) (m : Machine)
-    → machine_after capacity empty history ≡ Some m → ClaimsFit m
+    (limits : Limits) (history : List Call) (m : Machine)
+    → machine_after limits empty history ≡ Some m → ClaimsFit m
+
+-- the fonts of a state: no more than may be resident, and no heavier together
+pub record FontsFit (limits : Limits) (m : Machine) : Type 0 where
+  pub few : length m.resident ≤ limits.capacity
+  pub light : weights m.resident ≤ limits.budget
+
+-- so they are in the state after each legal history
+abbrev pub FontsAlwaysFit : Type 0
+FontsAlwaysFit =
+    (limits : Limits) (history : List Call) (m : Machine)
+    → machine_after limits empty history ≡ Some m → FontsFit limits m
+
+-- how a claim is filled with a font of a weight: one way alone
+abbrev pub FillsAreOne : Type 0
+FillsAreOne =
+    (limits : Limits) (m : Machine) (seat : ℕ) (k : FontKey) (weight : ℕ) (kept : Bool)
+    (gone : List FontKey) → claim_of seat m.claims ≡ Some k
+    → IsTrue (allows_done limits m seat k (Filled weight kept gone))
+    ↔ ((kept ≡ leb weight limits.budget)
+    × (gone ≡ (if kept then gone_of limits ((k, weight) ∷ m.resident) else [])))
 
 -- another seat has claimed the key
 abbrev pub IsClaimedByAnother : Machine → ℕ → FontKey → Type 0
@@ -85,42 +115,46 @@ IsClaimedByAnother m seat k = (other : ℕ) × (other ≢ seat) × (claim_of oth
 
 -- what a look is answered, each answer exactly there: Hit where the key is resident, else Busy
 -- where another seat has claimed it, else Claimed
-pub record IsLookAnswered (capacity : ℕ) (m : Machine) (seat : ℕ) (k : FontKey) : Type 0 where
-  pub hit : IsTrue (allows_done capacity m seat k Hit) ↔ IsTrue (has_key k m.resident)
-  pub busy : IsTrue (allows_done capacity m seat k Busy)
+pub record IsLookAnswered (limits : Limits) (m : Machine) (seat : ℕ) (k : FontKey) : Type 0 where
+  pub hit : IsTrue (allows_done limits m seat k Hit) ↔ IsTrue (has_key k m.resident)
+  pub busy : IsTrue (allows_done limits m seat k Busy)
       ↔ (IsFalse (has_key k m.resident) × IsClaimedByAnother m seat k)
-  pub claimed : IsTrue (allows_done capacity m seat k Claimed)
+  pub claimed : IsTrue (allows_done limits m seat k Claimed)
       ↔ (IsFalse (has_key k m.resident) × ((other : ℕ) → claim_of other m.claims ≢ Some k))
 
 -- so it is in the state after each legal history, for each seat that holds no claim
 abbrev pub LooksAreAnswered : Type 0
 LooksAreAnswered =
-    (capacity : ℕ) (history : List Call) (m : Machine)
-    → machine_after capacity empty history ≡ Some m
-    → (seat : ℕ) (k : FontKey) → claim_of seat m.claims ≡ None → IsLookAnswered capacity m seat k
+    (limits : Limits) (history : List Call) (m : Machine)
+    → machine_after limits empty history ≡ Some m
+    → (seat : ℕ) (k : FontKey) → claim_of seat m.claims ≡ None → IsLookAnswered limits m seat k
 
 -- where all calls are of one seat, no look is busy
 abbrev pub NoneAloneIsBusy : Type 0
 NoneAloneIsBusy =
-    (capacity seat : ℕ) (history : List Call) → Legal capacity history → AreOf seat history
+    (limits : Limits) (seat : ℕ) (history : List Call) → Legal limits history → AreOf seat history
     → NoneBusy history
 
--- a history of one seat that answers these keys and gives no claim up
-pub record IsSolo (capacity seat : ℕ) (keys : List FontKey) (history : List Call) : Type 0 where
-  pub legal : Legal capacity history
+-- a history of one seat that answers these keys, gives no claim up and hands in fonts of these
+-- weights
+pub record IsSolo (limits : Limits) (seat : ℕ) (weight : FontKey → ℕ) (keys : List FontKey)
+    (history : List Call) : Type 0 where
+  pub legal : Legal limits history
   pub own : AreOf seat history
   pub for_keys : SeatCalls keys history
   pub kept : NoneReleased history
+  pub weighed : WeighSo weight history
 
 -- there is one, and one only
 abbrev pub SoloIsOne : Type 0
-SoloIsOne = (capacity seat : ℕ) (keys : List FontKey) (history : List Call)
-    → IsSolo capacity seat keys history → history ≡ solo_history capacity seat keys
+SoloIsOne = (limits : Limits) (seat : ℕ) (weight : FontKey → ℕ) (keys : List FontKey)
+    (history : List Call) → IsSolo limits seat weight keys history
+    → history ≡ solo_history limits seat weight keys
 
 abbrev pub SoloIsThere : Type 0
 SoloIsThere =
-    (capacity seat : ℕ) (keys : List FontKey) → IsSolo capacity seat keys
-    (solo_history capacity seat keys)
+    (limits : Limits) (seat : ℕ) (weight : FontKey → ℕ) (keys : List FontKey)
+    → IsSolo limits seat weight keys (solo_history limits seat weight keys)
 
 -- a seat's own calls in two joined lists are those in the first and then those in the second
 abbrev pub OwnsAreJoined : Type 0

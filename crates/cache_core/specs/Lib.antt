@@ -2,6 +2,7 @@ pub mod Limits
 pub mod Codes
 pub mod Histories
 pub mod Laws
+pub mod KeyCodes
 pub mod Machine
 pub mod Examples
 pub mod Solo

@@ -1,16 +1,16 @@
 -- What contracts see of the entries, the claims and the fonts: plain values, and no places in
 -- memory.
-use Rattle.std.specs.Prelude.{ℕ, ◌-◌, Bool, List, map, Option, slice_get}
-use Rattle.std.specs.Option.{option_map}
+use Rattle.std.specs.Prelude.{ℕ, Bool, if◌then◌else◌, List, [], ◌∷◌, map, drop, reverse}
 use Rattle.std.specs.Arc.{arc_value}
 use Rattle.std.specs.declared.sync.Arc.{Arc}
 use Rattle.outside.specs.declared.keys.FontKey.{FontKey}
-use Rattle.cache_core.specs.Machine.{key_eq}
+use Rattle.std.specs.Map.{values_of}
+use Rattle.cache_core.specs.declared.limits.Limits.{Limits}
+use Rattle.cache_core.specs.Machine.{key_eq, stay}
 use Rattle.cache_core.specs.declared.calls.Call.{Call}
 use Rattle.cache_core.specs.declared.calls.Done.{Done}
 use Rattle.cache_core.specs.declared.calls.Done.TheVariants as done
 use Rattle.cache_core.specs.declared.entry.Entry.{Entry}
-use Rattle.cache_core.specs.declared.entry.Evicted.{Evicted}
 use Rattle.cache_core.specs.declared.entry.Act.{Act}
 use Rattle.cache_core.specs.declared.entry.Act.TheVariants as act
 use Rattle.cache_core.specs.declared.claims.Claim.{Claim}
@@ -19,7 +19,7 @@ abbrev pub done_of : Act → Done
 done_of act.Hit = done.Hit
 done_of act.Claimed = done.Claimed
 done_of act.Busy = done.Busy
-done_of (act.Filled gone) = done.Filled (option_map arc_value gone)
+done_of (act.Filled weight kept gone) = done.Filled weight kept gone
 done_of act.Released = done.Released
 
 abbrev pub call_of : Entry → Call
@@ -37,19 +37,21 @@ claims_of claims = map value_of_claim claims
 abbrev pub fonts_of : {T A : Type 0} → List (Arc FontKey A × Arc T A) → List (FontKey × T)
 fonts_of fonts = map (λ f. (arc_value f.0, arc_value f.1)) fonts
 
--- the font that leaves where one is added to n at most, with its key, and that key alone
-abbrev pub font_to_evict : {T : Type 0} → List (FontKey × T) → ℕ → Option (FontKey × T)
-font_to_evict fonts capacity = slice_get fonts (capacity - 1)
+-- the keys with the weights of their fonts
+abbrev pub weighed : {T : Type 0} → (T → ℕ) → List (FontKey × T) → List (FontKey × ℕ)
+weighed weighs fonts = map (λ f. (f.0, weighs f.1)) fonts
 
-abbrev pub key_to_evict : {T : Type 0} → List (FontKey × T) → ℕ → Option FontKey
-key_to_evict fonts capacity = option_map (λ f. f.0) (font_to_evict fonts capacity)
+-- the fonts that leave, the last first, where one has come in front of the others
+abbrev pub fonts_to_evict : {T : Type 0} → Limits → (T → ℕ) → List (FontKey × T) → List T
+fonts_to_evict limits weighs fonts =
+    reverse (values_of (drop (stay limits (weighed weighs fonts)) fonts))
 
--- a font that has left, with its key, and the key of one
-abbrev pub value_of_evicted : {T : Type 0} → Evicted T → FontKey × T
-value_of_evicted e = (arc_value e.key, arc_value e.font)
-
-abbrev pub evicted_key : {T : Type 0} → Option (Evicted T) → Option FontKey
-evicted_key gone = option_map (λ e. arc_value e.key) gone
+-- the fonts that a fill hands out: those that leave for the one that comes in, or that one where it
+-- isn't kept
+abbrev pub fonts_let_go : {T : Type 0} → Limits → (T → ℕ) → Bool → FontKey → T
+    → List (FontKey × T) → List T
+fonts_let_go limits weighs kept k font fonts =
+    if kept then fonts_to_evict limits weighs ((k, font) ∷ fonts) else font ∷ []
 
 -- whether a stored key is this one
 abbrev pub passes : {A : Type 0} → FontKey → Arc FontKey A → Bool

@@ -1,4 +1,5 @@
 //! The calls of the history, as contracts see them.
+use crate::keys::Keys;
 use outside::FontKey;
 
 /// What a call did, with keys as values. No value of it is made.
@@ -6,7 +7,9 @@ pub enum Done {
     Hit,
     Claimed,
     Busy,
-    Filled(Option<FontKey>),
+    /// How many bytes the font weighs, whether it was kept, and the keys of the fonts that were
+    /// evicted for it.
+    Filled(u64, bool, Keys),
     Released,
 }
 

@@ -1,4 +1,5 @@
 //! The entries of the history, the answers of a look, and what a fill hands out.
+use crate::keys::Keys;
 use outside::FontKey;
 use std::sync::Arc;
 
@@ -11,9 +12,10 @@ pub enum Act {
     Claimed,
     /// A look found no font, and another seat has claimed the key.
     Busy,
-    /// The seat handed in the font that it had claimed; `gone` is the key of the font that was
-    /// evicted for it.
-    Filled { gone: Option<Arc<FontKey>> },
+    /// The seat handed in the font that it had claimed, which weighs this many bytes; `kept` says
+    /// whether the cache keeps it, and `gone` has the keys of the fonts that were evicted for it,
+    /// the least recently used first.
+    Filled { weight: u64, kept: bool, gone: Keys },
     /// The seat gave its claim up.
     Released,
 }
@@ -38,9 +40,18 @@ pub enum Look<T: Drop> {
     Busy,
 }
 
-/// An evicted font, with its key.
+/// What a fill answers: whether the font was kept, and the keys of the fonts that were evicted for
+/// it, the least recently used first.
 #[derive(Drop)]
-pub struct Evicted<T: Drop> {
-    pub key: Arc<FontKey>,
-    pub font: Arc<T>,
+pub struct Fill {
+    pub kept: bool,
+    pub gone: Keys,
+}
+
+/// What a fill answers, with the fonts that it lets go: those that were evicted, in that order, or
+/// the one that was handed in where it wasn't kept.
+#[derive(Drop)]
+pub struct Filling<T: Drop> {
+    pub fill: Fill,
+    pub fonts: Vec<Arc<T>>,
 }

@@ -1,20 +1,33 @@
 //! The resident fonts, in the order of their use.
-ghost use Rattle.std.specs.Prelude.{◌≡◌, ◌-◌, ◌∷◌, Some, None, take, IfOk, OnOk, OnErr, IfErr, IfSome, OnSome};
+ghost use Rattle.std.specs.Prelude.{◌≡◌, ◌+◌, ◌≤◌, leb, ◌&&◌, ◌∷◌, ◌++◌, Some, None, length, map, take, drop, reverse, IfOk, OnOk, OnErr, IfErr, IfSome, OnSome};
 ghost use Rattle.std.specs.Option.{option_map};
 ghost use Rattle.std.specs.Arc.{arc_value};
-ghost use Rattle.std.specs.Map.{lookup};
-ghost use Rattle.lru.specs.LruCache.{promoted};
-ghost use Rattle.cache_core.specs.Machine.{key_eq};
-ghost use Rattle.cache_core.specs.Views.{fonts_of, font_to_evict, key_to_evict, value_of_evicted, passes};
+ghost use Rattle.std.specs.Vec.{vec_len, vec_capacity};
+ghost use Rattle.std.specs.Map.{lookup, keys_of, values_of};
+ghost use Rattle.lru.specs.LruCache.{promoted, lru_cache};
+ghost use Rattle.outside.specs.declared.keys.FontKey.{FontKey};
+ghost use Rattle.cache_core.specs.Limits.{MAX_CACHED_FONTS};
+ghost use Rattle.cache_core.specs.Machine.{key_eq, weights, stay, gone_of};
+ghost use Rattle.cache_core.specs.Views.{fonts_of, weighed, fonts_to_evict, passes};
 
-use crate::entry::Evicted;
 use crate::key_test::same_key;
+use crate::keys::Keys;
+use crate::limits::Limits;
+use crate::stands::Stands;
 use lru::LruCache;
 use outside::FontKey;
-use std::alloc::AllocError as NoMemory;
+use std::alloc::{AllocError as NoMemory, Global};
 use std::sync::Arc;
 
 pub(crate) type Fonts<T> = LruCache<Arc<FontKey>, Arc<T>>;
+
+// The resident fonts, and what they weigh together. There is a place more than fonts may stay, so
+// that one that comes in drives none out by itself.
+#[derive(Drop)]
+pub(crate) struct Resident<T: Drop> {
+    pub(crate) fonts: Fonts<T>,
+    pub(crate) total: u64,
+}
 
 // The font of this key, if it is the newest: no other has to be looked for, and none moves.
 fn newest<'f, T: Drop>(fonts: &'f Fonts<T>, key: &Arc<FontKey>) -> Option<&'f Arc<T>>
@@ -78,48 +91,164 @@ pub(crate) fn find<T: Drop>(
     }
 }
 
-// The key whose font leaves where one is added.
-fn key_evicted<T: Drop>(fonts: &Fonts<T>) -> Result<Option<Arc<FontKey>>, NoMemory>
-    ensures { IfOk result (λ gone. option_map arc_value gone
-        ≡ key_to_evict (fonts_of fonts.now.entries) fonts.now.cap) }
+// What a font that comes in drives out.
+struct Leavers {
+    // The keys whose fonts leave, the least recently used first: one list to note, one to answer.
+    noted: Vec<Arc<FontKey>>,
+    answered: Vec<Arc<FontKey>>,
+    // How many others stay, and what they weigh together.
+    stay: usize,
+    rest: u64,
+}
+
+// Whether a font of this weight may stand beside n others that weigh `rest` together.
+fn they_fit(limits: Limits, weight: u64, stay: usize, rest: u64) -> bool
+    requires fits { weight ≤ limits.budget }
+    ensures { result ≡ (leb (stay + 1) limits.capacity && leb (weight + rest) limits.budget) }
 {
-    if fonts.len() < fonts.cap().get() {
-        return Ok(None);
+    stay < limits.capacity && rest <= limits.budget - weight
+}
+
+// Which fonts leave where one of this weight comes in. They are found from the least recently used
+// on, and no other is looked at.
+fn find_leavers<T: Stands>(
+    alloc: Global,
+    resident: &Resident<T>,
+    limits: Limits,
+    weight: u64,
+) -> Result<Leavers, NoMemory>
+    requires some_font { 1 ≤ limits.capacity }
+    requires fits { weight ≤ limits.budget }
+    requires total { resident.now.total
+        ≡ weights (weighed T.weighs (fonts_of resident.now.fonts.entries)) }
+    ensures stay { IfOk result (λ l. (k : FontKey) → stay limits
+        ((k, weight) ∷ weighed T.weighs (fonts_of resident.now.fonts.entries)) ≡ l.stay + 1) }
+    ensures some { IfOk result (λ l. l.stay ≤ length resident.now.fonts.entries) }
+    ensures noted { IfOk result (λ l. map arc_value l.noted.items
+        ≡ reverse (keys_of (drop l.stay (fonts_of resident.now.fonts.entries)))) }
+    ensures answered { IfOk result (λ l. map arc_value l.answered.items
+        ≡ map arc_value l.noted.items) }
+    ensures rest { IfOk result (λ l. l.rest
+        ≡ weights (weighed T.weighs (fonts_of (take l.stay resident.now.fonts.entries)))) }
+    ensures room { IfOk result (λ l. weight + l.rest ≤ limits.budget) }
+{
+    let mut noted = Vec::new(alloc);
+    let mut answered = Vec::new(alloc);
+    let mut rest = resident.total;
+    let mut oldest = resident.fonts.iter();
+    let count = resident.fonts.len();
+    for gone in 0..count {
+        let stay = count - gone;
+        if they_fit(limits, weight, stay, rest) {
+            return Ok(Leavers {
+                noted,
+                answered,
+                stay,
+                rest,
+            });
+        }
+        let Some((key, font)) = oldest.next_back() else {
+            unreachable!()
+        };
+        noted.push(Arc::try_clone(key)?)?;
+        answered.push(Arc::try_clone(key)?)?;
+        let heavy = font.weight();
+        rest -= heavy;
     }
-    match fonts.peek_lru() {
-        Some((key, _)) => Ok(Some(Arc::try_clone(key)?)),
-        None => Ok(None),
+    Ok(Leavers {
+        noted,
+        answered,
+        stay: 0,
+        rest,
+    })
+}
+
+// Takes out the least recently used fonts until n are left, into room that is there.
+fn drop_oldest<T: Drop>(fonts: &mut Fonts<T>, stay: usize, left: &mut Vec<Arc<T>>)
+    requires room { vec_len left.old + length fonts.old.entries ≤ vec_capacity left.old + stay }
+    requires some { stay ≤ length fonts.old.entries }
+    ensures kept { fonts.new ≡ lru_cache (take stay fonts.old.entries) fonts.old.cap }
+    ensures left { map arc_value left.new.items ≡ map arc_value left.old.items
+        ++ reverse (values_of (drop stay (fonts_of fonts.old.entries))) }
+{
+    for _ in stay..fonts.len() {
+        let Some((_, font)) = fonts.pop_lru() else {
+            unreachable!()
+        };
+        left.push_reserved(font);
     }
 }
 
-// Adds a font whose key isn't there. Gives the key that leaves for it, to note, and its font with
-// the key.
-pub(crate) fn store<T: Drop>(
-    fonts: &mut Fonts<T>,
+// What was stored: the keys whose fonts left for it, to note and to answer, and these fonts.
+pub(crate) struct Stored<T: Drop> {
+    pub(crate) noted: Keys,
+    pub(crate) answered: Keys,
+    pub(crate) left: Vec<Arc<T>>,
+}
+
+// Adds a font whose key isn't there and that isn't too heavy, and takes out those that leave for
+// it.
+pub(crate) fn store<T: Stands>(
+    alloc: Global,
+    resident: &mut Resident<T>,
+    limits: Limits,
     key: &Arc<FontKey>,
     font: Arc<T>,
-) -> Result<(Option<Arc<FontKey>>, Option<Evicted<T>>), Arc<T>>
-    requires { lookup (key_eq (arc_value key.now)) (fonts_of fonts.old.entries) ≡ None }
-    ensures gone { IfOk result (λ gone. option_map arc_value gone.0
-        ≡ key_to_evict (fonts_of fonts.old.entries) fonts.old.cap) }
-    ensures left { IfOk result (λ gone. option_map value_of_evicted gone.1
-        ≡ font_to_evict (fonts_of fonts.old.entries) fonts.old.cap) }
-    ensures added { OnOk result (fonts_of fonts.new.entries
-        ≡ (arc_value key.now, arc_value font) ∷ take (fonts.old.cap - 1)
-        (fonts_of fonts.old.entries)) }
-    ensures capacity { fonts.new.cap ≡ fonts.old.cap }
+    weight: u64,
+) -> Result<Stored<T>, Arc<T>>
+    requires missing { lookup (key_eq (arc_value key.now)) (fonts_of resident.old.fonts.entries)
+        ≡ None }
+    requires some_font { 1 ≤ limits.capacity }
+    requires few_fonts { limits.capacity ≤ MAX_CACHED_FONTS }
+    requires places { resident.old.fonts.cap ≡ limits.capacity + 1 }
+    requires few { length resident.old.fonts.entries ≤ limits.capacity }
+    requires fits { weight ≤ limits.budget }
+    requires weight { weight ≡ T.weighs (arc_value font) }
+    requires total { resident.old.total
+        ≡ weights (weighed T.weighs (fonts_of resident.old.fonts.entries)) }
+    ensures noted { IfOk result (λ s. s.noted ≡ gone_of limits
+        ((arc_value key.now, weight) ∷ weighed T.weighs (fonts_of resident.old.fonts.entries))) }
+    ensures answered { IfOk result (λ s. s.answered ≡ s.noted) }
+    ensures left { IfOk result (λ s. map arc_value s.left.items ≡ fonts_to_evict
+        limits T.weighs ((arc_value key.now, arc_value font)
+        ∷ fonts_of resident.old.fonts.entries)) }
+    ensures kept { OnOk result (fonts_of resident.new.fonts.entries
+        ≡ take (stay limits
+        ((arc_value key.now, weight) ∷ weighed T.weighs (fonts_of resident.old.fonts.entries)))
+        ((arc_value key.now, arc_value font) ∷ fonts_of resident.old.fonts.entries)) }
+    ensures some { OnOk result (1 ≤ stay limits
+        ((arc_value key.now, weight)
+        ∷ weighed T.weighs (fonts_of resident.old.fonts.entries))) }
+    ensures total { OnOk result (resident.new.total ≡ weights (weighed T.weighs
+        (fonts_of resident.new.fonts.entries))) }
+    ensures capacity { resident.new.fonts.cap ≡ resident.old.fonts.cap }
     ensures back { IfErr result (λ handed. handed ≡ font) }
-    ensures same { OnErr result (fonts.new ≡ fonts.old) }
+    ensures same { OnErr result (resident.new ≡ resident.old) }
 {
-    let Ok(noted) = key_evicted(fonts) else {
+    let Ok(leavers) = find_leavers(alloc, resident, limits, weight) else {
+        return Err(font);
+    };
+    let Leavers {
+        noted,
+        answered,
+        stay,
+        rest,
+    } = leavers;
+    let mut left = Vec::new(alloc);
+    let Ok(()) = left.reserve(noted.len()) else {
         return Err(font);
     };
     let Ok(kept) = Arc::try_clone(key) else {
         return Err(font);
     };
-    match fonts.push(kept, font) {
-        Ok(Some((key, font))) => Ok((noted, Some(Evicted { key, font }))),
-        Ok(None) => Ok((noted, None)),
-        Err(failed) => Err(failed.value.1),
+    if let Err(failed) = resident.fonts.push(kept, font) {
+        return Err(failed.value.1);
     }
+    drop_oldest(&mut resident.fonts, stay + 1, &mut left);
+    resident.total = weight + rest;
+    Ok(Stored {
+        noted: Keys::new(noted),
+        answered: Keys::new(answered),
+        left,
+    })
 }

@@ -5,7 +5,7 @@ ghost use Rattle.cache_core.specs.Machine.{key_eq};
 use outside::FontKey;
 
 // Whether two keys are one. Their numbers are compared before their names.
-#[tactic(auto, using(crate::proofs::Keys::numbers_first))]
+#[tactic(auto, using(crate::proofs::SameKeys::numbers_first))]
 pub(crate) fn same_key(a: &FontKey, b: &FontKey) -> bool
     ensures { result ≡ key_eq a.now b.now }
 {

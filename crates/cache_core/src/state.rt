@@ -1,19 +1,22 @@
 //! The state of the cache, and its calls.
-ghost use Rattle.std.specs.Prelude.{◌≡◌, ◌+◌, ◌^◌, ◌<◌, ◌≤◌, [], ◌∷◌, ◌++◌, Some, None, nat_eq, IfOk, IfErr, OnErr};
-ghost use Rattle.std.specs.Option.{option_map};
+ghost use Rattle.std.specs.Prelude.{◌≡◌, ◌+◌, ◌^◌, ◌<◌, ◌≤◌, [], ◌∷◌, ◌++◌, Some, None, length, map, IsTrue, IsFalse, IfOk, IfErr, OnOk, OnErr};
 ghost use Rattle.std.specs.Arc.{arc_value};
 ghost use Rattle.std.specs.Vec.{vec_len, vec_capacity};
 ghost use Rattle.std.specs.Map.{lookup};
 ghost use Rattle.cache_core.specs.declared.common.Common.{Common};
 ghost use Rattle.cache_core.specs.declared.calls.Done.TheVariants.{Filled, Released};
-ghost use Rattle.cache_core.specs.Machine.{key_eq, claim_of};
-ghost use Rattle.cache_core.specs.Views.{calls_of, claims_of, fonts_of, font_to_evict, value_of_evicted, evicted_key};
+ghost use Rattle.cache_core.specs.declared.limits.Limits.{Limits};
+ghost use Rattle.cache_core.specs.Machine.{key_eq, claim_of, weights};
+ghost use Rattle.cache_core.specs.Views.{calls_of, claims_of, fonts_of, weighed, fonts_let_go};
 ghost use Rattle.cache_core.specs.States.{machine, machine_of, call, answered, GivesFont, IsReached, Takes, SameFonts, AddsFont, StateStands};
 ghost use Rattle.cache_core.specs.Limits.{MAX_CACHED_FONTS};
 
-use crate::claims::{Claim, add_claim, end, is_claimed};
-use crate::entry::{Act, Entry, Evicted, Look};
-use crate::fonts::{Fonts, find, store};
+use crate::claims::{Claim, end};
+use crate::entry::{Act, Entry, Fill, Filling, Look};
+use crate::filling::take_in;
+use crate::fonts::Resident;
+use crate::limits::Limits;
+use crate::looking::answer;
 use crate::stands::Stands;
 use crate::told::Told;
 use lru::LruCache;
@@ -28,7 +31,8 @@ use std::sync::Arc;
 /// unless it is refused.
 #[derive(Drop)]
 pub struct CacheState<T: Stands> {
-    resident: Fonts<T>,
+    resident: Resident<T>,
+    limits: Limits,
     claims: Vec<Claim>,
     entries: Vec<Entry>,
     turns: u64,
@@ -43,11 +47,12 @@ impl<T: Stands> Model for CacheState<T> {
     ghost coded = { cache_code T.code };
 
     ghost view = { λ s.
-        value_of_cache s.resident.entries s.resident.cap s.claims.items s.entries.items s.turns };
+        value_of_cache s.resident.fonts.entries s.limits s.claims.items s.entries.items s.turns };
 
-    ghost invariant = { λ s. IsSoundCache
-        (value_of_cache s.resident.entries s.resident.cap s.claims.items s.entries.items s.turns)
-        (vec_len s.entries) (vec_len s.claims) (vec_capacity s.entries) };
+    ghost invariant = { λ s. IsSoundCache T.weighs
+        (value_of_cache s.resident.fonts.entries s.limits s.claims.items s.entries.items s.turns)
+        s.resident.fonts.cap s.resident.total (vec_len s.entries) (vec_len s.claims)
+        (vec_capacity s.entries) };
 }
 
 impl<T: Stands> Told for CacheState<T> {
@@ -57,77 +62,33 @@ impl<T: Stands> Told for CacheState<T> {
 
     ghost turns = { λ s. s.turns };
 
-    ghost stands = { λ s part. StateStands T.stands_for s part };
-}
-
-// Answers a look, and notes it.
-fn answer<T: Stands>(
-    resident: &mut Fonts<T>,
-    claims: &mut Vec<Claim>,
-    entries: &mut Vec<Entry>,
-    seat: u32,
-    key: &Arc<FontKey>,
-) -> Result<Look<T>, NoMemory>
-    requires free { claim_of seat (claims_of claims.old.items) ≡ None }
-    requires room { vec_len entries.old + vec_len claims.old ≤ vec_capacity entries.old }
-    ensures taken { IfOk result (λ reply. Takes resident.old.cap
-        (machine_of (fonts_of resident.old.entries) (claims_of claims.old.items))
-        (machine_of (fonts_of resident.new.entries) (claims_of claims.new.items))
-        (call seat (arc_value key.now) (answered reply))) }
-    ensures noted { IfOk result (λ reply. calls_of entries.new.items
-        ≡ calls_of entries.old.items ++ call seat (arc_value key.now) (answered reply) ∷ []) }
-    ensures font { IfOk result (λ reply. GivesFont reply
-        (lookup (key_eq (arc_value key.now)) (fonts_of resident.old.entries))) }
-    ensures fonts { IfOk result (λ _. SameFonts (fonts_of resident.old.entries)
-        (fonts_of resident.new.entries)) }
-    ensures same { OnErr result ((resident.new ≡ resident.old)
-        × (claims.new.items ≡ claims.old.items) × (entries.new.items ≡ entries.old.items)) }
-    ensures capacity { resident.new.cap ≡ resident.old.cap }
-    ensures can_end { vec_len entries.new + vec_len claims.new ≤ vec_capacity entries.new }
-{
-    // Room for this entry, for the claim, and for the entry that ends the claim.
-    entries.reserve(claims.len() + 2)?;
-    let noted = Arc::try_clone(key)?;
-    if let Some(font) = find(resident, key)? {
-        entries.push_reserved(Entry {
-            seat,
-            key: noted,
-            act: Act::Hit,
-        });
-        return Ok(Look::Hit(font));
-    }
-    if is_claimed(claims, key) {
-        entries.push_reserved(Entry {
-            seat,
-            key: noted,
-            act: Act::Busy,
-        });
-        return Ok(Look::Busy);
-    }
-    add_claim(claims, seat, key)?;
-    entries.push_reserved(Entry {
-        seat,
-        key: noted,
-        act: Act::Claimed,
-    });
-    Ok(Look::Claimed)
+    ghost stands = { λ s part. StateStands T.stands_for T.weighs s part };
 }
 
 impl<T: Stands> CacheState<T> {
-    /// A state for at most n fonts, 1 to 256, that has no font, no claim and no call.
-    pub fn new(alloc: Global, capacity: usize) -> Result<CacheState<T>, NoMemory>
+    /// A state for at most n fonts, 1 to 256, that weigh no more bytes than the budget together. It
+    /// has no font, no claim and no call.
+    pub fn new(alloc: Global, capacity: usize, budget: u64) -> Result<CacheState<T>, NoMemory>
         requires some_font { 1 ≤ capacity }
         requires few_fonts { capacity ≤ MAX_CACHED_FONTS }
-        ensures capacity { IfOk result (λ s. s.capacity ≡ capacity) }
+        ensures limits { IfOk result (λ s. s.limits ≡ record {
+          capacity = capacity;
+          budget = budget;
+        }) }
         ensures no_font { IfOk result (λ s. s.fonts ≡ []) }
         ensures no_claim { IfOk result (λ s. s.claims ≡ []) }
         ensures no_call { IfOk result (λ s. (s.history ≡ []) × (s.turns ≡ 0)) }
         ensures stands { IfOk result (λ s. (part : Common) → capacity ≡ part.capacity
-            → StateStands T.stands_for s part) }
+            → budget ≡ part.budget → StateStands T.stands_for T.weighs s part) }
     {
-        let cap = NonZeroUsize::new(capacity).unwrap_or(NonZeroUsize::MIN);
+        // One place more, for the font that comes in before others leave for it.
+        let places = NonZeroUsize::new(capacity + 1).unwrap_or(NonZeroUsize::MIN);
         Ok(CacheState {
-            resident: LruCache::new(alloc, cap)?,
+            resident: Resident {
+                fonts: LruCache::new(alloc, places)?,
+                total: 0,
+            },
+            limits: Limits { capacity, budget },
             claims: Vec::new(alloc),
             entries: Vec::new(alloc),
             turns: 0,
@@ -142,9 +103,9 @@ impl<T: Stands> CacheState<T> {
         requires few_turns { self.old.turns < 2 ^ 62 }
         requires free { claim_of seat self.old.claims ≡ None }
         ensures turns { self.new.turns ≡ self.old.turns + 1 }
-        ensures capacity { self.new.capacity ≡ self.old.capacity }
-        ensures taken { IfOk result (λ reply. Takes self.old.capacity (machine self.old)
-            (machine self.new)
+        ensures limits { self.new.limits ≡ self.old.limits }
+        ensures taken { IfOk result (λ reply. Takes self.old.limits (machine T.weighs self.old)
+            (machine T.weighs self.new)
             (call seat (arc_value key.now) (answered reply))) }
         ensures noted { IfOk result (λ reply. self.new.history
             ≡ self.old.history ++ call seat (arc_value key.now) (answered reply) ∷ []) }
@@ -152,13 +113,13 @@ impl<T: Stands> CacheState<T> {
             (lookup (key_eq (arc_value key.now)) self.old.fonts)) }
         ensures fonts { IfOk result (λ _. SameFonts self.old.fonts self.new.fonts) }
         ensures refused { OnErr result (self.new ≡ record self.old { turns = self.old.turns + 1 }) }
-        ensures reached { IsReached self.new }
-        ensures stands { (part : Common) → StateStands T.stands_for self.old part
-            → StateStands T.stands_for self.new part }
+        ensures reached { IsReached T.weighs self.new }
+        ensures stands { (part : Common) → StateStands T.stands_for T.weighs self.old part
+            → StateStands T.stands_for T.weighs self.new part }
     {
         self.turns += 1;
         answer(
-            &mut self.resident,
+            &mut self.resident.fonts,
             &mut self.claims,
             &mut self.entries,
             seat,
@@ -166,82 +127,85 @@ impl<T: Stands> CacheState<T> {
         )
     }
 
-    /// Hands in the font of the key that the seat has claimed, which ends the claim: the key then
-    /// has this font. The answer is the key of the font that was evicted for it. `Err` means that
-    /// memory ran out: it hands the font back and changes only the number of turns, so that the
-    /// seat still holds its claim.
-    pub fn fill(
-        &mut self,
-        seat: u32,
-        key: &Arc<FontKey>,
-        value: Arc<T>,
-    ) -> Result<Option<Arc<FontKey>>, Arc<T>>
+    /// Hands in the font of the key that the seat has claimed, which ends the claim. Where it
+    /// weighs more than the budget it isn't kept. Else the key then has this font, and the least
+    /// recently used fonts are evicted, one after another, while there are more than the capacity
+    /// or they weigh more than the budget together. The answer says whether the font was kept, and
+    /// the keys of those that were evicted, in that order. `Err` means that memory ran out: it
+    /// hands the font back and changes only the number of turns, so that the seat still holds its
+    /// claim.
+    pub fn fill(&mut self, seat: u32, key: &Arc<FontKey>, value: Arc<T>) -> Result<Fill, Arc<T>>
         requires few_turns { self.old.turns < 2 ^ 62 }
         requires claim { claim_of seat self.old.claims ≡ Some (arc_value key.now) }
         ensures turns { self.new.turns ≡ self.old.turns + 1 }
-        ensures capacity { self.new.capacity ≡ self.old.capacity }
-        ensures taken { IfOk result (λ gone. Takes self.old.capacity (machine self.old)
-            (machine self.new)
-            (call seat (arc_value key.now) (Filled (option_map arc_value gone)))) }
-        ensures noted { IfOk result (λ gone. self.new.history
+        ensures limits { self.new.limits ≡ self.old.limits }
+        ensures taken { IfOk result (λ f. Takes self.old.limits (machine T.weighs self.old)
+            (machine T.weighs self.new)
+            (call seat (arc_value key.now)
+            (Filled (T.weighs (arc_value value)) f.kept f.gone))) }
+        ensures noted { IfOk result (λ f. self.new.history
             ≡ self.old.history ++ call seat (arc_value key.now)
-            (Filled (option_map arc_value gone)) ∷ []) }
+            (Filled (T.weighs (arc_value value)) f.kept f.gone) ∷ []) }
         ensures fonts { IfOk result (λ _. AddsFont (arc_value key.now) (arc_value value)
             self.old.fonts self.new.fonts) }
-        ensures stored { IfOk result (λ _. lookup (key_eq (arc_value key.now)) self.new.fonts
-            ≡ Some (arc_value value)) }
+        ensures stored { IfOk result (λ f. IsTrue f.kept
+            → lookup (key_eq (arc_value key.now)) self.new.fonts ≡ Some (arc_value value)) }
+        ensures left_out { IfOk result (λ f. IsFalse f.kept → self.new.fonts ≡ self.old.fonts) }
         ensures back { IfErr result (λ handed. handed ≡ value) }
         ensures refused { OnErr result (self.new ≡ record self.old { turns = self.old.turns + 1 }) }
-        ensures reached { IsReached self.new }
-        ensures stands { (part : Common) → StateStands T.stands_for self.old part
+        ensures reached { IsReached T.weighs self.new }
+        ensures stands { (part : Common) → StateStands T.stands_for T.weighs self.old part
             → T.stands_for (arc_value value) (arc_value key.now) part
-            → StateStands T.stands_for self.new part }
+            → StateStands T.stands_for T.weighs self.new part }
     {
-        match self.fill_keeping(seat, key, value)? {
-            Some(Evicted { key, font: _ }) => Ok(Some(key)),
-            None => Ok(None),
-        }
+        Ok(self.fill_keeping(seat, key, value)?.fill)
     }
 
-    /// As `fill`, and hands out the evicted font with its key, so that the caller drops it when it
-    /// likes: it may be the font's last owner.
+    /// As `fill`, and hands out the fonts that were evicted, or the one handed in where it wasn't
+    /// kept, so that the caller drops them when it likes: it may be the last owner of each.
     pub fn fill_keeping(
         &mut self,
         seat: u32,
         key: &Arc<FontKey>,
         value: Arc<T>,
-    ) -> Result<Option<Evicted<T>>, Arc<T>>
+    ) -> Result<Filling<T>, Arc<T>>
         requires few_turns { self.old.turns < 2 ^ 62 }
         requires claim { claim_of seat self.old.claims ≡ Some (arc_value key.now) }
         ensures turns { self.new.turns ≡ self.old.turns + 1 }
-        ensures capacity { self.new.capacity ≡ self.old.capacity }
-        ensures taken { IfOk result (λ gone. Takes self.old.capacity (machine self.old)
-            (machine self.new)
-            (call seat (arc_value key.now) (Filled (evicted_key gone)))) }
-        ensures noted { IfOk result (λ gone. self.new.history
-            ≡ self.old.history ++ call seat (arc_value key.now) (Filled (evicted_key gone)) ∷ []) }
-        ensures left { IfOk result (λ gone. option_map value_of_evicted gone
-            ≡ font_to_evict self.old.fonts self.old.capacity) }
+        ensures limits { self.new.limits ≡ self.old.limits }
+        ensures taken { IfOk result (λ f. Takes self.old.limits (machine T.weighs self.old)
+            (machine T.weighs self.new)
+            (call seat (arc_value key.now)
+            (Filled (T.weighs (arc_value value)) f.fill.kept f.fill.gone))) }
+        ensures noted { IfOk result (λ f. self.new.history
+            ≡ self.old.history ++ call seat (arc_value key.now)
+            (Filled (T.weighs (arc_value value)) f.fill.kept f.fill.gone) ∷ []) }
         ensures fonts { IfOk result (λ _. AddsFont (arc_value key.now) (arc_value value)
             self.old.fonts self.new.fonts) }
-        ensures stored { IfOk result (λ _. lookup (key_eq (arc_value key.now)) self.new.fonts
-            ≡ Some (arc_value value)) }
+        ensures stored { IfOk result (λ f. IsTrue f.fill.kept
+            → lookup (key_eq (arc_value key.now)) self.new.fonts ≡ Some (arc_value value)) }
+        ensures left_out { IfOk result (λ f. IsFalse f.fill.kept
+            → self.new.fonts ≡ self.old.fonts) }
+        ensures handed_out { IfOk result (λ f. map arc_value f.fonts.items ≡ fonts_let_go
+            self.old.limits T.weighs f.fill.kept (arc_value key.now) (arc_value value)
+            self.old.fonts) }
         ensures back { IfErr result (λ handed. handed ≡ value) }
         ensures refused { OnErr result (self.new ≡ record self.old { turns = self.old.turns + 1 }) }
-        ensures reached { IsReached self.new }
-        ensures stands { (part : Common) → StateStands T.stands_for self.old part
+        ensures reached { IsReached T.weighs self.new }
+        ensures stands { (part : Common) → StateStands T.stands_for T.weighs self.old part
             → T.stands_for (arc_value value) (arc_value key.now) part
-            → StateStands T.stands_for self.new part }
+            → StateStands T.stands_for T.weighs self.new part }
     {
         self.turns += 1;
-        let (gone, left) = store(&mut self.resident, key, value)?;
-        let key = end(&mut self.claims, seat);
-        self.entries.push_reserved(Entry {
+        take_in(
+            &mut self.resident,
+            &mut self.claims,
+            &mut self.entries,
+            self.limits,
             seat,
             key,
-            act: Act::Filled { gone },
-        });
-        Ok(left)
+            value,
+        )
     }
 
     /// Gives up the claim that the seat holds. It takes no memory.
@@ -249,15 +213,16 @@ impl<T: Stands> CacheState<T> {
         requires few_turns { self.old.turns < 2 ^ 62 }
         requires claim { claim_of seat self.old.claims ≡ Some (arc_value key.now) }
         ensures turns { self.new.turns ≡ self.old.turns + 1 }
-        ensures capacity { self.new.capacity ≡ self.old.capacity }
-        ensures taken { Takes self.old.capacity (machine self.old) (machine self.new)
+        ensures limits { self.new.limits ≡ self.old.limits }
+        ensures taken { Takes self.old.limits (machine T.weighs self.old)
+            (machine T.weighs self.new)
             (call seat (arc_value key.now) Released) }
         ensures noted { self.new.history ≡ self.old.history ++ call seat (arc_value key.now)
             Released ∷ [] }
         ensures fonts { self.new.fonts ≡ self.old.fonts }
-        ensures reached { IsReached self.new }
-        ensures stands { (part : Common) → StateStands T.stands_for self.old part
-            → StateStands T.stands_for self.new part }
+        ensures reached { IsReached T.weighs self.new }
+        ensures stands { (part : Common) → StateStands T.stands_for T.weighs self.old part
+            → StateStands T.stands_for T.weighs self.new part }
     {
         self.turns += 1;
         let key = end(&mut self.claims, seat);
@@ -271,7 +236,7 @@ impl<T: Stands> CacheState<T> {
     /// The accepted calls, in order.
     pub fn entries(&self) -> &[Entry]
         ensures history { calls_of result.now ≡ self.now.history }
-        ensures reached { IsReached self.now }
+        ensures reached { IsReached T.weighs self.now }
     {
         &self.entries
     }
@@ -286,10 +251,11 @@ impl<T: Stands> CacheState<T> {
     /// The accepted calls, in order, which are a legal history. The fonts are dropped.
     pub fn finish(self) -> Vec<Entry>
         ensures history { calls_of result.items ≡ self.history }
-        ensures reached { IsReached self }
+        ensures reached { IsReached T.weighs self }
     {
         let CacheState {
             resident: _,
+            limits: _,
             claims: _,
             entries,
             turns: _,

@@ -4,12 +4,18 @@ use outside::{FontKey, FontName};
 use std::alloc::{AllocError as NoMemory, Global};
 use std::sync::Arc;
 
-/// A font that stands for every key.
+/// A font that stands for every key, and weighs nothing.
 #[derive(Drop)]
 pub(crate) struct Blank {}
 
 impl Stands for Blank {
     ghost stands_for = { λ font k part. Unit {0} };
+
+    ghost weighs = { λ font. 0 };
+
+    fn weight(&self) -> u64 {
+        0
+    }
 }
 
 /// The key of the one font.

@@ -53,7 +53,7 @@ fn fill_first(alloc: Global, state: &mut CacheState<Blank>, key: &Arc<FontKey>) 
 
 // A cache that has the one font.
 fn filled(alloc: Global, key: &Arc<FontKey>) -> Option<Guarded> {
-    let mut state = CacheState::new(alloc, 2).ok()?;
+    let mut state = CacheState::new(alloc, 2, 0).ok()?;
     if fill_first(alloc, &mut state, key) {
         Some(Guarded { state })
     } else {

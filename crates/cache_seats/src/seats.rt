@@ -90,7 +90,7 @@ pub(crate) fn rate_by_turns<R: Threads + Wait + Sync + Clock>(
 ) -> Option<u64>
     requires { all ≤ 1000 }
 {
-    let (cache, mut first) = FontCache::make(alloc, 2).ok()?;
+    let (cache, mut first) = FontCache::make(alloc, 2, 0).ok()?;
     if !fill_first(rt, alloc, &cache, &mut first, key) {
         return None;
     }

@@ -40,8 +40,8 @@ fn letters_of(calls: &[Entry]) -> [u8; 4] {
             Act::Hit => b'h',
             Act::Claimed => b'c',
             Act::Busy => b'b',
-            Act::Filled { gone: None } => b'f',
-            Act::Filled { gone: Some(_) } => b'g',
+            Act::Filled { gone, .. } if gone.keys().is_empty() => b'f',
+            Act::Filled { .. } => b'g',
             Act::Released => b'r',
         };
     }
@@ -59,7 +59,7 @@ fn dots_over<R: Wait>(rt: &R, alloc: Global, cached: bool) -> Result<u64, Fail> 
     }
     let source = dot_and_bar(alloc)?;
     let drawn = if cached {
-        let mut desk = SoloDesk::new(alloc, source, index.units(), 1)?;
+        let mut desk = SoloDesk::new(alloc, source, index.units(), 1, 2_147_483_648)?;
         draw(rt, alloc, &mut desk, &(), &index, 0, &SHEET)
     } else {
         let mut desk = PlainDesk::new(source, index.units());
@@ -86,7 +86,7 @@ fn calls_and_glyph<R: Wait>(rt: &R, alloc: Global) -> Result<([u8; 4], usize, bo
     let (Some(dot), Some(bar)) = (index.font(0), index.font(1)) else {
         return Err(Fail::from("no fonts"));
     };
-    let mut desk = SoloDesk::new(alloc, dot_and_bar(alloc)?, index.units(), 1)?;
+    let mut desk = SoloDesk::new(alloc, dot_and_bar(alloc)?, index.units(), 1, 2_147_483_648)?;
     let Ok(held) = desk.font(rt, alloc, &(), dot) else {
         return Err(Fail::from("no font"));
     };

@@ -184,6 +184,7 @@ module _ {F : Type 0} (task : Task) (drawing : Drawing F) (tally : Option Tally)
     ];
     through = λ is. a.through (inl (inl refl));
     answered = a.answered;
+    weighed = a.weighed;
     one = λ single unbroken. a.one single (λ is. cc, λ is. cc);
   }
 

@@ -72,6 +72,7 @@ module _ {F G : Type 0} (mine : Worker G) (was now : Worker F) (h : TookResults 
         ];
         through = λ is. subst (λ (ps : List ℕ). WholeLooks (finding g reading) (indexed_of g reading) g.sheet ps a.keys) (sym h.pages) (a.through is);
         answered = a.answered;
+        weighed = a.weighed;
         one = a.one;
       }
 

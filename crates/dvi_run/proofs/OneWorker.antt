@@ -9,10 +9,15 @@ use Rattle.std.proofs.lemmas.List.Elements.{Contains-get_or}
 use Rattle.outside.specs.Library.{FileTable}
 use Rattle.outside.specs.declared.keys.FontKey.{FontKey}
 use Rattle.cache_core.specs.declared.calls.Call.{Call}
+use Rattle.cache_core.specs.Histories.{AllWeigh, SeatCalls, WeighSo, own}
 use Rattle.cache_core.specs.Solo.{solo_history}
+use Rattle.cache_core.proofs.Weights.{weigh_first, weigh_joined, weigh_second, weight_there}
+use Rattle.font_decode.specs.Weights.{IsWeightOf, OneWeightInALibrary}
+use Rattle.pixel_round.specs.declared.units.Units.{Units}
 use Rattle.packed_rows.specs.Bitmap.{Bitmap}
 use Rattle.packed_rows.specs.Changes.{black_count}
 use Rattle.page_index.specs.Document.{Reading, pages_begun}
+use Rattle.page_index.specs.Pages.{document_units}
 use Rattle.page_draw.specs.Laws.{PagesHaveOneValue}
 use Rattle.page_draw.specs.Values.{PageValue}
 use Rattle.run_report.specs.Summary.{summary_text}
@@ -20,6 +25,7 @@ use Rattle.run_report.specs.Trace.{trace_text}
 use Rattle.run_report.specs.declared.counts.Counts.{Counts}
 use Rattle.command_line.specs.declared.settings.Settings.{Settings}
 use Rattle.dvi_run.specs.Pages.{FailingPage, IsRun, Setup, finding, run_fault, whole_pages}
+use Rattle.dvi_run.specs.CacheLimits.{cache_limits}
 use Rattle.dvi_run.specs.Endings.{EndingValue, Written, Usage, Document, Page, Source, Input, Output, Notes, Memory, EndsPages, page_status, status_of}
 use Rattle.dvi_run.specs.Laws.{OneReading, OneRun}
 use Rattle.dvi_run.specs.Lines.{line_of, page_line}
@@ -251,8 +257,26 @@ same_keys one g files known r (p ∷ pages) keys others a b =
     let here = one files u (indexed_of g r) g.sheet p a.3.0 b.3.0 a.0 b.0 (found one g files known r p a.3.0 a.0 u is a.3.1) (found one g files known r p b.3.0 b.0 u is b.3.1) in
     a.2 ∙ (ap₂ (λ (x y : List FontKey). x ++ y) here.1 (same_keys one g files known r pages a.1 b.1 a.4 b.4) ∙ sym b.2)
 
-pub one_worker : (F G : Type 0) → OneReading → OneRun → PagesHaveOneValue → RunsOfOneWorkerAreAlike F G
-one_worker F G reading one law task files bytes output other before after was now history calls e f tally t loads n single known long size by also a b =
+-- ---- the weights
+
+-- the calls of two runs weigh by one function of keys
+weigh_alike : (one : OneWeightInALibrary) (g : Setup) (files : FileTable) (known : g.library ≡ Some files) (r : Reading) (pages : List ℕ) (keys : List FontKey) (xs ys : List Call) → WholeLooks (finding g r) (indexed_of g r) g.sheet pages keys
+    → SeatCalls keys xs → SeatCalls keys ys → AllWeigh (IsWeightOf g.library (document_units g.res r)) xs → AllWeigh (IsWeightOf g.library (document_units g.res r)) ys → (weight : FontKey → ℕ) × WeighSo weight xs × WeighSo weight ys
+weigh_alike one g files known r [] keys xs ys none for_xs for_ys p q =
+    let no_call : xs ≡ [] = subst (λ (ks : List FontKey). SeatCalls ks xs) none for_xs in
+    let neither : ys ≡ [] = subst (λ (ks : List FontKey). SeatCalls ks ys) none for_ys in
+    ((λ k. 0), subst (WeighSo (λ k. 0)) (sym no_call) tt, subst (WeighSo (λ k. 0)) (sym neither) tt)
+weigh_alike one g files known r (page ∷ pages) keys xs ys looked for_xs for_ys p q =
+    let u = looked.3.1.units in
+    let is : document_units g.res r ≡ Some u = looked.3.1.of_document in
+    let Here : FontKey → ℕ → Type 0 = IsWeightOf (Some files) (Some u) in
+    let here : (cs : List Call) → AllWeigh (IsWeightOf g.library (document_units g.res r)) cs → AllWeigh Here cs =
+    λ cs all. subst (λ (o : Option Units). AllWeigh (IsWeightOf (Some files) o) cs) is (subst (λ (o : Option FileTable). AllWeigh (IsWeightOf o (document_units g.res r)) cs) known all) in
+    let there = weight_there Here (one files u) (xs ++ ys) (weigh_joined Here xs ys (here xs p) (here ys q)) in
+    (there.0, weigh_first _ xs ys there.1, weigh_second _ xs ys there.1)
+
+pub one_worker : (F G : Type 0) → OneReading → OneRun → PagesHaveOneValue → OneWeightInALibrary → RunsOfOneWorkerAreAlike F G
+one_worker F G reading one law weights task files bytes output other before after was now history calls e f tally t loads n single known long size by also a b =
     let g = setup_of task in
     let x = fault_is output.before output.after a.0 a.1 e by a.3.0 in
     let y = fault_is other.before other.after b.0 b.1 f also b.3.0 in
@@ -275,7 +299,9 @@ one_worker F G reading one law task files bytes output other before after was no
     let keys : p.keys ≡ q.keys =
     same_keys law g files known b.0 (get_or now 0 c).pages.items p.keys q.keys
     (subst (λ (ps : List ℕ). WholeLooks (finding g b.0) (indexed_of g b.0) g.sheet ps p.keys) pages (subst (λ (r : Reading). WholeLooks (finding g r) (indexed_of g r) g.sheet (get_or after 0 d).pages.items p.keys) same looked)) others in
-    let calls_are : history ≡ calls = p.one single (not_cut_off e by) ∙ (ap (solo_history task.settings.cache 1) keys ∙ sym (q.one single (not_cut_off f also))) in
+    let w = weigh_alike weights g files known b.0 (get_or now 0 c).pages.items q.keys (own 1 history) (own 1 calls) others (subst (λ (ks : List FontKey). SeatCalls ks (own 1 history)) keys p.answered) q.answered
+    (subst (λ (r : Reading). AllWeigh (IsWeightOf g.library (document_units g.res r)) (own 1 history)) same p.weighed) q.weighed in
+    let calls_are : history ≡ calls = p.one single (not_cut_off e by) w.0 w.1 ∙ (ap (solo_history (cache_limits task.settings) 1 w.0) keys ∙ sym (q.one single (not_cut_off f also) w.0 w.2)) in
     let ta = tally_there task.settings.summary output.before output.after history tally e a.1 by a.3.1 in
     let tb = tally_there task.settings.summary other.before other.after calls t f b.1 also b.3.1 in
     let whole : whole_pages a.1 ≡ whole_pages b.1 =

@@ -3,10 +3,11 @@ use Rattle.std.proofs.Common.{◌≡◌, inl, inr, ℕ, ◌+◌, ◌-◌, ◌<�
 use Rattle.std.proofs.lemmas.Bool.{cases_lt}
 use Rattle.std.proofs.lemmas.List.{get_or_append_left, get_or_push, get_or-append-add, get_or-drop, get_or-take}
 use Rattle.outside.specs.Library.{FileTable}
+use Rattle.outside.specs.declared.keys.FontKey.{FontKey}
 use mathlib.Core.Logic.{dite}
 use native.Mathlib.Decide.{ℕ_discrete}
 use Rattle.cache_core.specs.declared.calls.Call.{Call}
-use Rattle.cache_core.specs.Histories.{own, AreOf, SeatCalls, NoneReleased}
+use Rattle.cache_core.specs.Histories.{WeighSo, own, AreOf, SeatCalls, NoneReleased}
 use Rattle.cache_core.specs.Laws.{FewClaims, SoloIsOne}
 use Rattle.cache_core.specs.Machine.{Legal}
 use Rattle.cache_core.specs.Solo.{solo_history}
@@ -15,6 +16,7 @@ use Rattle.turn_lock.specs.Laws.{AloneIsHistory}
 use Rattle.page_index.specs.Document.{IsDocument, Reading}
 use Rattle.page_draw.specs.Values.{PageValue}
 use Rattle.page_workers.specs.declared.worker.Worker.{Worker}
+use Rattle.dvi_run.specs.CacheLimits.{cache_limits}
 use Rattle.dvi_run.specs.Pages.{Setup, setup_with}
 use Rattle.dvi_run.specs.Sampled.{LoadedForSample}
 use Rattle.dvi_run.specs.Outside.{Drawing, FaultsRose, Run, Sources, StreamChange, Task, drawing_of, setup_of, task_for_sample}
@@ -173,17 +175,18 @@ module _ {F : Type 0} (known : Option FileTable) (settings : Settings) (sources 
   ]
 
   module _ (one : IsOneHistory (task_for_sample None known settings).settings (status_of e) history) (alone : AloneIsHistory) (law : SoloIsOne) (below : k < settings.workers) where
-    solo : settings.workers ≡ 1 → WasNotCutOffBy (status_of e) → history ≡ solo_history settings.cache 1 ran.keys
-    solo single unbroken =
+    solo : settings.workers ≡ 1 → WasNotCutOffBy (status_of e) → (weight : FontKey → ℕ) → WeighSo weight (own (k + 1) history) → history ≡ solo_history (cache_limits settings) 1 weight ran.keys
+    solo single unbroken weight weighed =
         let first : k + 1 ≡ 1 = omega arith in
         let made : AllMade 2 history = subst (λ (m : ℕ). AllMade (m + 1) history) single one.made in
         let whole : own 1 history ≡ history = alone 2 1 history made (λ other lt not. let zero_is : 0 ≡ other = omega (arith, lt, not) in subst (λ (m : ℕ). own m history ≡ []) zero_is one.none_of_first) in
         let mine : own (k + 1) history ≡ history = subst (λ (m : ℕ). own m history ≡ history) (sym first) whole in
-        law settings.cache 1 ran.keys history (record {
+        law (cache_limits settings) 1 weight ran.keys history (record {
           legal = one.legal;
           own = are_of history made one.none_of_first;
           for_keys = subst (SeatCalls ran.keys) mine ran.answered;
           kept = subst NoneReleased mine (ran.whole (inr (single, not_cut_off_by e unbroken)));
+          weighed = subst (WeighSo weight) mine weighed;
         })
 
     answered : Answered (task_for_sample None known settings) reading history (run_end (status_of e) e tally) k after
@@ -192,6 +195,7 @@ module _ {F : Type 0} (known : Option FileTable) (settings : Settings) (sources 
       looked = ran.looked;
       through = λ h. ran.drawn_out (to_its_end_by settings.workers e h);
       answered = ran.answered;
+      weighed = ran.weighed;
       one = solo;
     }
 
@@ -214,7 +218,7 @@ one_of [] k lt = absurd (omega arith)
 one_of (x ∷ xs) k lt = x
 
 pub one_history : {F : Type 0} (settings : Settings) (g : Setup) (reading : Reading) (drawing : Drawing F) (P : Type 0) (values : List PageValue) (e : EndingValue) (tally : Option Tally)
-    → EndsPages drawing.output.before.bytes drawing.output.after.bytes P (Unit {0}) e reading values → Legal settings.cache drawing.history → AllMade (settings.workers + 1) drawing.history → own 0 drawing.history ≡ [] → FewClaims drawing.history
+    → EndsPages drawing.output.before.bytes drawing.output.after.bytes P (Unit {0}) e reading values → Legal (cache_limits settings) drawing.history → AllMade (settings.workers + 1) drawing.history → own 0 drawing.history ≡ [] → FewClaims drawing.history
     → EachUsed settings.workers drawing.before drawing.after (λ k was now. WorkerRan (MayBreakOff e tally) (EveryPageCameToItsEnd settings.workers e) drawing.sources.library drawing.sources.faults drawing.sources.loads g reading drawing.history (k + 1) was now)
     → ((k : ℕ) → k < settings.workers → Worker F) → IsOneHistory settings (status_of e) drawing.history
 one_history settings g reading drawing P values e tally ends legal made first few ran some = record {

@@ -5,13 +5,15 @@ use Rattle.outside.specs.Library.{FileTable}
 use Rattle.outside.specs.declared.keys.FontKey.{FontKey}
 use Rattle.cache_core.specs.declared.calls.Call.{Call}
 use Rattle.cache_core.specs.declared.common.Common.{Common}
-use Rattle.cache_core.specs.Histories.{own, open_claim, SeatCalls, NoneReleased, looks}
+use Rattle.cache_core.specs.Histories.{AllWeigh, own, open_claim, SeatCalls, NoneReleased, looks}
 use Rattle.page_index.specs.Document.{Reading}
 use Rattle.page_index.specs.Pages.{document_units}
 use Rattle.turn_lock.specs.Seats.{SeatView}
 use Rattle.pixel_round.specs.Preamble.{AreUnits}
+use Rattle.pixel_round.specs.declared.units.Units.{Units}
 use Rattle.font_decode.specs.Desks.{Trail, TrailGrew, SeatAnsweredFor, ReleasedLast, Loaded, misses}
 use Rattle.font_decode.specs.Loads.{MAX_LOADS}
+use Rattle.font_decode.specs.Weights.{IsWeightOf}
 use Rattle.page_workers.specs.declared.worker.Worker.{Worker}
 use Rattle.page_workers.specs.Seats.{SeatFits, BenchFits, own_calls, asked_at, trail_at, room_at, library_at, units_at}
 use Rattle.page_workers.specs.Seating.{WasSeated, MayLeave}
@@ -65,7 +67,7 @@ module _ {F : Type 0} (s : Site F) (part : Common) (known : part.library ≡ s.g
   none_released now trail t is =
       let h = subst (λ (o : Option SeatView). TrailGrew (Unit {0}) (asked_at (Some seated.seat)) (asked_at o) (trail_at (s.loads start.source) start.loads (Some seated.seat)) (trail_at (s.loads now.source) now.loads o)) is
       (subst (λ (o : Option SeatView). TrailGrew (Unit {0}) (asked_at o) (asked_at now.seat) (trail_at (s.loads start.source) start.loads o) (trail_of s.loads now)) seated.is trail) in
-      let known : h.0 ≡ record { seat = t.view.number; capacity = t.view.part.capacity; calls = own_calls t; loads = s.loads now.source; counted = now.loads } = cc h.1 in
+      let known : h.0 ≡ record { seat = t.view.number; part = t.view.part; calls = own_calls t; loads = s.loads now.source; counted = now.loads } = cc h.1 in
       let grew : own_calls t ≡ h.2.answers.calls = sym (ap (λ (x : Trail). x.calls) known) ∙ h.2.answers.grew ∙ ap (λ (l : List Call). l ++ h.2.answers.calls) seated.new.no_call in
       subst NoneReleased (sym grew) (h.2.answers.answered tt)
 
@@ -78,10 +80,10 @@ module _ {F : Type 0} (s : Site F) (part : Common) (known : part.library ≡ s.g
         (subst (λ (o : Option SeatView). TrailGrew ⊥ (asked_at o) (asked_at now.seat) (trail_at (s.loads start.source) start.loads o) (trail_of s.loads now)) seated.is ended.trail)
 
     abbrev after_of : Trail
-    after_of = record { seat = t.view.number; capacity = t.view.part.capacity; calls = own_calls t; loads = s.loads now.source; counted = now.loads }
+    after_of = record { seat = t.view.number; part = t.view.part; calls = own_calls t; loads = s.loads now.source; counted = now.loads }
 
     abbrev before_of : Trail
-    before_of = record { seat = seated.seat.view.number; capacity = seated.seat.view.part.capacity; calls = own_calls seated.seat; loads = s.loads start.source; counted = start.loads }
+    before_of = record { seat = seated.seat.view.number; part = seated.seat.view.part; calls = own_calls seated.seat; loads = s.loads start.source; counted = start.loads }
 
     answers : SeatAnsweredFor ⊥ (asked_at (Some seated.seat)) (asked_at (Some t)) before_of after_of
     answers = let e : trail_here.0 ≡ after_of = cc trail_here.1 in subst (λ (x : Trail). SeatAnsweredFor ⊥ (asked_at (Some seated.seat)) (asked_at (Some t)) before_of x) e trail_here.2
@@ -117,6 +119,12 @@ module _ {F : Type 0} (s : Site F) (part : Common) (known : part.library ≡ s.g
         | inr b ↦ inr (subst (λ (ps : List ℕ). Broke ps answers.keys) (sym pages) (subst (λ (ks : List FontKey). Broke now.pages.items ks) keys_here b))
       ]
 
+      weighed_here : AllWeigh (IsWeightOf s.given.library (document_units s.given.res s.reading)) (own k history)
+      weighed_here =
+          subst (λ (l : List Call). AllWeigh (IsWeightOf s.given.library (document_units s.given.res s.reading)) l) (sym own_here)
+          (subst (λ (o : Option FileTable). AllWeigh (IsWeightOf o (document_units s.given.res s.reading)) answers.answers.calls) (ap (λ (p : Common). p.library) seated.new.part ∙ known)
+          (subst (λ (u : Option Units). AllWeigh (IsWeightOf seated.seat.view.part.library u) answers.answers.calls) (ap (λ (p : Common). Some p.units) seated.new.part ∙ ap Some same_units ∙ sym of_document) answers.answers.weighed))
+
       told_here : t.view.part.library ≡ s.given.library
       told_here = sym (ap library_at is) ∙ ended.kept.library ∙ may_begin.library
 
@@ -138,6 +146,7 @@ module _ {F : Type 0} (s : Site F) (part : Common) (known : part.library ≡ s.g
         keys = answers.keys;
         looked = looked_here;
         answered = subst (λ (l : List Call). SeatCalls answers.keys l) (sym own_here) answers.answers.for_keys;
+        weighed = weighed_here;
         last = subst ReleasedLast (sym own_here) answers.answers.last;
         whole = λ e. subst NoneReleased (sym left) (settled e);
         drawn_out = λ e.
@@ -172,6 +181,7 @@ unused library faults loads g reading number w fresh none MayBreak Whole = recor
   keys = [];
   looked = inl (tt, subst (λ (ps : List ℕ). WholeLooks (finding g reading) (indexed_of g reading) g.sheet ps []) (sym fresh.pages) refl);
   answered = refl;
+  weighed = tt;
   last = tt;
   whole = λ e. tt;
   drawn_out = λ e. subst (λ (ps : List ℕ). WholeLooks (finding g reading) (indexed_of g reading) g.sheet ps []) (sym fresh.pages) refl;

@@ -21,3 +21,4 @@ pub mod Together
 pub mod OneWorker
 pub mod Promises
 pub mod Examples
+pub mod CacheLimits

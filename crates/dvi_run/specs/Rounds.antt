@@ -13,9 +13,11 @@ use Rattle.pixel_round.specs.Preamble.{AreUnits}
 use Rattle.turn_lock.specs.Seats.{SeatView}
 use Rattle.turn_lock.specs.Views.{opening_view}
 use Rattle.cache_core.specs.declared.calls.Call.{Call}
-use Rattle.cache_core.specs.Histories.{own, SeatCalls, NoneReleased, looks}
+use Rattle.cache_core.specs.declared.limits.Limits.{Limits}
+use Rattle.cache_core.specs.Histories.{AllWeigh, own, SeatCalls, NoneReleased, looks}
 use Rattle.font_decode.specs.Desks.{TrailGrew, ReleasedLast, Loaded, misses}
 use Rattle.font_decode.specs.Loads.{MAX_LOADS}
+use Rattle.font_decode.specs.Weights.{IsWeightOf}
 use Rattle.vf_expand.specs.Faults.{value_of_fault}
 use Rattle.page_draw.specs.Values.{fault_at}
 use Rattle.page_draw.specs.declared.sheet.Sheet.{Sheet}
@@ -118,16 +120,21 @@ pub record MayBegin {F : Type 0} (s : Site F) (w : Worker F) : Type 0 where
   pub keys : keys_of w.seat ≡ []
   pub room : MAX_PAGES * MAX_FLAT_COMMANDS ≤ room_at w.loads w.seat
 
--- A bench with a new cache, and the first seat of that, for a document that is indexed: it keeps n
--- fonts at most, and is for fonts of this library where it is known.
-pub record IsNewBench (capacity : ℕ) (known : Option FileTable) (indexed : Indexed) (bench : Bench)
-    (first : SeatView) : Type 0 where
+-- A bench with a new cache, and the first seat of that, for a document that is indexed: it keeps no
+-- more than these limits, and is for fonts of this library where it is known.
+pub record IsNewBench (limits : Limits) (known : Option FileTable) (indexed : Indexed)
+    (bench : Bench) (first : SeatView) : Type 0 where
   pub units : document_units indexed.res indexed.reading ≡ Some bench.units
   pub sound : AreUnits bench.units
   pub lock : first.lock ≡ bench.cache
   pub opening : first.view
       ≡ opening_view
-      (record { capacity = capacity; units = bench.units; library = known })
+      (record {
+        capacity = limits.capacity;
+        budget = limits.budget;
+        units = bench.units;
+        library = known;
+      })
 
 -- ---- a result that is written
 
@@ -167,8 +174,8 @@ pub record IsFresh {F : Type 0} (library : F → Option FileTable) (known : Opti
 
 -- what a worker did in a run, by the calls of its seat in the history: they answer the look-ups of
 -- the pages that it drew, of which only the last may have been broken off, where it may have been;
--- a claim is given up at their end alone, and only where that page was; no page was broken off
--- where the run is whole; and it loaded at most eight files for each look that was no hit. It has
+-- each font that it handed in has its key's weight; a claim is given up at their end alone, and
+-- only where that page was; no page was broken off where the run is whole; and it loaded at most eight files for each look that was no hit. It has
 -- neither a seat nor a result any more, and its source has the library that the run knows
 pub record WorkerRan {F : Type 0} (MayBreak : ℕ → Type 0) (Whole : Type 0)
     (library : F → Option FileTable) (faults loads : F → ℕ) (g : Setup) (reading : Reading)
@@ -185,6 +192,8 @@ pub record WorkerRan {F : Type 0} (MayBreak : ℕ → Type 0) (Whole : Type 0)
       ⊎ BrokenLooks MayBreak (finding g reading) (indexed_of g reading) g.sheet after.pages.items
       keys
   pub answered : SeatCalls keys (own number history)
+  pub weighed : AllWeigh (IsWeightOf g.library (document_units g.res reading))
+      (own number history)
   pub last : ReleasedLast (own number history)
   pub whole : Whole → NoneReleased (own number history)
   pub drawn_out : Whole → WholeLooks (finding g reading) (indexed_of g reading)

@@ -4,18 +4,21 @@ use Rattle.outside.specs.Counts.{Rose}
 use Rattle.outside.specs.Library.{FileTable}
 use Rattle.outside.specs.declared.keys.FontKey.{FontKey}
 use Rattle.cache_core.specs.declared.calls.Call.{Call}
-use Rattle.cache_core.specs.Histories.{own, SeatCalls, NoneReleased}
+use Rattle.cache_core.specs.Histories.{AllWeigh, WeighSo, own, SeatCalls, NoneReleased}
 use Rattle.cache_core.specs.Laws.{FewClaims}
 use Rattle.cache_core.specs.Machine.{Legal}
 use Rattle.cache_core.specs.Solo.{solo_history}
 use Rattle.turn_lock.specs.Histories.{AllMade}
 use Rattle.font_decode.specs.Desks.{ReleasedLast, misses}
 use Rattle.font_decode.specs.Loads.{MAX_LOADS}
+use Rattle.font_decode.specs.Weights.{IsWeightOf}
 use Rattle.page_index.specs.Document.{Reading, pages_begun}
+use Rattle.page_index.specs.Pages.{document_units}
 use Rattle.page_draw.specs.Values.{PageValue}
 use Rattle.page_workers.specs.SparePages.{HasNoSparePages}
 use Rattle.page_workers.specs.declared.worker.Worker.{Worker}
 use Rattle.command_line.specs.declared.settings.Settings.{Settings}
+use Rattle.dvi_run.specs.CacheLimits.{cache_limits}
 use Rattle.dvi_run.specs.Pages.{AreValues, finding}
 use Rattle.dvi_run.specs.Endings.{EndingValue, Source, EndsPages, IsAmong, HoldsOfDocument, WroteAll, status_of}
 use Rattle.dvi_run.specs.Looked.{BrokenLooks, EndsBroken, EveryPageCameToItsEnd, IsIdle, MayBreakOff, WasNotCutOffBy, WholeLooks}
@@ -65,8 +68,8 @@ EveryPageCameToItsEndBy n status = WroteAll status ⊎ ((n ≡ 1) × WasNotCutOf
 
 -- the calls of the cache in a run with such settings, by its status
 pub record IsOneHistory (settings : Settings) (status : ℕ) (history : List Call) : Type 0 where
-  -- it is legal for the capacity
-  pub legal : Legal settings.cache history
+  -- it is legal for the capacity and the budget
+  pub legal : Legal (cache_limits settings) history
   -- each call is of a used worker's seat, and these are numbered from 1
   pub made : AllMade (settings.workers + 1) history
   pub none_of_first : own 0 history ≡ []
@@ -133,10 +136,14 @@ pub record Answered {F : Type 0} (task : Task) (reading : Reading) (history : Li
       → WholeLooks (finding (setup_of task) reading) (indexed_of (setup_of task) reading)
       task.settings.sheet after.pages.items keys
   pub answered : SeatCalls keys (own (place + 1) history)
-  -- the calls of one worker are one list, given these keys, unless the source failed (5) or
-  -- memory ran out (9)
+  -- each font that was handed in has its key's weight
+  pub weighed : AllWeigh (IsWeightOf (setup_of task).library (document_units (setup_of task).res reading))
+      (own (place + 1) history)
+  -- the calls of one worker are one list, given these keys and whatever weights of keys its fills
+  -- have, unless the source failed (5) or memory ran out (9)
   pub one : task.settings.workers ≡ 1 → WasNotCutOffBy end.status
-      → history ≡ solo_history task.settings.cache 1 keys
+      → (weight : FontKey → ℕ) → WeighSo weight (own (place + 1) history)
+      → history ≡ solo_history (cache_limits task.settings) 1 weight keys
 
 -- what is known of an output's bytes before a run and after it
 pub record KnownBytes : Type 0 where

@@ -40,6 +40,7 @@ pub fn one_worker<F: FontSource, G: FontSource>()
 {
     runs();
     page_draw::laws::values();
+    font_decode::laws::weights();
 }
 
 /// Over known font files each document has exactly one list of the values of its pages, so that

@@ -11,22 +11,29 @@ use page_workers::Bench;
 use pixel_round::Units;
 use std::alloc::{AllocError as NoMemory, Global};
 
-/// An empty cache for the fonts of a document with these units, and seat 0 of it. `_units` is there
-/// for the proof: the units of the seat's common part.
+/// How many bytes the fonts in the cache of a run may weigh together: 2 GiB, which few documents
+/// come near to.
+pub const CACHE_BUDGET: u64 = 2_147_483_648;
+
+/// An empty cache for the fonts of a document with these units, and seat 0 of it. The fonts that it
+/// keeps weigh no more bytes than the budget together. `_units` is there for the proof: the units of
+/// the seat's common part.
 pub fn open_cache<T: Stands>(
     alloc: Global,
     capacity: usize,
+    budget: u64,
     _units: &Units,
 ) -> Result<(FontCache<T>, CacheSeat<T>), NoMemory>
     ghost part: { Common }
     requires some_font { 1 ≤ capacity }
     requires few_fonts { capacity ≤ MAX_CACHED_FONTS }
     requires capacity { capacity ≡ part.capacity }
+    requires budget { budget ≡ part.budget }
     requires units { _units.now ≡ part.units }
     ensures lock { IfOk result (λ made. made.1.lock ≡ made.0) }
     ensures seat { IfOk result (λ made. made.1.view ≡ opening_view part) }
 {
-    FontCache::make(alloc, capacity)
+    FontCache::make(alloc, capacity, budget)
 }
 
 /// A bench with this cache and these units, and the seat, where there was memory for the cache.

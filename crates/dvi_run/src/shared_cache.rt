@@ -4,6 +4,7 @@ ghost use Rattle.outside.specs.Counts.{Rose};
 ghost use Rattle.outside.specs.Library.{FileTable};
 ghost use Rattle.cache_core.specs.Histories.{own};
 ghost use Rattle.cache_core.specs.Machine.{Legal};
+ghost use Rattle.cache_core.specs.States.{limits_of};
 ghost use Rattle.cache_core.specs.Views.{calls_of};
 ghost use Rattle.cache_core.specs.Laws.{FewClaims};
 ghost use Rattle.pixel_round.specs.Preamble.{AreUnits};
@@ -13,6 +14,7 @@ ghost use Rattle.page_draw.specs.Sheets.{IsDrawable};
 ghost use Rattle.page_draw.specs.Values.{PageValue};
 ghost use Rattle.turn_lock.specs.Histories.{AllMade};
 ghost use Rattle.turn_lock.specs.Views.{opening_view};
+ghost use Rattle.dvi_run.specs.CacheLimits.{cache_limits};
 ghost use Rattle.dvi_run.specs.Pages.{AreValues};
 ghost use Rattle.dvi_run.specs.Endings.{EndsPages, Source, value_of_ending};
 ghost use Rattle.dvi_run.specs.Looked.{EveryPageCameToItsEnd, MayBreakOff};
@@ -57,6 +59,7 @@ pub fn draw_with_cache<R: Threads + Wait + Sync, F: FontSource + Send, O: Output
         ≡ opening_view
         (record {
           capacity = opening.1.view.part.capacity;
+          budget = opening.1.view.part.budget;
           units = opening.0.units;
           library = known;
         }) }
@@ -76,7 +79,7 @@ pub fn draw_with_cache<R: Threads + Wait + Sync, F: FontSource + Send, O: Output
         (slice_index_or workers.new k d)) }
     ensures shares { WorkersDrew (pages_begun index.now.reading) (length workers.old)
         (value_of_ending result.0) (Some result.1) workers.new }
-    ensures legal { Legal opening.1.view.part.capacity (calls_of result.2.items) }
+    ensures legal { Legal (limits_of opening.1.view.part) (calls_of result.2.items) }
     ensures made { AllMade (length workers.old + 1) (calls_of result.2.items) }
     ensures first { own 0 (calls_of result.2.items) ≡ [] }
     ensures few_claims { FewClaims (calls_of result.2.items) }
@@ -123,7 +126,7 @@ pub fn draw_with_shared_cache<R: Threads + Wait + Sync, F: FontSource + Send, O:
     requires some { 1 ≤ length workers.old }
     requires few { length workers.old ≤ MAX_WORKERS }
     requires sheet { IsDrawable settings.now.sheet }
-    requires opening { IfSome opening (λ made. IsNewBench settings.now.cache known index.now made.0
+    requires opening { IfSome opening (λ made. IsNewBench (cache_limits settings.now) known index.now made.0
         made.1) }
     requires fresh { (k : ℕ) (d : _) → k < length workers.old
         → IsFresh F.library known (slice_index_or workers.old k d) }
@@ -144,7 +147,7 @@ pub fn draw_with_shared_cache<R: Threads + Wait + Sync, F: FontSource + Send, O:
         (slice_index_or workers.new k d)) }
     ensures shares { WorkersDrew (pages_begun index.now.reading) (length workers.old)
         (value_of_ending result.0) result.1 workers.new }
-    ensures legal { Legal settings.now.cache (calls_of result.2.items) }
+    ensures legal { Legal (cache_limits settings.now) (calls_of result.2.items) }
     ensures made { AllMade (length workers.old + 1) (calls_of result.2.items) }
     ensures first { own 0 (calls_of result.2.items) ≡ [] }
     ensures few_claims { FewClaims (calls_of result.2.items) }

@@ -17,7 +17,7 @@ leaves_claim : (k j : FontKey) (d : Done) → left_by j d ≡ Some k → (j ≡ 
 leaves_claim k j Claimed e = (cc, refl)
 leaves_claim k j Hit e = absurd cc
 leaves_claim k j Busy e = absurd cc
-leaves_claim k j (Filled _) e = absurd cc
+leaves_claim k j (Filled _ _ _) e = absurd cc
 leaves_claim k j Released e = absurd cc
 
 one_more : (k : FontKey) (x : Call) (calls : List Call) → LastClaims k calls → LastClaims k (x ∷ calls)
@@ -38,6 +38,6 @@ pub claims_are_last : ClaimsAreLast
 claims_are_last k calls = (starts k calls, opens k calls)
 
 pub held_by_last : ClaimsAreOwn → HeldByLast
-held_by_last law capacity history m is seat k =
-    let same = law capacity history m is seat in
+held_by_last law limits history m is seat k =
+    let same = law limits history m is seat in
     (λ e. starts k (own seat history) (sym same ∙ e), λ l. same ∙ opens k (own seat history) l)

@@ -1,8 +1,6 @@
 -- One turn at the cache: what the value that was taken and the call that was made say of the seat's
 -- history.
 use Rattle.std.proofs.Common.{◌≡◌, ℕ, ◌+◌, List, [], ◌∷◌, ◌++◌, Option, Some, None, IsSome, IsTrue, Result, Ok, Err, IfOk, OnErr, refl, sym, ap, ◌∙◌, subst, eq-eqb, append_assoc}
-use Rattle.std.specs.Option.{option_map}
-use Rattle.std.specs.Arc.{arc_value}
 use Rattle.std.specs.declared.alloc.Global.{Global}
 use Rattle.std.specs.declared.sync.Arc.{Arc}
 use mathlib.Core.Option.{some}
@@ -12,12 +10,13 @@ use Rattle.outside.specs.declared.keys.FontKey.{FontKey}
 use Rattle.cache_core.specs.declared.calls.Call.{Call}
 use Rattle.cache_core.specs.declared.calls.Done.{Done}
 use Rattle.cache_core.specs.declared.common.Common.{Common}
-use Rattle.cache_core.specs.declared.entry.Evicted.{Evicted}
+use Rattle.cache_core.specs.declared.entry.Fill.{Fill}
+use Rattle.cache_core.specs.declared.entry.Filling.{Filling}
 use Rattle.cache_core.specs.Histories.{own, open_claim}
 use Rattle.cache_core.specs.Laws.{ClaimsAreOwn, OwnsAreJoined}
+use Rattle.cache_core.specs.declared.limits.Limits.{Limits}
 use Rattle.cache_core.specs.Machine.{Legal, claim_of, empty, machine_after, allows}
-use Rattle.cache_core.specs.States.{Cache, machine, call, Takes, IsReached, StateStands}
-use Rattle.cache_core.specs.Views.{evicted_key}
+use Rattle.cache_core.specs.States.{Cache, machine, call, Takes, IsReached, StateStands, limits_of}
 use Rattle.turn_lock.specs.declared.view.View.{View}
 use Rattle.turn_lock.specs.Histories.{OwnsSame}
 use Rattle.turn_lock.specs.Seats.{SeatView}
@@ -26,14 +25,14 @@ use Rattle.font_cache.specs.Turns.{SawMore, NotedCall, told_of}
 use Rattle.font_cache.proofs.LastCalls.{open_last}
 
 -- a seat's claim in the state is the one that its own calls have left to it
-pub claim_is_own : ClaimsAreOwn → {T : Type 0} (stands_for : T → FontKey → Common → Type 0) (c : Cache T) (part : Common) (m n : ℕ) (seen : List Call) (claim : Option FontKey)
-    → StateStands stands_for c part → m ≡ n → own n c.history ≡ own n seen → open_claim (own n seen) ≡ claim → claim_of m c.claims ≡ claim
-claim_is_own law stands_for c part m n seen claim s number same e =
-    subst (λ (j : ℕ). claim_of j c.claims ≡ claim) (sym number) (law c.capacity c.history (machine c) s.reached n ∙ (ap open_claim same ∙ e))
+pub claim_is_own : ClaimsAreOwn → {T : Type 0} (stands_for : T → FontKey → Common → Type 0) (weighs : T → ℕ) (c : Cache T) (part : Common) (m n : ℕ) (seen : List Call) (claim : Option FontKey)
+    → StateStands stands_for weighs c part → m ≡ n → own n c.history ≡ own n seen → open_claim (own n seen) ≡ claim → claim_of m c.claims ≡ claim
+claim_is_own law stands_for weighs c part m n seen claim s number same e =
+    subst (λ (j : ℕ). claim_of j c.claims ≡ claim) (sym number) (law c.limits c.history (machine weighs c) s.reached n ∙ (ap open_claim same ∙ e))
 
 -- the history of a state that is reached is legal
-pub is_legal : {T : Type 0} (c : Cache T) (capacity : ℕ) → IsReached c → c.capacity ≡ capacity → Legal capacity c.history
-is_legal c capacity r e = subst (λ n. Legal n c.history) e (subst IsSome (sym r) refl)
+pub is_legal : {T : Type 0} (weighs : T → ℕ) (c : Cache T) (limits : Limits) → IsReached weighs c → c.limits ≡ limits → Legal limits c.history
+is_legal weighs c limits r e = subst (λ n. Legal n c.history) e (subst IsSome (sym r) refl)
 
 -- ---- the seat
 
@@ -45,14 +44,14 @@ module _ (s u t : SeatView) (turns : ℕ) (log log' : List Call) (took : u.view 
       let at_u : get_elem? u.view.joined i ≡ some n = ap (λ (v : View). get_elem? v.joined i) took ∙ there in
       ap (λ (v : View). own n v.seen) gave ∙ (second (ap (λ (v : View). v.number) took ∙ zero) i n at_u ∙ (ap (λ (v : View). own n v.seen) took ∙ first zero i n there))
 
-  pub saw_more : {T : Type 0} (stands_for : T → FontKey → Common → Type 0) (before after : Cache T) → after.history ≡ log' → StateStands stands_for before s.view.part → IsReached after
-      → after.capacity ≡ before.capacity → IsPrefix s.view.seen after.history
+  pub saw_more : {T : Type 0} (stands_for : T → FontKey → Common → Type 0) (weighs : T → ℕ) (before after : Cache T) → after.history ≡ log' → StateStands stands_for weighs before s.view.part → IsReached weighs after
+      → after.limits ≡ before.limits → IsPrefix s.view.seen after.history
       → (s.view.number ≡ 0 → OwnsSame s.view.joined log s.view.seen) → (u.view.number ≡ 0 → OwnsSame u.view.joined log' u.view.seen) → SawMore s.view t.view
-  saw_more stands_for before after history stood reached capacity begins first second =
+  saw_more stands_for weighs before after history stood reached limits begins first second =
       let now : t.view.seen ≡ after.history = ap (λ (v : View). v.seen) gave ∙ sym history in
       record {
         begins = subst (IsPrefix s.view.seen) (sym now) begins;
-        legal = subst (Legal s.view.part.capacity) (sym now) (is_legal after s.view.part.capacity reached (capacity ∙ stood.capacity));
+        legal = subst (Legal (limits_of s.view.part)) (sym now) (is_legal weighs after (limits_of s.view.part) reached (limits ∙ stood.limits));
         joined_same = joined_same first second;
       }
 
@@ -73,10 +72,10 @@ turn_begins f before after seen (Err e) p noted refused = subst (IsPrefix seen) 
 own_this : (n : ℕ) (c : Call) → c.seat ≡ n → own n (c ∷ []) ≡ c ∷ []
 own_this n c e = rw (eq-eqb c.seat n e) refl
 
-module _ (law : OwnsAreJoined) {T : Type 0} (stands_for : T → FontKey → Common → Type 0) (before after : Cache T) (k : FontKey) (m : ℕ) (s t : View) (number : m ≡ s.number)
-    (stood : StateStands stands_for before s.part) (begins : IsPrefix s.seen before.history) (same : own s.number before.history ≡ own s.number s.seen) (now : t.seen ≡ after.history) where
+module _ (law : OwnsAreJoined) {T : Type 0} (stands_for : T → FontKey → Common → Type 0) (weighs : T → ℕ) (before after : Cache T) (k : FontKey) (m : ℕ) (s t : View) (number : m ≡ s.number)
+    (stood : StateStands stands_for weighs before s.part) (begins : IsPrefix s.seen before.history) (same : own s.number before.history ≡ own s.number s.seen) (now : t.seen ≡ after.history) where
   -- a call that the machine takes is the last of the history that the seat then sees
-  pub noted_call : (d : Done) → Takes before.capacity (machine before) (machine after) (call m k d) → after.history ≡ before.history ++ call m k d ∷ [] → NotedCall k d s t
+  pub noted_call : (d : Done) → Takes before.limits (machine weighs before) (machine weighs after) (call m k d) → after.history ≡ before.history ++ call m k d ∷ [] → NotedCall k d s t
   noted_call d takes noted =
       let n = s.number in
       let c = call n k d in
@@ -86,22 +85,21 @@ module _ (law : OwnsAreJoined) {T : Type 0} (stands_for : T → FontKey → Comm
         last = record {
           log = before.history;
           begins = begins;
-          state = machine before;
-          reached = subst (λ (capacity : ℕ). machine_after capacity empty before.history ≡ Some (machine before)) stood.capacity stood.reached;
-          allowed = subst (λ (capacity : ℕ). IsTrue (allows capacity (machine before) c)) stood.capacity (subst (λ (j : ℕ). IsTrue (allows before.capacity (machine before) (call j k d))) number takes.allowed);
+          state = machine weighs before;
+          reached = subst (λ (l : Limits). machine_after l empty before.history ≡ Some (machine weighs before)) stood.limits stood.reached;
+          allowed = subst (λ (l : Limits). IsTrue (allows l (machine weighs before) c)) stood.limits (subst (λ (j : ℕ). IsTrue (allows before.limits (machine weighs before) (call j k d))) number takes.allowed);
           ends = is;
         };
         own = grew;
         claim = ap open_claim grew ∙ open_last None (own n s.seen) c;
       }
 
-  pub noted_turn : {R E : Type 0} (done : R → Done) (result : Result R E) → IfOk result (λ r. Takes before.capacity (machine before) (machine after) (call m k (done r)))
+  pub noted_turn : {R E : Type 0} (done : R → Done) (result : Result R E) → IfOk result (λ r. Takes before.limits (machine weighs before) (machine weighs after) (call m k (done r)))
       → IfOk result (λ r. after.history ≡ before.history ++ call m k (done r) ∷ []) → IfOk result (λ r. NotedCall k (done r) s t)
   noted_turn done (Ok r) takes noted = noted_call (done r) takes noted
   noted_turn done (Err e) takes noted = tt
 
--- what is so of the key of the font that left is so of the key that is told
-pub of_told : {T : Type 0} (P : Option FontKey → Type 0) (filled : Result (Option (Evicted T)) (Arc T Global)) → IfOk filled (λ gone. P (evicted_key gone)) → IfOk (told_of filled) (λ gone. P (option_map arc_value gone))
-of_told P (Ok None) h = h
-of_told P (Ok (Some e)) h = h
+-- what is so of an answer with the fonts is so of the answer alone
+pub of_told : {T : Type 0} (P : Fill → Type 0) (filled : Result (Filling T) (Arc T Global)) → IfOk filled (λ f. P f.fill) → IfOk (told_of filled) P
+of_told P (Ok f) h = h
 of_told P (Err font) h = tt

@@ -3,6 +3,7 @@ use Rattle.std.specs.Prelude.{◌≡◌, ℕ, List, [], ◌∷◌, ◌++◌, Som
 use Rattle.outside.specs.declared.keys.FontKey.{FontKey}
 use Rattle.cache_core.specs.declared.calls.Call.{Call}
 use Rattle.cache_core.specs.declared.calls.Done.TheVariants.{Claimed}
+use Rattle.cache_core.specs.declared.limits.Limits.{Limits}
 use Rattle.cache_core.specs.Machine.{Machine, machine_after, empty, claim_of}
 use Rattle.cache_core.specs.Histories.{own, open_claim}
 
@@ -20,7 +21,7 @@ ClaimsAreLast =
 -- in the state after a legal history a seat holds the claim of a key exactly where the last of its
 -- own calls is a look that claimed it
 abbrev pub HeldByLast : Type 0
-HeldByLast = (capacity : ℕ) (history : List Call) (m : Machine)
-    → machine_after capacity empty history ≡ Some m → (seat : ℕ) (k : FontKey)
+HeldByLast = (limits : Limits) (history : List Call) (m : Machine)
+    → machine_after limits empty history ≡ Some m → (seat : ℕ) (k : FontKey)
     → (claim_of seat m.claims ≡ Some k → LastClaims k (own seat history))
     × (LastClaims k (own seat history) → claim_of seat m.claims ≡ Some k)

@@ -1,18 +1,19 @@
 -- What one turn at the cache tells its seat.
-use Rattle.std.specs.Prelude.{◌≡◌, ℕ, ◌+◌, List, [], ◌∷◌, ◌++◌, Option, Some, Result, Ok, Err, IsTrue}
-use Rattle.std.specs.Option.{option_map}
+use Rattle.std.specs.Prelude.{◌≡◌, ◌+◌, List, [], ◌∷◌, ◌++◌, Some, Result, Ok, Err, IsTrue}
 use Rattle.std.specs.Arc.{arc_value}
 use Rattle.std.specs.declared.alloc.Global.{Global}
 use Rattle.std.specs.declared.sync.Arc.{Arc}
 use mathlib.Core.List.{IsPrefix}
 use Rattle.outside.specs.declared.keys.FontKey.{FontKey}
 use Rattle.cache_core.specs.Histories.{own, open_claim, left_by}
+use Rattle.cache_core.specs.declared.limits.Limits.{Limits}
 use Rattle.cache_core.specs.Machine.{Machine, Legal, empty, machine_after, allows}
-use Rattle.cache_core.specs.States.{call}
+use Rattle.cache_core.specs.States.{call, limits_of}
 use Rattle.cache_core.specs.declared.calls.Call.{Call}
 use Rattle.cache_core.specs.declared.calls.Done.{Done}
 use Rattle.cache_core.specs.declared.common.Common.{Common}
-use Rattle.cache_core.specs.declared.entry.Evicted.{Evicted}
+use Rattle.cache_core.specs.declared.entry.Fill.{Fill}
+use Rattle.cache_core.specs.declared.entry.Filling.{Filling}
 use Rattle.cache_core.specs.declared.entry.Look.{Look}
 use Rattle.cache_core.specs.declared.entry.Look.TheVariants.{Hit, Claimed, Busy}
 use Rattle.turn_lock.specs.declared.view.View.{View}
@@ -23,12 +24,12 @@ use Rattle.turn_lock.specs.Seats.{SeatView}
 -- the history that the seat has seen after the turn: it begins with what it had seen, other seats
 -- may have called since, and its last call is this one, which the machine allows in the state that
 -- the calls before it have led to
-pub record EndsWithCall (capacity : ℕ) (c : Call) (before after : List Call) : Type 0 where
+pub record EndsWithCall (limits : Limits) (c : Call) (before after : List Call) : Type 0 where
   pub log : List Call
   pub begins : IsPrefix before log
   pub state : Machine
-  pub reached : machine_after capacity empty log ≡ Some state
-  pub allowed : IsTrue (allows capacity state c)
+  pub reached : machine_after limits empty log ≡ Some state
+  pub allowed : IsTrue (allows limits state c)
   pub ends : after ≡ log ++ c ∷ []
 
 -- what a turn makes of its seat, whatever was called
@@ -51,8 +52,8 @@ pub record TookTurn (before after : SeatView) : Type 0 where
 pub record SawMore (before after : View) : Type 0 where
   -- the history goes on from what the seat had seen
   pub begins : IsPrefix before.seen after.seen
-  -- it is legal for the capacity of the common part
-  pub legal : Legal before.part.capacity after.seen
+  -- it is legal for the capacity and the budget of the common part
+  pub legal : Legal (limits_of before.part) after.seen
   -- seat 0 has seen no more calls of the numbers that it joined
   pub joined_same : before.number ≡ 0 → OwnsSame before.joined after.seen before.seen
 
@@ -60,7 +61,7 @@ pub record SawMore (before after : View) : Type 0 where
 pub record NotedCall (k : FontKey) (d : Done) (before after : View) : Type 0 where
   -- it is the last of the history that the seat has seen, and what the machine allows after those
   -- before it
-  pub last : EndsWithCall before.part.capacity (call before.number k d) before.seen after.seen
+  pub last : EndsWithCall (limits_of before.part) (call before.number k d) before.seen after.seen
   -- the seat holds the claim that it leaves
   pub claim : open_claim (own before.number after.seen) ≡ left_by k d
   -- the seat's own calls grew by it alone
@@ -78,8 +79,7 @@ HitStands stands_for (Hit font) k part = stands_for (arc_value font) k part
 HitStands stands_for Claimed k part = Unit {0}
 HitStands stands_for Busy k part = Unit {0}
 
--- the answer of a fill without the font that left
-abbrev pub told_of : {T : Type 0} → Result (Option (Evicted T)) (Arc T Global)
-    → Result (Option (Arc FontKey Global)) (Arc T Global)
-told_of (Ok gone) = Ok (option_map (λ e. e.key) gone)
+-- the answer of a fill without the fonts that it lets go
+abbrev pub told_of : {T : Type 0} → Result (Filling T) (Arc T Global) → Result Fill (Arc T Global)
+told_of (Ok filling) = Ok filling.fill
 told_of (Err font) = Err font

@@ -1,6 +1,5 @@
 //! The cache, and its calls.
 ghost use Rattle.std.specs.Prelude.{◌≡◌, ◌^◌, ◌<◌, ◌≤◌, [], Some, None, IfOk, IfErr, OnErr};
-ghost use Rattle.std.specs.Option.{option_map};
 ghost use Rattle.std.specs.Arc.{arc_value};
 ghost use mathlib.Core.List.{IsPrefix};
 ghost use Rattle.cache_core.specs.declared.common.Common.{Common};
@@ -8,7 +7,7 @@ ghost use Rattle.cache_core.specs.declared.calls.Done.TheVariants.{Filled, Relea
 ghost use Rattle.cache_core.specs.Histories.{own, open_claim};
 ghost use Rattle.cache_core.specs.Machine.{Legal};
 ghost use Rattle.cache_core.specs.Laws.{FewClaims};
-ghost use Rattle.cache_core.specs.States.{answered};
+ghost use Rattle.cache_core.specs.States.{answered, limits_of};
 ghost use Rattle.cache_core.specs.Views.{calls_of};
 ghost use Rattle.turn_lock.specs.declared.view.Stage.TheVariants.{Idle};
 ghost use Rattle.turn_lock.specs.Histories.{AllMade, OwnsSame};
@@ -18,7 +17,7 @@ ghost use Rattle.font_cache.specs.Turns.{TookTurn, SawMore, NotedCall, NotedNoth
 ghost use Rattle.cache_core.specs.Limits.{MAX_CACHED_FONTS};
 
 use cache_core::laws::{histories, own_calls};
-use cache_core::{CacheState, Entry, Evicted, Look, Stands};
+use cache_core::{CacheState, Entry, Fill, Filling, Look, Stands};
 use outside::FontKey;
 use std::alloc::{AllocError as NoMemory, Global};
 use std::marker::Model;
@@ -45,31 +44,32 @@ impl<T: Stands> Model for FontCache<T> {
     ghost view = { λ c. c.lock };
 }
 
-// The key of the font that left, which is dropped.
-fn key_alone<T: Stands>(
-    filled: Result<Option<Evicted<T>>, Arc<T>>,
-) -> Result<Option<Arc<FontKey>>, Arc<T>>
+// The answer without the fonts that were let go, which are dropped.
+fn answer_alone<T: Stands>(filled: Result<Filling<T>, Arc<T>>) -> Result<Fill, Arc<T>>
     ensures { result ≡ told_of filled }
 {
-    match filled? {
-        Some(Evicted { key, font: _ }) => Ok(Some(key)),
-        None => Ok(None),
-    }
+    Ok(filled?.fill)
 }
 
 impl<T: Stands> FontCache<T> {
-    /// An empty cache of n fonts at most, 1 to 256, with its seat 0, which has seen nothing, drew
-    /// nothing and doesn't have the turn. The caller's proof picks the common part of all seats,
-    /// which has this capacity.
-    pub fn make(alloc: Global, capacity: usize) -> Result<(FontCache<T>, CacheSeat<T>), NoMemory>
+    /// An empty cache of n fonts at most, 1 to 256, that weigh no more bytes than the budget
+    /// together, with its seat 0, which has seen nothing, drew nothing and doesn't have the turn.
+    /// The caller's proof picks the common part of all seats, which has this capacity and this
+    /// budget.
+    pub fn make(
+        alloc: Global,
+        capacity: usize,
+        budget: u64,
+    ) -> Result<(FontCache<T>, CacheSeat<T>), NoMemory>
         ghost part: { Common }
         requires some_font { 1 ≤ capacity }
         requires few_fonts { capacity ≤ MAX_CACHED_FONTS }
         requires capacity { capacity ≡ part.capacity }
+        requires budget { budget ≡ part.budget }
         ensures lock { IfOk result (λ made. made.1.lock ≡ made.0) }
         ensures seat { IfOk result (λ made. made.1.view ≡ opening_view part) }
     {
-        let state = CacheState::new(alloc, capacity)?;
+        let state = CacheState::new(alloc, capacity, budget)?;
         match TurnLock::make(alloc, state) {
             Ok((lock, seat)) => Ok((FontCache { lock }, seat)),
             Err(_) => Err(NoMemory),
@@ -146,17 +146,18 @@ impl<T: Stands> FontCache<T> {
     }
 
     /// Hands in, in one turn, the font of the key that the seat has claimed, which ends the claim;
-    /// waits for the turn. The font stands for the key in the common part. The answer is the key of
-    /// the font that was evicted for it. `Err` means that memory ran out: it hands the font back
-    /// and adds no call, so the seat still holds its claim. The evicted font is dropped after the
-    /// turn was handed on.
+    /// waits for the turn. The font stands for the key in the common part. The answer says whether
+    /// it was kept, which it is where it weighs no more than the budget, and has the keys of the
+    /// fonts that were evicted for it, in that order. `Err` means that memory ran out: it hands the
+    /// font back and adds no call, so the seat still holds its claim. The evicted fonts are dropped
+    /// after the turn was handed on.
     pub fn fill<R: Wait>(
         &self,
         rt: &R,
         seat: &mut CacheSeat<T>,
         key: &Arc<FontKey>,
         value: Arc<T>,
-    ) -> Result<Option<Arc<FontKey>>, Arc<T>>
+    ) -> Result<Fill, Arc<T>>
         requires lock { seat.old.lock ≡ self.now }
         requires idle { seat.old.view.stage ≡ Idle }
         requires room { seat.old.view.drawn < 2 ^ 48 }
@@ -165,8 +166,8 @@ impl<T: Stands> FontCache<T> {
         requires stands { T.stands_for (arc_value value) (arc_value key.now) seat.old.view.part }
         ensures turn { TookTurn seat.old seat.new }
         ensures seen { SawMore seat.old.view seat.new.view }
-        ensures noted { IfOk result (λ gone. NotedCall (arc_value key.now)
-            (Filled (option_map arc_value gone))
+        ensures noted { IfOk result (λ f. NotedCall (arc_value key.now)
+            (Filled (T.weighs (arc_value value)) f.kept f.gone)
             seat.old.view seat.new.view) }
         ensures back { IfErr result (λ handed. handed ≡ value) }
         ensures refused { OnErr result (NotedNothing seat.old.view seat.new.view) }
@@ -177,8 +178,8 @@ impl<T: Stands> FontCache<T> {
         let mut state = self.lock.take(rt, seat);
         let filled = state.fill_keeping(seat.number(), key, value);
         self.lock.give(seat, state);
-        // Only now, since this seat may be the last owner of the evicted font.
-        key_alone(filled)
+        // Only now, since this seat may be the last owner of the evicted fonts.
+        answer_alone(filled)
     }
 
     /// Gives up, in one turn, the claim that the seat holds; waits for the turn. It takes no
@@ -202,16 +203,16 @@ impl<T: Stands> FontCache<T> {
     }
 
     /// The whole history, once all other seats were joined and no turn is held: just what seat 0
-    /// has seen. It is legal for the capacity of the common part, has no call of a number that
-    /// wasn't made, and claims each key at most once more often than its font was evicted and its
-    /// claims were given up together. The fonts are dropped.
+    /// has seen. It is legal for the capacity and the budget of the common part, has no call of a
+    /// number that wasn't made, and claims each key at most once more often than its font was
+    /// evicted or not kept and its claims were given up together. The fonts are dropped.
     pub fn close(self, first: CacheSeat<T>) -> Vec<Entry>
         requires lock { first.lock ≡ self }
         requires first { first.view.number ≡ 0 }
         requires idle { first.view.stage ≡ Idle }
         requires joined { AllJoined first.view }
         ensures history { calls_of result.items ≡ first.view.seen }
-        ensures legal { Legal first.view.part.capacity (calls_of result.items) }
+        ensures legal { Legal (limits_of first.view.part) (calls_of result.items) }
         ensures made { AllMade first.view.made (calls_of result.items) }
         ensures few_claims { FewClaims (calls_of result.items) }
     {

@@ -14,4 +14,5 @@ pub mod Scaled
 pub mod Trails
 pub mod Total
 pub mod Rows
+pub mod Weights
 pub mod Programs

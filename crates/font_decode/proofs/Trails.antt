@@ -3,8 +3,10 @@ use Rattle.std.proofs.Common.{◌≡◌, inr, ℕ, ◌+◌, ◌-◌, ◌*◌, �
 use Rattle.std.specs.Option.{option_map}
 use Rattle.outside.specs.declared.keys.FontKey.{FontKey}
 use Rattle.cache_core.specs.declared.calls.Call.{Call}
-use Rattle.cache_core.specs.Histories.{SeatCalls, AreOf, NoneReleased}
-use Rattle.font_decode.specs.Desks.{GrewBy, Trail, ReleasedLast, misses, Loaded, SeatAnswered, TrailGrew}
+use Rattle.cache_core.specs.declared.common.Common.{Common}
+use Rattle.cache_core.specs.Histories.{AllWeigh, SeatCalls, AreOf, NoneReleased}
+use Rattle.cache_core.proofs.Weights.{weigh_joined}
+use Rattle.font_decode.specs.Desks.{GrewBy, IsWeightIn, Trail, ReleasedLast, misses, Loaded, SeatAnswered, TrailGrew}
 use Rattle.font_decode.specs.Loads.{MAX_LOADS}
 
 -- ---- the keys asked
@@ -56,11 +58,12 @@ module _ (W : Type 0) where
   went_more : (a b : List FontKey) (s t u : Trail) → SeatAnswered (Unit {0}) a s t → SeatAnswered W b t u → SeatAnswered W (a ++ b) s u
   went_more a b s t u p q = record {
     seat = q.seat ∙ p.seat;
-    capacity = q.capacity ∙ p.capacity;
+    part = q.part ∙ p.part;
     calls = p.calls ++ q.calls;
     grew = q.grew ∙ ap (λ (l : List Call). l ++ q.calls) p.grew ∙ append_assoc s.calls p.calls q.calls;
     own = of_more s.seat p.calls q.calls p.own (subst (λ (n : ℕ). AreOf n q.calls) p.seat q.own);
     for_keys = for_more a b p.calls q.calls p.for_keys q.for_keys;
+    weighed = weigh_joined (IsWeightIn s.part) p.calls q.calls p.weighed (subst (λ (c : Common). AllWeigh (IsWeightIn c) q.calls) p.part q.weighed);
     last = last_more p.calls q.calls (p.answered tt) q.last;
     answered = λ w. none_more p.calls q.calls (p.answered tt) (q.answered w);
     loaded = loaded_more (MAX_LOADS * misses p.calls) (MAX_LOADS * misses q.calls) (MAX_LOADS * misses (p.calls ++ q.calls)) _ _ _ _ _ _
@@ -78,11 +81,12 @@ module _ (W : Type 0) where
       grew = asked_none asked;
       answers = record {
         seat = refl;
-        capacity = refl;
+        part = refl;
         calls = [];
         grew = sym (append-nil t.calls);
         own = tt;
         for_keys = refl;
+        weighed = tt;
         last = tt;
         answered = λ w. tt;
         loaded = record {
@@ -112,11 +116,12 @@ module _ (W : Type 0) where
 went_as : (V W : Type 0) (keys : List FontKey) (s t : Trail) → (V → W) → SeatAnswered W keys s t → SeatAnswered V keys s t
 went_as V W keys s t f p = record {
   seat = p.seat;
-  capacity = p.capacity;
+  part = p.part;
   calls = p.calls;
   grew = p.grew;
   own = p.own;
   for_keys = p.for_keys;
+  weighed = p.weighed;
   last = p.last;
   answered = λ v. p.answered (f v);
   loaded = p.loaded;

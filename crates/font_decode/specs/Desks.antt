@@ -6,8 +6,10 @@ use Rattle.outside.specs.declared.keys.FontKey.{FontKey}
 use Rattle.cache_core.specs.declared.calls.Call.{Call}
 use Rattle.cache_core.specs.declared.calls.Done.{Done}
 use Rattle.cache_core.specs.declared.calls.Done.TheVariants.{Hit, Claimed, Busy, Filled, Released}
-use Rattle.cache_core.specs.Histories.{SeatCalls, AreOf, NoneReleased}
+use Rattle.cache_core.specs.declared.common.Common.{Common}
+use Rattle.cache_core.specs.Histories.{AllWeigh, SeatCalls, AreOf, NoneReleased}
 use Rattle.font_decode.specs.Loads.{RoseUpTo, MAX_LOADS}
+use Rattle.font_decode.specs.Weights.{IsWeightOf}
 
 -- ---- the keys asked
 
@@ -21,12 +23,12 @@ GrewByAtMost before now k = (now ≡ before) ⊎ GrewBy before now (k ∷ [])
 
 -- ---- the calls of a seat
 
--- what is known of a desk's seat at its cache: its number, how many fonts the cache keeps, its
--- calls, how often the source was asked for a file, and how many of these loads the desk has
--- counted
+-- what is known of a desk's seat at its cache: its number, what all seats of the cache have in
+-- common, its calls, how often the source was asked for a file, and how many of these loads the
+-- desk has counted
 pub record Trail : Type 0 where
   pub seat : ℕ
-  pub capacity : ℕ
+  pub part : Common
   pub calls : List Call
   pub loads : ℕ
   pub counted : ℕ
@@ -41,7 +43,7 @@ abbrev pub miss_count : Done → ℕ
 miss_count Claimed = 1
 miss_count Busy = 1
 miss_count Hit = 0
-miss_count (Filled _) = 0
+miss_count (Filled _ _ _) = 0
 miss_count Released = 0
 
 abbrev pub misses : List Call → ℕ
@@ -55,16 +57,21 @@ pub record Loaded (most before now count count_now : ℕ) : Type 0 where
   pub counted : RoseUpTo most count count_now
   pub same : now < 2 ^ 64 - 1 → count_now + before ≡ count + now
 
--- what the seat did for these keys. A claim is given up at the end alone, and nowhere where the
--- keys were answered
+-- the weight of the key's font in the library of the cache, where it is known
+abbrev pub IsWeightIn : Common → FontKey → ℕ → Type 0
+IsWeightIn part k w = IsWeightOf part.library (Some part.units) k w
+
+-- what the seat did for these keys. Each font that it handed in has its key's weight. A claim is
+-- given up at the end alone, and nowhere where the keys were answered
 pub record SeatAnswered (Answered : Type 0) (keys : List FontKey) (before after : Trail) : Type
     0 where
   pub seat : after.seat ≡ before.seat
-  pub capacity : after.capacity ≡ before.capacity
+  pub part : after.part ≡ before.part
   pub calls : List Call
   pub grew : after.calls ≡ before.calls ++ calls
   pub own : AreOf before.seat calls
   pub for_keys : SeatCalls keys calls
+  pub weighed : AllWeigh (IsWeightIn before.part) calls
   pub last : ReleasedLast calls
   pub answered : Answered → NoneReleased calls
   pub loaded : Loaded (MAX_LOADS * misses calls) before.loads after.loads before.counted

@@ -11,3 +11,5 @@ pub mod Rows
 pub mod Laws
 pub mod Asked
 pub mod Stops
+pub mod FontWeights
+pub mod Weights

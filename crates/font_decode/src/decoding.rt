@@ -1,11 +1,12 @@
 //! From files to fonts.
-ghost use Rattle.std.specs.Prelude.{◌≡◌, List, ℕ, IfOk};
+ghost use Rattle.std.specs.Prelude.{◌≡◌, ◌≤◌, List, ℕ, IfOk};
 ghost use Rattle.outside.specs.FontKeys.{IsFontKey};
 ghost use Rattle.pixel_round.specs.Preamble.{AreUnits};
 ghost use Rattle.font_decode.specs.Files.{bytes_of};
 ghost use Rattle.font_decode.specs.Decoding.{is_too_long, DecodesShortPk, DecodesShortGf, DecodesGlyphs, DecodesPacked, DecodesItems, DecodesShortVf, DecodesSound, DecodesTfm, IsDecodingOf};
 ghost use Rattle.font_decode.specs.Reading.{IsTfmOf, IsVfRead};
 ghost use Rattle.vf_reader.specs.Fonts.{HasPacketsOf};
+ghost use Rattle.vf_reader.specs.Weights.{packets_weight};
 
 use crate::locals::local_keys;
 use crate::names::{dpi, is_resolution, is_valid_name};
@@ -137,14 +138,16 @@ fn decode_locals(
     requires units { AreUnits units.now }
     requires key { IsFontKey key.now }
     requires file { IsVfRead file }
+    requires few { packets_weight file ≤ 8388608 }
     ensures { IfOk result (λ d. (bytes : List ℕ) (items : List (List ℕ)) → IsTfmOf bytes tfm.now →
         HasPacketsOf items file → DecodesItems units.now key.now bytes items d) }
 {
     match local_keys(alloc, file.locals(), key.size, units)? {
         Some(keys) => {
             let widths = scaled_widths(alloc, tfm, key.size)?;
+            let weight = file.weight() as u64;
             let shapes = Shapes::Virtual { file, keys };
-            Ok(Decoded::Font(Font::new(key.size, widths, shapes)))
+            Ok(Decoded::Font(Font::new(key.size, widths, shapes, weight)))
         }
         None => Ok(Decoded::Fault(FontFault::Size)),
     }
@@ -200,7 +203,8 @@ fn decode_pk(alloc: Global, key: &FontKey, tfm: &Tfm, pk: &[u8]) -> Result<Decod
     match PkFont::read(alloc, pk) {
         Ok(glyphs) => {
             let widths = scaled_widths(alloc, tfm, key.size)?;
-            Ok(Decoded::Font(Font::new(key.size, widths, Shapes::Packed(glyphs))))
+            let weight = glyphs.weight();
+            Ok(Decoded::Font(Font::new(key.size, widths, Shapes::Packed(glyphs), weight)))
         }
         Err(PkStop::Fault(fault)) => Ok(Decoded::Fault(FontFault::Pk(fault))),
         Err(PkStop::NoMemory) => Err(NoMemory),
@@ -219,7 +223,8 @@ fn decode_gf(alloc: Global, key: &FontKey, tfm: &Tfm, gf: &[u8]) -> Result<Decod
     match GfFont::read(alloc, gf) {
         Ok(glyphs) => {
             let widths = scaled_widths(alloc, tfm, key.size)?;
-            Ok(Decoded::Font(Font::new(key.size, widths, Shapes::Generic(glyphs))))
+            let weight = glyphs.weight();
+            Ok(Decoded::Font(Font::new(key.size, widths, Shapes::Generic(glyphs), weight)))
         }
         Err(GfStop::Fault(fault)) => Ok(Decoded::Fault(FontFault::Gf(fault))),
         Err(GfStop::NoMemory) => Err(NoMemory),

@@ -1,5 +1,5 @@
 //! Where a page asks for its fonts.
-ghost use Rattle.std.specs.Prelude.{◌≡◌, ◌+◌, ◌≤◌, ◌∷◌, [], ℕ, List, Option, None, IfOk, IsErrOf, IsOk, IsSome, OnErr, OnOk};
+ghost use Rattle.std.specs.Prelude.{◌≡◌, ◌+◌, ◌≤◌, ◌∷◌, [], ℕ, List, Option, None, Some, IfOk, IfSome, IsErrOf, IsOk, IsSome, OnErr, OnOk};
 ghost use Rattle.std.specs.Arc.{arc_value};
 ghost use Rattle.outside.specs.Counts.{HasCause};
 ghost use Rattle.outside.specs.Library as library;
@@ -121,4 +121,8 @@ pub trait Desk: Drop {
 
     /// The keys asked are known wherever the trail is.
     ghost asks: { (d : Self) → IsSome (trail d) → IsSome (asked d) };
+
+    /// The library and the units that the seat's cache knows are those of the desk.
+    ghost shares: { (d : Self) → IfSome (trail d) (λ t.
+        (t.part.library ≡ library d) × (Some t.part.units ≡ units d)) };
 }

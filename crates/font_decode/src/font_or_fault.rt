@@ -14,10 +14,21 @@ pub enum Decoded {
 /// A decoding stands for a key where it is what the key's files in the common library come to, at
 /// the units of the document. Where no library is known, it is what some files come to, which were
 /// found in the order of the format; nothing is then said of where these were, nor that two
-/// decodings that stand for one key are alike.
+/// decodings that stand for one key are alike. A font weighs the bytes of its glyphs or packets,
+/// and a fault nothing.
 impl Stands for Decoded {
     ghost use Rattle.std.specs.Prelude.{Some};
     ghost use Rattle.font_decode.specs.Decoding.{IsFontOf};
+    ghost use Rattle.font_decode.specs.Weights.{weight_of};
 
     ghost stands_for = { λ font k part. IsFontOf part.library (Some part.units) k font };
+
+    ghost weighs = { λ font. weight_of font };
+
+    fn weight(&self) -> u64 {
+        match self {
+            Decoded::Font(font) => font.weight(),
+            Decoded::Fault(_) => 0,
+        }
+    }
 }

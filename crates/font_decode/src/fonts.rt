@@ -3,6 +3,7 @@ ghost use Rattle.std.specs.Prelude.{◌≡◌, ◌≤◌, ◌<◌, ◌^◌, ℕ,
 ghost use Rattle.std.specs.Arc.{arc_value};
 ghost use Rattle.outside.specs.FontKeys.{IsFontKey};
 ghost use Rattle.outside.specs.Limits.{SIZES};
+ghost use Rattle.font_decode.specs.FontWeights.{font_weight, shapes_weight};
 ghost use Rattle.font_decode.specs.Fonts.{AreShapes, AreWidths, IsProgram, first_local_of, glyph_at, is_virtual_of, local_of, packet_of, scaled_width_of};
 
 use crate::shapes::Shapes;
@@ -20,33 +21,37 @@ pub struct Font {
     size: u32,
     widths: Vec<Option<i64>>,
     shapes: Shapes,
+    weight: u64,
 }
 
 impl Model for Font {
-    ghost use Rattle.font_decode.specs.Fonts.{FontValue, IsFontValue};
+    ghost use Rattle.font_decode.specs.Fonts.{FontValue};
+    ghost use Rattle.font_decode.specs.FontWeights.{IsWeighedFont};
 
     ghost Value = { FontValue };
 
     ghost view = { λ f. record { size = f.size; widths = f.widths.items; shapes = f.shapes } };
 
-    ghost invariant = { λ f. IsFontValue
-        (record { size = f.size; widths = f.widths.items; shapes = f.shapes }) };
+    ghost invariant = { λ f. IsWeighedFont
+        (record { size = f.size; widths = f.widths.items; shapes = f.shapes }) f.weight };
 }
 
 impl Font {
-    // A font of this size, with these widths and characters.
-    pub(crate) fn new(size: u32, widths: Vec<Option<i64>>, shapes: Shapes) -> Font
+    // A font of this size, with these widths and characters, which weigh so many bytes.
+    pub(crate) fn new(size: u32, widths: Vec<Option<i64>>, shapes: Shapes, weight: u64) -> Font
         requires some { 1 ≤ size }
         requires fits { size < SIZES }
         requires codes { length widths.items ≤ 256 }
         requires widths { AreWidths widths.items }
         requires shapes { AreShapes shapes }
+        requires weight { weight ≡ shapes_weight shapes }
         ensures { result ≡ record { size = size; widths = widths.items; shapes = shapes } }
     {
         Font {
             size,
             widths,
             shapes,
+            weight,
         }
     }
 
@@ -127,6 +132,14 @@ impl Font {
             Shapes::Packed(_) | Shapes::Generic(_) => None,
             Shapes::Virtual { file, .. } => file.first_local(),
         }
+    }
+
+    /// The bytes that the font weighs in the cache: those of its glyphs' rasters, each row in whole
+    /// bytes, or of its packets, the last one of each code.
+    pub fn weight(&self) -> u64
+        ensures { result ≡ font_weight self.now }
+    {
+        self.weight
     }
 
     /// The size, in DVI units.

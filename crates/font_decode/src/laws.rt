@@ -1,4 +1,5 @@
 //! Laws of the names of a font's files, and of what is found.
+ghost use Rattle.font_decode.specs.Weights.{AlikeWeighTheSame, EachKeyHasAWeight, OneWeightInALibrary};
 ghost use Rattle.font_decode.specs.Laws.{NamesStayInFolder, AskedNamesStayInFolder, NamesAreDistinct, OneIsFound, FewAreLookedFor, OneOfItsFiles, OneInALibrary, EachKeyIsDecoded, RowsDetermineTheDecoding, PacketsAreBalanced};
 
 /// No name of a font's files leads out of the folder, so none that is asked for does, whatever the
@@ -24,6 +25,14 @@ pub fn decodings()
     ensures library { OneInALibrary }
     ensures each { EachKeyIsDecoded }
     ensures rows { RowsDetermineTheDecoding }
+{}
+
+/// Decodings that can't be told apart weigh the same. So a key has one weight in a library, and
+/// each key has one.
+pub fn weights()
+    ensures alike { AlikeWeighTheSame }
+    ensures one { OneWeightInALibrary }
+    ensures each { EachKeyHasAWeight }
 {}
 
 /// The packets of a virtual font push and pop in balance, whatever its files: none pops what it

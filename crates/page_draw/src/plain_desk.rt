@@ -62,6 +62,8 @@ impl<F: FontSource> Desk for PlainDesk<F> {
 
     ghost asks = { λ d some. some };
 
+    ghost shares = { λ d. tt };
+
     fn font<R: Wait>(
         &mut self,
         _rt: &R,

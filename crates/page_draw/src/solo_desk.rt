@@ -41,23 +41,27 @@ impl<F: FontSource> Model for SoloDesk<F> {
 }
 
 impl<F: FontSource> SoloDesk<F> {
-    /// A desk over a source, for the units of a document, with a cache of n fonts at most: 1 to
-    /// 256. `NoMemory` drops the source.
+    /// A desk over a source, for the units of a document, with a cache of n fonts at most, 1 to
+    /// 256, that weigh no more bytes than the budget together. `NoMemory` drops the source.
     pub fn new(
         alloc: Global,
         source: F,
         units: Units,
         capacity: usize,
+        budget: u64,
     ) -> Result<SoloDesk<F>, NoMemory>
         requires units { AreUnits units }
         requires some_font { 1 ≤ capacity }
         requires few_fonts { capacity ≤ MAX_CACHED_FONTS }
         ensures source { IfOk result (λ d. d.source ≡ source) }
         ensures units { IfOk result (λ d. d.units ≡ units) }
-        ensures capacity { IfOk result (λ d. d.cache.capacity ≡ capacity) }
+        ensures limits { IfOk result (λ d. d.cache.limits ≡ record {
+          capacity = capacity;
+          budget = budget;
+        }) }
         ensures no_call { IfOk result (λ d. (d.cache.history ≡ []) × (d.cache.turns ≡ 0)) }
     {
-        let cache = CacheState::new(alloc, capacity)?;
+        let cache = CacheState::new(alloc, capacity, budget)?;
         Ok(SoloDesk {
             source,
             units,
@@ -69,7 +73,7 @@ impl<F: FontSource> SoloDesk<F> {
     pub fn finish(self) -> (F, Vec<Entry>)
         ensures source { result.0 ≡ self.source }
         ensures history { calls_of result.1.items ≡ self.cache.history }
-        ensures legal { Legal self.cache.capacity self.cache.history }
+        ensures legal { Legal self.cache.limits self.cache.history }
         ensures own { AreOf 1 self.cache.history }
     {
         let SoloDesk {
@@ -96,13 +100,15 @@ impl<F: FontSource> Desk for SoloDesk<F> {
 
     ghost asked = { λ d. asked_by d.cache };
 
-    ghost trail = { λ d. trail_by (F.loads d.source) d.cache };
+    ghost trail = { λ d. trail_by (F.library d.source) d.units (F.loads d.source) d.cache };
 
     ghost room = { λ d. room_by d.cache.turns };
 
     ghost known = { λ d some. refl };
 
     ghost asks = { λ d some. refl };
+
+    ghost shares = { λ d. (refl, refl) };
 
     fn font<R: Wait>(
         &mut self,
@@ -130,7 +136,7 @@ fn ask<F: FontSource>(
         IsFontOf (F.library source.old) (Some units.now) (arc_value key.now) (arc_value font)) }
     ensures library { F.library source.new ≡ F.library source.old }
     ensures alone { IsAlone (F.library source.new) units.now cache.new }
-    ensures capacity { cache.new.capacity ≡ cache.old.capacity }
+    ensures limits { cache.new.limits ≡ cache.old.limits }
     ensures turns { cache.new.turns ≤ cache.old.turns + 3 }
     ensures cause { HasCause (F.faults source.old) (F.faults source.new)
         (IsErrOf result DeskStop.SourceFault) }
@@ -139,7 +145,8 @@ fn ask<F: FontSource>(
     ensures refused { OnErr result (GrewByAtMost (asked_by cache.old) (asked_by cache.new)
         (arc_value key.now)) }
     ensures trail { TrailGrew (IsOk result) (asked_by cache.old) (asked_by cache.new)
-        (trail_by (F.loads source.old) cache.old) (trail_by (F.loads source.new) cache.new) }
+        (trail_by (F.library source.old) units.now (F.loads source.old) cache.old)
+        (trail_by (F.library source.new) units.now (F.loads source.new) cache.new) }
 {
     // For the proof: no look of the only seat is busy.
     laws::solo();

@@ -63,7 +63,7 @@ module _ {F : Type 0} (library : F → Option FileTable) (faults loads : F → �
 
       number : t.view.number ≡ n
       number =
-          let known : trail.0 ≡ record { seat = t.view.number; capacity = t.view.part.capacity; calls = own_calls t; loads = loads after.source; counted = after.loads } = cc trail.1 in
+          let known : trail.0 ≡ record { seat = t.view.number; part = t.view.part; calls = own_calls t; loads = loads after.source; counted = after.loads } = cc trail.1 in
           sym (ap (λ (x : Trail). x.seat) known) ∙ trail.2.answers.seat ∙ may.number
 
     at_seat : (o : Option SeatView) → after.seat ≡ o → BenchFits (library after.source) bench o → MayLeave bench.cache n after

@@ -34,7 +34,7 @@ trail_at loads counted None = None
 trail_at loads counted (Some s) =
     Some (record {
       seat = s.view.number;
-      capacity = s.view.part.capacity;
+      part = s.view.part;
       calls = own_calls s;
       loads = loads;
       counted = counted;
@@ -71,6 +71,12 @@ HoldsNoClaim (Some s) = open_claim (own_calls s) ≡ None
 pub units_known : (seat : Option SeatView) → IsSome (library_at seat) → IsSome (units_at seat)
 units_known None some = some
 units_known (Some s) some = refl
+
+pub seat_shares : (loads counted : ℕ) (seat : Option SeatView)
+    → IfSome (trail_at loads counted seat) (λ t. (t.part.library ≡ library_at seat)
+    × (Some t.part.units ≡ units_at seat))
+seat_shares loads counted None = tt
+seat_shares loads counted (Some s) = (refl, refl)
 
 pub asked_known : (loads counted : ℕ) (seat : Option SeatView)
     → IsSome (trail_at loads counted seat) → IsSome (asked_at seat)

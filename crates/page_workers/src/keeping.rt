@@ -1,5 +1,5 @@
 //! How a seat ends a claim.
-ghost use Rattle.std.specs.Prelude.{◌≡◌, ◌+◌, ◌^◌, ◌<◌, ◌≤◌, [], ◌∷◌, ◌++◌, None, Some, Option, IfOk, OnErr, IsErrOf};
+ghost use Rattle.std.specs.Prelude.{◌≡◌, ◌+◌, ◌^◌, ◌<◌, ◌≤◌, ℕ, Bool, List, [], ◌∷◌, ◌++◌, None, Some, IfOk, OnErr, IsErrOf};
 ghost use Rattle.std.specs.Arc.{arc_value};
 ghost use Rattle.outside.specs.declared.keys.FontKey.{FontKey};
 ghost use Rattle.cache_core.specs.Histories.{own, open_claim};
@@ -7,6 +7,7 @@ ghost use Rattle.cache_core.specs.States.{call};
 ghost use Rattle.cache_core.specs.declared.calls.Done.TheVariants.{Filled, Released};
 ghost use Rattle.turn_lock.specs.declared.view.Stage.TheVariants.{Idle};
 ghost use Rattle.font_decode.specs.Decoding.{IsFontOf};
+ghost use Rattle.font_decode.specs.Desks.{IsWeightIn};
 
 use font_cache::{CacheSeat, FontCache};
 use font_decode::{Decoded, DeskStop};
@@ -36,10 +37,11 @@ pub fn keep<R: Wait>(
     ensures part { seat.new.view.part ≡ seat.old.view.part }
     ensures free { open_claim (own seat.old.view.number seat.new.view.seen) ≡ None }
     ensures same { IfOk result (λ kept. arc_value kept ≡ arc_value font) }
-    ensures filled { IfOk result (λ _. (gone : Option FontKey)
+    ensures filled { IfOk result (λ _. (weight : ℕ) × (kept : Bool) × (gone : List FontKey)
         × (own seat.old.view.number seat.new.view.seen
         ≡ own seat.old.view.number seat.old.view.seen
-        ++ call seat.old.view.number (arc_value key.now) (Filled gone) ∷ [])) }
+        ++ call seat.old.view.number (arc_value key.now) (Filled weight kept gone) ∷ [])
+        × IsWeightIn seat.old.view.part (arc_value key.now) weight) }
     ensures released { OnErr result (own seat.old.view.number seat.new.view.seen
         ≡ own seat.old.view.number seat.old.view.seen
         ++ call seat.old.view.number (arc_value key.now) Released ∷ []) }

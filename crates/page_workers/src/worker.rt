@@ -80,7 +80,7 @@ impl<F: FontSource> Worker<F> {
 }
 
 impl<F: FontSource> Desk for Worker<F> {
-    ghost use Rattle.page_workers.specs.Seats.{BenchFits, library_at, units_at, asked_at, trail_at, room_at, units_known, asked_known};
+    ghost use Rattle.page_workers.specs.Seats.{BenchFits, library_at, units_at, asked_at, trail_at, room_at, units_known, asked_known, seat_shares};
 
     type Shared = Bench;
 
@@ -101,6 +101,8 @@ impl<F: FontSource> Desk for Worker<F> {
     ghost known = { λ w some. units_known w.seat some };
 
     ghost asks = { λ w some. asked_known (F.loads w.source) w.loads w.seat some };
+
+    ghost shares = { λ w. seat_shares (F.loads w.source) w.loads w.seat };
 
     fn font<R: Wait>(
         &mut self,

@@ -1,6 +1,7 @@
 //! A PK file that was read.
 ghost use Rattle.std.specs.Prelude.{◌≡◌, ◌==◌, ℕ, IfOk, MatchOption, None, OnOk, Some, if◌then◌else◌};
 ghost use Rattle.pk_packets.specs.Fonts.{glyph_of};
+ghost use Rattle.pk_runs.specs.Weights.{glyphs_weight};
 
 use pk_runs::{Glyph, GlyphTable};
 use std::alloc::{AllocError as NoMemory, Global};
@@ -45,5 +46,12 @@ impl PkFont {
             (λ g. glyph_of self.now c ≡ Some g.now) }
     {
         self.table.get(c)
+    }
+
+    /// The bytes that the rasters of all codes take together, each row in whole bytes.
+    pub fn weight(&self) -> u64
+        ensures { result ≡ glyphs_weight self.now }
+    {
+        self.table.weight()
     }
 }

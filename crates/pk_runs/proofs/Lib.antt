@@ -19,3 +19,4 @@ pub mod Sizes
 pub mod Total
 pub mod Shapes
 pub mod Huge
+pub mod Weighed

@@ -8,3 +8,4 @@ pub mod Given
 pub mod Glyphs
 pub mod Narrow
 pub mod Limits
+pub mod Weights

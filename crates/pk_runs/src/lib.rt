@@ -6,6 +6,7 @@ mod decode;
 mod faults;
 mod given;
 mod glyph;
+mod glyph_map;
 mod items;
 mod laws;
 mod limits;

@@ -1,44 +1,50 @@
-//! The glyphs of a font by their codes.
-
-ghost use Rattle.std.specs.Prelude.{◌≡◌, ◌==◌, ℕ, IfOk, MatchOption, None, OnErr, OnOk, Some, if◌then◌else◌, replicate};
+//! The glyphs of a font by their codes, and what they weigh.
+ghost use Rattle.std.specs.Prelude.{◌≡◌, ◌==◌, ◌≤◌, ℕ, IfOk, MatchOption, None, OnErr, OnOk, Some, if◌then◌else◌};
 ghost use Rattle.pk_runs.specs.Glyphs.{glyph_of};
+ghost use Rattle.pk_runs.specs.Weights.{MAX_GLYPH_BYTES, glyphs_weight, raster_bytes};
 
 use crate::glyph::Glyph;
+use crate::glyph_map::GlyphMap;
 use std::alloc::{AllocError as NoMemory, Global};
-use std::collections::BTreeMap;
 use std::marker::Model;
 
-// The codes that have a place in the table.
-const PLACES: u32 = 256;
-
-/// A table of glyphs. A contract sees it as the glyphs of the codes from 0 to 255 by their places
-/// and those of the others by their codes; `glyph_of` says which one a code has.
+/// The glyphs of a font by their codes, and the bytes that their rasters take together. A contract
+/// sees it as the glyphs of the codes from 0 to 255 by their places and those of the others by
+/// their codes; `glyph_of` says which one a code has, and `glyphs_weight` what they weigh.
 #[derive(Drop)]
 pub struct GlyphTable {
-    by_place: Vec<Option<Glyph>>,
-    others: BTreeMap<u32, Glyph>,
+    glyphs: GlyphMap,
+    weight: u64,
 }
 
 impl Model for GlyphTable {
-    ghost use Rattle.std.specs.Prelude.{◌≡◌, length};
     ghost use Rattle.pk_runs.specs.Glyphs.{Glyphs};
+    ghost use Rattle.pk_runs.specs.Weights.{IsWeighed};
 
     ghost Value = { Glyphs };
 
-    ghost view = { λ t. record { by_place = t.by_place.items; others = t.others.entries } };
+    ghost view = { λ t. t.glyphs };
 
-    ghost invariant = { λ t. length t.by_place.items ≡ 256 };
+    ghost invariant = { λ t. IsWeighed t.glyphs t.weight };
 }
 
-// The places, without glyphs.
-fn no_glyphs(alloc: Global) -> Result<Vec<Option<Glyph>>, NoMemory>
-    ensures { IfOk result (λ by_place. by_place.items ≡ replicate 256 None) }
+// The bytes that the raster of a glyph takes, each row in whole bytes.
+fn bytes_of(glyph: &Glyph) -> u64
+    ensures bytes { result ≡ raster_bytes (Some glyph.now) }
+    ensures few { result ≤ MAX_GLYPH_BYTES }
 {
-    let mut by_place = Vec::with_capacity(alloc, PLACES as usize)?;
-    for _code in 0..PLACES {
-        by_place.push(None)?;
+    let (width, height) = (glyph.raster.width(), glyph.raster.height());
+    u64::from(height * width.div_ceil(8))
+}
+
+// The bytes that the raster of a code takes.
+fn bytes_at(glyphs: &GlyphMap, c: u32) -> u64
+    ensures { result ≡ raster_bytes (glyph_of glyphs.now c) }
+{
+    match glyphs.get(c) {
+        Some(glyph) => bytes_of(glyph),
+        None => 0,
     }
-    Ok(by_place)
 }
 
 impl GlyphTable {
@@ -47,8 +53,8 @@ impl GlyphTable {
         ensures { IfOk result (λ table. (c : ℕ) → glyph_of table c ≡ None) }
     {
         Ok(GlyphTable {
-            by_place: no_glyphs(alloc)?,
-            others: BTreeMap::new(alloc),
+            glyphs: GlyphMap::empty(alloc)?,
+            weight: 0,
         })
     }
 
@@ -59,11 +65,10 @@ impl GlyphTable {
             (if c == k then Some glyph else glyph_of self.old k)) }
         ensures unchanged { OnErr result (self.new ≡ self.old) }
     {
-        if c < PLACES {
-            self.by_place[c as usize] = Some(glyph);
-        } else {
-            self.others.insert(c, glyph)?;
-        }
+        let replaced = bytes_at(&self.glyphs, c);
+        let added = bytes_of(&glyph);
+        self.glyphs.put(c, glyph)?;
+        self.weight = self.weight - replaced + added;
         Ok(())
     }
 
@@ -72,10 +77,13 @@ impl GlyphTable {
         ensures { MatchOption result (glyph_of self.now c ≡ None)
             (λ g. glyph_of self.now c ≡ Some g.now) }
     {
-        if c < PLACES {
-            self.by_place[c as usize].as_ref()
-        } else {
-            self.others.get(&c)
-        }
+        self.glyphs.get(c)
+    }
+
+    /// The bytes that the rasters take together, each row in whole bytes.
+    pub fn weight(&self) -> u64
+        ensures { result ≡ glyphs_weight self.now }
+    {
+        self.weight
     }
 }

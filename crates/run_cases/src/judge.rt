@@ -2,7 +2,7 @@
 
 use crate::case::Case;
 use crate::fonts::Fonts;
-use crate::machine::is_history;
+use crate::machine::{Room, is_history};
 use cache_core::{Act, Entry};
 use outside::{FileName, Library};
 use page_workers::Worker;
@@ -141,7 +141,10 @@ pub fn wrong_with(
     history: &[Entry],
 ) -> Result<&'static str, NoMemory> {
     let used = case.setting("--workers", 1) as usize;
-    let cache = case.setting("--cache", 16) as usize;
+    let room = Room {
+        fonts: case.setting("--cache", 16) as usize,
+        bytes: case.setting("--room", 2_147_483_648),
+    };
     if !are_idle(workers) {
         return Ok(", wrong: a worker has a seat or a result");
     }
@@ -151,7 +154,7 @@ pub fn wrong_with(
     if !is_wanted(pages_drawn(workers), &case.drawn) {
         return Ok(", wrong: too few or too many pages were drawn");
     }
-    if !is_history(alloc, history, cache)? {
+    if !is_history(alloc, history, room)? {
         return Ok(", wrong: no cache makes these calls");
     }
     if case.looks.is_empty() {

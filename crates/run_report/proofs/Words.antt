@@ -26,7 +26,7 @@ visible (b ∷ bs) holds =
     let above : nat_le 33 b ≡ true = parts.0 in
     (grind (arith, nat_tests), visible bs parts.1)
 
-word_append : (xs ys : List ℕ) → IsWord xs → IsWord ys → IsWord (xs ++ ys)
+pub word_append : (xs ys : List ℕ) → IsWord xs → IsWord ys → IsWord (xs ++ ys)
 word_append [] ys none w = w
 word_append (x ∷ xs) ys v w = (v.0, word_append xs ys v.1 w)
 

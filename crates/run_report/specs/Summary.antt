@@ -1,5 +1,6 @@
 -- The summary of a run: nine lines, each a name and a number.
-use Rattle.std.specs.Prelude.{ℕ, Bool, true, false, List, ◌++◌, codes, decimal, count_by, Some}
+use Rattle.std.specs.Prelude.{ℕ, Bool, true, false, List, ◌++◌, length, codes, decimal, count_by}
+use Rattle.std.specs.List.{sum_by}
 use Rattle.cache_core.specs.declared.calls.Call.{Call}
 use Rattle.cache_core.specs.declared.calls.Done.{Done}
 use Rattle.cache_core.specs.declared.calls.Done.TheVariants.{Hit, Claimed, Busy, Filled, Released}
@@ -21,17 +22,20 @@ abbrev pub is_look : Done → Bool
 is_look Hit = true
 is_look Claimed = true
 is_look Busy = true
-is_look (Filled _) = false
+is_look (Filled _ _ _) = false
 is_look Released = false
-
--- a fill by which a key left
-abbrev pub is_eviction : Done → Bool
-is_eviction (Filled (Some left)) = true
-is_eviction _ = false
 
 -- how many calls of the history are of a kind
 abbrev pub count_of : (Done → Bool) → List Call → ℕ
 count_of is_kind history = count_by (λ c. is_kind c.done) history
+
+-- how many fonts were evicted by a call, and by those of the history
+abbrev pub evicted_by : Done → ℕ
+evicted_by (Filled _ _ gone) = length gone
+evicted_by _ = 0
+
+abbrev pub evictions_of : List Call → ℕ
+evictions_of history = sum_by (λ c. evicted_by c.done) history
 
 -- ---- the lines
 
@@ -45,7 +49,7 @@ calls_text history =
     (count_of is_hit history)
     ++ count_line (codes "claims") (count_of is_claim history) ++ count_line (codes "busy")
     (count_of is_busy history)
-    ++ count_line (codes "evictions") (count_of is_eviction history)
+    ++ count_line (codes "evictions") (evictions_of history)
     ++ count_line (codes "releases") (count_of is_release history)
 
 abbrev pub summary_text : Counts → List Call → List ℕ

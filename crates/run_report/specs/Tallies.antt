@@ -3,7 +3,7 @@ use Rattle.std.specs.Prelude.{◌≡◌, ℕ, ◌+◌, ◌-◌, ◌^◌, ◌≤�
 use Rattle.cache_core.specs.declared.calls.Call.{Call}
 use Rattle.cache_core.specs.declared.calls.Done.{Done}
 use Rattle.cache_core.specs.Laws.{is_claim, is_release}
-use Rattle.run_report.specs.Summary.{count_of, is_busy, is_eviction, is_hit, is_look}
+use Rattle.run_report.specs.Summary.{count_of, evicted_by, evictions_of, is_busy, is_hit, is_look}
 use Rattle.run_report.specs.declared.tally.Tally.{Tally}
 
 -- the counts are those of these calls
@@ -12,7 +12,7 @@ pub record IsTally (t : Tally) (history : List Call) : Type 0 where
   pub hits : t.hits ≡ count_of is_hit history
   pub claims : t.claims ≡ count_of is_claim history
   pub busy : t.busy ≡ count_of is_busy history
-  pub evictions : t.evictions ≡ count_of is_eviction history
+  pub evictions : t.evictions ≡ evictions_of history
   pub releases : t.releases ≡ count_of is_release history
 
 -- one more where the call is of the kind
@@ -25,18 +25,14 @@ pub record Counts (old new : Tally) (done : Done) : Type 0 where
   pub hits : new.hits ≡ counted is_hit done old.hits
   pub claims : new.claims ≡ counted is_claim done old.claims
   pub busy : new.busy ≡ counted is_busy done old.busy
-  pub evictions : new.evictions ≡ counted is_eviction done old.evictions
+  pub evictions : new.evictions ≡ old.evictions + evicted_by done
   pub releases : new.releases ≡ counted is_release done old.releases
 
--- each count is at most this
-pub record AtMost (t : Tally) (most : ℕ) : Type 0 where
-  pub looks : t.looks ≤ most
-  pub hits : t.hits ≤ most
-  pub claims : t.claims ≤ most
-  pub busy : t.busy ≤ most
-  pub evictions : t.evictions ≤ most
-  pub releases : t.releases ≤ most
-
--- there is room for one more
-abbrev pub HasRoom : Tally → Type 0
-HasRoom t = AtMost t (2 ^ 64 - 2)
+-- there is room for one call more, and for as many evictions as one call may make
+pub record HasRoom (t : Tally) : Type 0 where
+  pub looks : t.looks ≤ 2 ^ 64 - 2
+  pub hits : t.hits ≤ 2 ^ 64 - 2
+  pub claims : t.claims ≤ 2 ^ 64 - 2
+  pub busy : t.busy ≤ 2 ^ 64 - 2
+  pub evictions : t.evictions ≤ 2 ^ 128 - 2 ^ 64
+  pub releases : t.releases ≤ 2 ^ 64 - 2

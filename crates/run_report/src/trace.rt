@@ -1,15 +1,17 @@
 //! The trace: a line for each call of the font cache.
-ghost use Rattle.std.specs.Prelude.{◌++◌, codes, None, Some};
-ghost use Rattle.cache_core.specs.declared.calls.Done.TheVariants.{Filled};
+ghost use Rattle.std.specs.Prelude.{◌++◌, codes, map};
+ghost use Rattle.std.specs.Arc.{arc_value};
+ghost use Rattle.std.specs.List.{flat_map};
 ghost use Rattle.cache_core.specs.Views.{call_of, calls_of, done_of};
 ghost use Rattle.run_report.specs.Keys.{key_text};
 ghost use Rattle.run_report.specs.Puts.{Puts};
-ghost use Rattle.run_report.specs.Trace.{act_text, entry_line, trace_text};
+ghost use Rattle.run_report.specs.Trace.{act_text, entry_line, evicted_text, further_text, trace_text};
 
 use crate::key::put_key;
 use crate::puts::{put, put_number};
 use cache_core::{Act, Entry};
 use outside::{FontKey, Gather, Output};
+use std::sync::Arc;
 
 // Puts a look for a key and its answer.
 fn put_look<N: Output>(gather: &mut Gather, notes: &mut N, key: &FontKey, answer: &[u8])
@@ -22,25 +24,53 @@ fn put_look<N: Output>(gather: &mut Gather, notes: &mut N, key: &FontKey, answer
     put(gather, notes, answer);
 }
 
-// Puts a fill of a key for which no font left.
-fn put_fill<N: Output>(gather: &mut Gather, notes: &mut N, key: &FontKey)
+// Puts further keys whose fonts were evicted.
+fn put_further<N: Output>(gather: &mut Gather, notes: &mut N, keys: &[Arc<FontKey>])
     ensures { Puts gather.old gather.new (N.written notes.old) (N.written notes.new)
-        (N.faults notes.old) (N.faults notes.new) (act_text key.now (Filled None)) }
+        (N.faults notes.old) (N.faults notes.new)
+        (flat_map further_text (map arc_value keys.now)) }
 {
-    put(gather, notes, b"fill ");
-    put_key(gather, notes, key);
-    put(gather, notes, b" evict -");
+    for key in keys {
+        put(gather, notes, b", ");
+        put_key(gather, notes, key);
+    }
 }
 
-// Puts a fill of a key for which another key's font left.
-fn put_eviction<N: Output>(gather: &mut Gather, notes: &mut N, key: &FontKey, left: &FontKey)
+// Puts the keys whose fonts were evicted, or a dash.
+fn put_evicted<N: Output>(gather: &mut Gather, notes: &mut N, keys: &[Arc<FontKey>])
     ensures { Puts gather.old gather.new (N.written notes.old) (N.written notes.new)
-        (N.faults notes.old) (N.faults notes.new) (act_text key.now (Filled (Some left.now))) }
+        (N.faults notes.old) (N.faults notes.new) (evicted_text (map arc_value keys.now)) }
+{
+    match keys.split_first() {
+        None => put(gather, notes, b"-"),
+        Some((first, further)) => {
+            put_key(gather, notes, first);
+            put_further(gather, notes, further);
+        }
+    }
+}
+
+// Puts a fill of a key whose font is kept, and the keys whose fonts were evicted for it.
+fn put_fill<N: Output>(gather: &mut Gather, notes: &mut N, key: &FontKey, gone: &[Arc<FontKey>])
+    ensures { Puts gather.old gather.new (N.written notes.old) (N.written notes.new)
+        (N.faults notes.old) (N.faults notes.new) (codes "fill " ++ key_text key.now
+        ++ codes " evict " ++ evicted_text (map arc_value gone.now)) }
 {
     put(gather, notes, b"fill ");
     put_key(gather, notes, key);
     put(gather, notes, b" evict ");
-    put_key(gather, notes, left);
+    put_evicted(gather, notes, gone);
+}
+
+// Puts a fill of a key whose font isn't kept.
+fn put_not_kept<N: Output>(gather: &mut Gather, notes: &mut N, key: &FontKey)
+    ensures { Puts gather.old gather.new (N.written notes.old) (N.written notes.new)
+        (N.faults notes.old) (N.faults notes.new)
+        (codes "fill " ++ key_text key.now ++ codes " not kept") }
+{
+    put(gather, notes, b"fill ");
+    put_key(gather, notes, key);
+    put(gather, notes, b" not kept");
 }
 
 // Puts a key that is claimed no longer.
@@ -61,8 +91,12 @@ fn put_act<N: Output>(gather: &mut Gather, notes: &mut N, key: &FontKey, act: &A
         Act::Hit => put_look(gather, notes, key, b" hit"),
         Act::Claimed => put_look(gather, notes, key, b" claimed"),
         Act::Busy => put_look(gather, notes, key, b" busy"),
-        Act::Filled { gone: None } => put_fill(gather, notes, key),
-        Act::Filled { gone: Some(left) } => put_eviction(gather, notes, key, left),
+        Act::Filled {
+            kept: true,
+            gone,
+            ..
+        } => put_fill(gather, notes, key, gone.keys()),
+        Act::Filled { kept: false, .. } => put_not_kept(gather, notes, key),
         Act::Released => put_release(gather, notes, key),
     }
 }

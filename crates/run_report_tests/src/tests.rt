@@ -5,6 +5,7 @@ mod histories;
 mod long;
 mod prints;
 mod rows;
+mod texts;
 
 use histories::history_of;
 use prints::printed;

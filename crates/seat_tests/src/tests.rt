@@ -14,7 +14,8 @@ use std::sync::Arc;
 use std::sync::atomic::{AtomicU32, Ordering};
 use std::thread;
 
-// A font that stands for keys of its size. Its number says which one of them it is.
+// A font that stands for keys of its size. Its number says which one of them it is, and what it
+// weighs.
 #[derive(Drop)]
 struct Sized {
     size: u32,
@@ -25,6 +26,12 @@ impl Stands for Sized {
     ghost use Rattle.std.specs.Prelude.{◌≡◌};
 
     ghost stands_for = { λ font k part. font.size ≡ k.size };
+
+    ghost weighs = { λ font. font.number };
+
+    fn weight(&self) -> u64 {
+        u64::from(self.number)
+    }
 }
 
 fn key_of(alloc: Global, name: &[u8], size: u32) -> Result<Arc<FontKey>, NoMemory>

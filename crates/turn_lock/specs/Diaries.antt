@@ -19,6 +19,7 @@ EndsWith c calls = (before : List Call) × (calls ≡ before ++ c ∷ [])
 abbrev pub any_part : Common
 any_part = record {
   capacity = 1;
+  budget = 1;
   units = record { num = 1; den = 1; mag = 1; res = 1 };
   library = None;
 }

@@ -53,6 +53,7 @@ spent_view =
       seen = [];
       part = record {
         capacity = 0;
+        budget = 0;
         units = record { num = 0; den = 0; mag = 0; res = 0 };
         library = None;
       };

@@ -15,3 +15,5 @@ pub mod Answered
 pub mod Total
 pub mod Balanced
 pub mod SmallFonts
+pub mod Weighed
+pub mod PacketsFit

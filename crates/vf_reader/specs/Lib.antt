@@ -10,3 +10,4 @@ pub mod Stops
 pub mod Walked
 pub mod Laws
 pub mod Examples
+pub mod Weights

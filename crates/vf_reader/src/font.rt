@@ -3,6 +3,7 @@ ghost use Rattle.std.specs.Prelude.{◌≡◌, MatchOption, None, Some, slice_ge
 ghost use Rattle.std.specs.Option.{option_map};
 ghost use Rattle.vf_reader.specs.Fonts.{packet_of};
 ghost use Rattle.vf_reader.specs.Locals.{local_with};
+ghost use Rattle.vf_reader.specs.Weights.{packets_weight};
 
 use crate::LocalDef;
 use crate::local_table::LocalTable;
@@ -41,6 +42,13 @@ impl VfFont {
             Some(Span { start, end }) => Some(&self.bytes[start..end]),
             None => None,
         }
+    }
+
+    /// The bytes of the packets together, one for each code.
+    pub fn weight(&self) -> u128
+        ensures { result ≡ packets_weight self.now }
+    {
+        self.packets.weight()
     }
 
     /// The local font with a number.

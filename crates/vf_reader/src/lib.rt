@@ -17,6 +17,7 @@ mod packet_table;
 mod preamble;
 mod program;
 mod read;
+mod span_map;
 
 pub use faults::{VfFault, VfStop};
 pub use font::VfFont;

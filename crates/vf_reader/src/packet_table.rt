@@ -1,13 +1,11 @@
-//! Where a font's packets are.
-ghost use Rattle.std.specs.Prelude.{◌≡◌, ◌==◌, ℕ, IfOk, None, OnOk, Some, if◌then◌else◌, replicate};
+//! Where a font's packets are, and what they weigh.
+ghost use Rattle.std.specs.Prelude.{◌≡◌, ◌==◌, ◌≤◌, ℕ, IfOk, None, OnOk, Some, if◌then◌else◌};
 ghost use Rattle.vf_reader.specs.Fonts.{span_of};
+ghost use Rattle.vf_reader.specs.Weights.{MAX_SPAN_BYTES, span_bytes, spans_weight};
 
+use crate::span_map::SpanMap;
 use std::alloc::{AllocError as NoMemory, Global};
-use std::collections::BTreeMap;
 use std::marker::Model;
-
-// The codes that have a place in the table.
-const TABLE_CODES: u32 = 256;
 
 /// A part of the file's bytes, up to `end`.
 #[derive(Clone, Copy, Debug, PartialEq, Eq)]
@@ -16,34 +14,35 @@ pub struct Span {
     pub end: usize,
 }
 
-/// A span for each code that has a packet. A contract sees it as the spans of the codes from 0 to
-/// 255 by their places and those of the others by their codes; `span_of` says which one a code has.
+/// A span for each code that has a packet, and the bytes that they take together. A contract sees
+/// it as the spans of the codes from 0 to 255 by their places and those of the others by their
+/// codes; `span_of` says which one a code has, and `spans_weight` what they weigh.
 #[derive(Drop)]
 pub struct PacketTable {
-    table: Vec<Option<Span>>,
-    others: BTreeMap<u32, Span>,
+    spans: SpanMap,
+    weight: u128,
 }
 
 impl Model for PacketTable {
-    ghost use Rattle.std.specs.Prelude.{◌≡◌, length};
     ghost use Rattle.vf_reader.specs.Fonts.{Spans};
+    ghost use Rattle.vf_reader.specs.Weights.{IsWeighed};
 
     ghost Value = { Spans };
 
-    ghost view = { λ t. record { table = t.table.items; others = t.others.entries } };
+    ghost view = { λ t. t.spans };
 
-    ghost invariant = { λ t. length t.table.items ≡ 256 };
+    ghost invariant = { λ t. IsWeighed t.spans t.weight };
 }
 
-// A table without spans.
-fn no_spans(alloc: Global) -> Result<Vec<Option<Span>>, NoMemory>
-    ensures { IfOk result (λ table. table.items ≡ replicate 256 None) }
+// The bytes of a span.
+fn bytes_of(span: Option<Span>) -> usize
+    ensures bytes { result ≡ span_bytes span }
+    ensures few { result ≤ MAX_SPAN_BYTES }
 {
-    let mut table = Vec::with_capacity(alloc, TABLE_CODES as usize)?;
-    for _code in 0..TABLE_CODES {
-        table.push(None)?;
+    match span {
+        Some(Span { start, end }) => end.saturating_sub(start),
+        None => 0,
     }
-    Ok(table)
 }
 
 impl PacketTable {
@@ -52,8 +51,8 @@ impl PacketTable {
         ensures { IfOk result (λ table. (c : ℕ) → span_of table c ≡ None) }
     {
         Ok(PacketTable {
-            table: no_spans(alloc)?,
-            others: BTreeMap::new(alloc),
+            spans: SpanMap::empty(alloc)?,
+            weight: 0,
         })
     }
 
@@ -62,11 +61,10 @@ impl PacketTable {
         ensures { OnOk result ((k : ℕ) → span_of self.new k
             ≡ (if c == k then Some span else span_of self.old k)) }
     {
-        if c < TABLE_CODES {
-            self.table[c as usize] = Some(span);
-        } else {
-            self.others.insert(c, span)?;
-        }
+        let replaced = bytes_of(self.spans.get(c)) as u128;
+        let added = bytes_of(Some(span)) as u128;
+        self.spans.put(c, span)?;
+        self.weight = self.weight - replaced + added;
         Ok(())
     }
 
@@ -74,10 +72,13 @@ impl PacketTable {
     pub fn get(&self, c: u32) -> Option<Span>
         ensures { result ≡ span_of self.now c }
     {
-        if c < TABLE_CODES {
-            self.table[c as usize]
-        } else {
-            self.others.get(&c).copied()
-        }
+        self.spans.get(c)
+    }
+
+    /// The bytes that the spans take together, one for each code.
+    pub fn weight(&self) -> u128
+        ensures { result ≡ spans_weight self.now }
+    {
+        self.weight
     }
 }

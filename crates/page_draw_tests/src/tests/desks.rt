@@ -56,8 +56,8 @@ fn letters_of(calls: &[Entry]) -> [u8; 10] {
                 Act::Hit => b'h',
                 Act::Claimed => b'c',
                 Act::Busy => b'b',
-                Act::Filled { gone: None } => b'f',
-                Act::Filled { gone: Some(_) } => b'g',
+                Act::Filled { gone, .. } if gone.keys().is_empty() => b'f',
+                Act::Filled { .. } => b'g',
                 Act::Released => b'r',
             };
             letters[2 * at + 1] = call.key.name.bytes().first().copied().unwrap_or(b'?');
@@ -101,7 +101,7 @@ fn over_solo<R: Wait>(rt: &R, alloc: Global, index: &Index, fails: &[u64]) -> Re
     if index.pages() == 0 {
         return Err(Fail::from("no page"));
     }
-    let mut desk = SoloDesk::new(alloc, fonts(alloc, fails)?, index.units(), 1)?;
+    let mut desk = SoloDesk::new(alloc, fonts(alloc, fails)?, index.units(), 1, 2_147_483_648)?;
     let drawn = draw(rt, alloc, &mut desk, &(), index, 0, &SHEET);
     let (source, calls) = desk.finish();
     Ok(told_of(&drawn, &source, &calls))

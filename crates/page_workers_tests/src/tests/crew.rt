@@ -107,7 +107,7 @@ pub fn one_round<R: Threads + Wait + Sync, F: FontSource + Send>(
         return Err(Fail::from("no page, or more than a round has"));
     }
     let units = index.units();
-    let (cache, mut first) = open_cache(alloc, capacity, &units)?;
+    let (cache, mut first) = open_cache(alloc, capacity, 2_147_483_648, &units)?;
     let bench = Bench { cache, units };
     seat_all(&bench.cache, &mut first, workers);
     draw_round(rt, alloc, workers, &bench, index, &SHEET, 0, count)?;

@@ -12,15 +12,17 @@ use std::alloc::{AllocError as NoMemory, Global};
 pub fn open_cache<T: Stands>(
     alloc: Global,
     capacity: usize,
+    budget: u64,
     _units: &Units,
 ) -> Result<(FontCache<T>, CacheSeat<T>), NoMemory>
     ghost part: { Common }
     requires some_font { 1 ≤ capacity }
     requires few_fonts { capacity ≤ 256 }
     requires capacity { capacity ≡ part.capacity }
+    requires budget { budget ≡ part.budget }
     requires units { _units.now ≡ part.units }
     ensures lock { IfOk result (λ made. made.1.lock ≡ made.0) }
     ensures seat { IfOk result (λ made. made.1.view ≡ opening_view part) }
 {
-    FontCache::make(alloc, capacity)
+    FontCache::make(alloc, capacity, budget)
 }

@@ -77,12 +77,12 @@ fn counts_of(history: &[Entry]) -> [u32; 6] {
             Act::Hit => 0,
             Act::Claimed => 1,
             Act::Busy => 2,
-            Act::Filled { gone: _ } => 3,
+            Act::Filled { .. } => 3,
             Act::Released => 4,
         };
         counts[kind] = counts[kind].saturating_add(1);
-        if let Act::Filled { gone: Some(_) } = &entry.act {
-            counts[5] = counts[5].saturating_add(1);
+        if let Act::Filled { gone, .. } = &entry.act {
+            counts[5] = counts[5].saturating_add(gone.keys().len() as u32);
         }
     }
     counts

@@ -1,20 +1,21 @@
 //! Histories of a font cache, written as their calls.
 
-use cache_core::{Act, Entry};
+use cache_core::{Act, Entry, Keys};
 use outside::{FontKey, FontName};
 use std::alloc::Global;
 use std::sync::Arc;
 use std::test::Fail;
 
-/// What was done with a key. The font of another one left for the last.
+/// What was done with a key. For the last the fonts of other keys were evicted.
 #[derive(Clone, Copy)]
 pub enum Done {
     Hit,
     Claimed,
     Busy,
     Released,
+    NotKept,
     Filled,
-    Evicted(&'static [u8]),
+    Evicted(&'static [&'static [u8]]),
 }
 
 /// How often a call stands there, its seat, and the name of its key.
@@ -31,16 +32,28 @@ pub fn sized(alloc: Global, name: &[u8], size: u32, design: u32) -> Result<Arc<F
     Ok(Arc::new(alloc, key)?)
 }
 
+// A fill with a font that weighs 2 bytes.
+fn fill(alloc: Global, kept: bool, names: &[&[u8]]) -> Result<Act, Fail> {
+    let mut gone = Vec::new(alloc);
+    for name in names {
+        gone.push(sized(alloc, name, 128, 128)?)?;
+    }
+    Ok(Act::Filled {
+        weight: 2,
+        kept,
+        gone: Keys::new(gone),
+    })
+}
+
 fn act_of(alloc: Global, done: Done) -> Result<Act, Fail> {
     Ok(match done {
         Done::Hit => Act::Hit,
         Done::Claimed => Act::Claimed,
         Done::Busy => Act::Busy,
         Done::Released => Act::Released,
-        Done::Filled => Act::Filled { gone: None },
-        Done::Evicted(name) => Act::Filled {
-            gone: Some(sized(alloc, name, 128, 128)?),
-        },
+        Done::NotKept => fill(alloc, false, &[])?,
+        Done::Filled => fill(alloc, true, &[])?,
+        Done::Evicted(names) => fill(alloc, true, names)?,
     })
 }
 

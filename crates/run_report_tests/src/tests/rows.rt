@@ -2,6 +2,7 @@
 
 use super::histories::{Call, Done};
 use super::prints::Print;
+use super::texts::{SUMMARY_OF_EACH, SUMMARY_OF_HEAVY, SUMMARY_OF_NONE, SUMMARY_OF_ONE, SUMMARY_OF_PAGES, SUMMARY_OF_THREE, TRACE_OF_HEAVY, TRACE_OF_ITSELF, TRACE_OF_ONE, TRACE_OF_THREE};
 use run_report::Counts;
 
 // A virtual font and its two fonts, which load two, three and three files.
@@ -16,13 +17,13 @@ const OF_ONE: [Call; 10] = [
     (1, 1, b"duo", Done::Claimed),
     (1, 1, b"duo", Done::Filled),
     (1, 1, b"dot", Done::Claimed),
-    (1, 1, b"dot", Done::Evicted(b"duo")),
+    (1, 1, b"dot", Done::Evicted(&[b"duo"])),
     (1, 1, b"bar", Done::Claimed),
-    (1, 1, b"bar", Done::Evicted(b"dot")),
+    (1, 1, b"bar", Done::Evicted(&[b"dot"])),
     (1, 1, b"dot", Done::Claimed),
-    (1, 1, b"dot", Done::Evicted(b"bar")),
+    (1, 1, b"dot", Done::Evicted(&[b"bar"])),
     (1, 1, b"bar", Done::Claimed),
-    (1, 1, b"bar", Done::Evicted(b"dot")),
+    (1, 1, b"bar", Done::Evicted(&[b"dot"])),
 ];
 
 // In a cache of three fonts the second looks hit.
@@ -53,7 +54,7 @@ const EACH_KIND: [Call; 12] = [
     (1, 1, b"duo", Done::Claimed),
     (1, 1, b"duo", Done::Filled),
     (1, 1, b"dot", Done::Claimed),
-    (1, 1, b"dot", Done::Evicted(b"duo")),
+    (1, 1, b"dot", Done::Evicted(&[b"duo"])),
     (1, 2, b"bar", Done::Claimed),
     (1, 3, b"bar", Done::Busy),
     (1, 2, b"bar", Done::Released),
@@ -62,6 +63,21 @@ const EACH_KIND: [Call; 12] = [
     (1, 2, b"bar", Done::Released),
     (1, 4, b"bar", Done::Busy),
     (5, 4, b"dot", Done::Hit),
+];
+
+// One font drives three out, and another one is too heavy.
+const TOO_HEAVY: [Call; 11] = [
+    (1, 1, b"duo", Done::Claimed),
+    (1, 1, b"duo", Done::Filled),
+    (1, 1, b"dot", Done::Claimed),
+    (1, 1, b"dot", Done::Filled),
+    (1, 1, b"bar", Done::Claimed),
+    (1, 1, b"bar", Done::Filled),
+    (1, 1, b"big", Done::Claimed),
+    (1, 1, b"big", Done::Evicted(&[b"duo", b"dot", b"bar"])),
+    (1, 1, b"huge", Done::Claimed),
+    (1, 1, b"huge", Done::NotKept),
+    (1, 1, b"big", Done::Hit),
 ];
 
 // A font that is in no file is looked up, and its fault is filled in.
@@ -84,97 +100,6 @@ const GIVEN_UP: [Call; 3] = [
     (1, 1, b"duo", Done::Released),
 ];
 
-const TRACE_OF_ONE: &'static str = "1 look duo 128 128 claimed
-1 fill duo 128 128 evict -
-1 look dot 128 128 claimed
-1 fill dot 128 128 evict duo 128 128
-1 look bar 128 128 claimed
-1 fill bar 128 128 evict dot 128 128
-1 look dot 128 128 claimed
-1 fill dot 128 128 evict bar 128 128
-1 look bar 128 128 claimed
-1 fill bar 128 128 evict dot 128 128
-";
-
-const TRACE_OF_THREE: &'static str = "1 look duo 128 128 claimed
-1 fill duo 128 128 evict -
-1 look dot 128 128 claimed
-1 fill dot 128 128 evict -
-1 look bar 128 128 claimed
-1 fill bar 128 128 evict -
-1 look dot 128 128 hit
-1 look bar 128 128 hit
-";
-
-const TRACE_OF_ITSELF: &'static str = "1 look loop 128 128 claimed
-1 fill loop 128 128 evict -
-1 look loop 128 128 hit
-1 look loop 128 128 hit
-1 look loop 128 128 hit
-1 look loop 128 128 hit
-1 look loop 128 128 hit
-1 look loop 128 128 hit
-1 look loop 128 128 hit
-1 look loop 128 128 hit
-1 look loop 128 128 hit
-1 look loop 128 128 hit
-";
-
-const SUMMARY_OF_ONE: &'static str = "pages 1
-looks 5
-hits 0
-claims 5
-busy 0
-evictions 4
-releases 0
-loads 14
-black 22
-";
-
-const SUMMARY_OF_THREE: &'static str = "pages 1
-looks 5
-hits 2
-claims 3
-busy 0
-evictions 0
-releases 0
-loads 8
-black 22
-";
-
-const SUMMARY_OF_PAGES: &'static str = "pages 3
-looks 54
-hits 51
-claims 3
-busy 0
-evictions 0
-releases 0
-loads 8
-black 372
-";
-
-const SUMMARY_OF_EACH: &'static str = "pages 18446744073709551615
-looks 12
-hits 5
-claims 4
-busy 3
-evictions 1
-releases 2
-loads 340282366920938463463374607431768211455
-black 0
-";
-
-const SUMMARY_OF_NONE: &'static str = "pages 0
-looks 0
-hits 0
-claims 0
-busy 0
-evictions 0
-releases 0
-loads 0
-black 18446744073709551615
-";
-
 // The numbers of bytes that one write takes at most.
 const PIECES: [usize; 3] = [1, 7, 1000];
 
@@ -186,7 +111,7 @@ pub static ROWS: [(
     &'static [usize],
     &'static [u64],
     &'static str,
-); 19] = [
+); 21] = [
     (Print::Trace, &OF_ONE, &PIECES, &[], TRACE_OF_ONE),
     (Print::Trace, &OF_THREE, &PIECES, &[], TRACE_OF_THREE),
     (
@@ -205,6 +130,14 @@ pub static ROWS: [(
         "1 look duo 128 128 claimed\n32 look duo 128 128 busy\n1 release duo 128 128\n",
     ),
     (Print::Trace, &[], &PIECES, &[], ""),
+    (Print::Trace, &TOO_HEAVY, &PIECES, &[], TRACE_OF_HEAVY),
+    (
+        Print::Summary(ONE_PAGE),
+        &TOO_HEAVY,
+        &PIECES,
+        &[],
+        SUMMARY_OF_HEAVY,
+    ),
     (
         Print::Summary(ONE_PAGE),
         &OF_THREE,

@@ -21,7 +21,7 @@ mod one_key;
 mod walk;
 
 // Seat 1 looks the key up, seat 2 does, seat 1 fills it with font 7, and seat 2 looks it up again.
-// Tells whether no font left, and the number of the font that was found.
+// Tells whether it was kept and no font left, and the number of the font that was found.
 fn two_seats<R: Wait>(rt: &R, alloc: Global) -> Result<(bool, u32, Vec<Entry>), NoMemory> {
     let key = key_of(alloc, b"dot", 128)?;
     let font = Arc::new(
@@ -31,7 +31,7 @@ fn two_seats<R: Wait>(rt: &R, alloc: Global) -> Result<(bool, u32, Vec<Entry>), 
             number: 7,
         },
     )?;
-    let (cache, mut first) = FontCache::make(alloc, 2)?;
+    let (cache, mut first) = FontCache::make(alloc, 2, 7)?;
     let mut one = cache.split(&mut first);
     let mut two = cache.split(&mut first);
     let Look::Claimed = cache.look(rt, &mut one, &key)? else {
@@ -40,7 +40,7 @@ fn two_seats<R: Wait>(rt: &R, alloc: Global) -> Result<(bool, u32, Vec<Entry>), 
     let Look::Busy = cache.look(rt, &mut two, &key)? else {
         return Err(NoMemory);
     };
-    let Ok(gone) = cache.fill(rt, &mut one, &key, font) else {
+    let Ok(fill) = cache.fill(rt, &mut one, &key, font) else {
         return Err(NoMemory);
     };
     let Look::Hit(found) = cache.look(rt, &mut two, &key)? else {
@@ -48,7 +48,8 @@ fn two_seats<R: Wait>(rt: &R, alloc: Global) -> Result<(bool, u32, Vec<Entry>), 
     };
     cache.join(&mut first, one);
     cache.join(&mut first, two);
-    Ok((gone.is_none(), found.number, cache.close(first)))
+    let kept_alone = fill.kept && fill.gone.keys().is_empty();
+    Ok((kept_alone, found.number, cache.close(first)))
 }
 
 // Seat 0 claims the key, as for a load that fails, while seat 1 is answered that it is busy. When
@@ -63,7 +64,7 @@ fn released<R: Wait>(rt: &R, alloc: Global) -> Result<(u64, u32, Vec<Entry>), No
             number: 8,
         },
     )?;
-    let (cache, mut first) = FontCache::make(alloc, 1)?;
+    let (cache, mut first) = FontCache::make(alloc, 1, 8)?;
     let mut one = cache.split(&mut first);
     let Look::Claimed = cache.look(rt, &mut first, &key)? else {
         return Err(NoMemory);
@@ -158,7 +159,7 @@ fn rounds<R: Wait>(
 // history.
 fn two_threads<R: Threads + Wait + Sync>(rt: &R, alloc: Global) -> Option<(u32, Vec<Entry>)> {
     let key = key_of(alloc, b"dot", 128).ok()?;
-    let (cache, mut first) = FontCache::make(alloc, 2).ok()?;
+    let (cache, mut first) = FontCache::make(alloc, 2, 9).ok()?;
     let one = cache.split(&mut first);
     let two = cache.split(&mut first);
     let by = &cache;
@@ -206,9 +207,9 @@ static SHARED: [(u32, char); 4] = [(1, 'c'), (2, 'b'), (1, 'f'), (2, 'h')];
 
 #[test]
 fn one_key_and_two_seats(rt: HostRuntime) -> Result<(), Fail> {
-    let (nothing_left, number, entries) = two_seats(&rt, rt.alloc())?;
+    let (kept_alone, number, entries) = two_seats(&rt, rt.alloc())?;
     assert_eq!(rt;
-        (nothing_left, number, are_told(&entries, &SHARED)),
+        (kept_alone, number, are_told(&entries, &SHARED)),
         (true, 7, true)
     );
     Ok(())

@@ -1,4 +1,4 @@
-use Rattle.std.proofs.Common.{◌≡◌, ◌+◌, ℕ, [], Option, None, length, get_or, refl, sym, subst, ap, ◌∙◌, arith, rules}
+use Rattle.std.proofs.Common.{◌≡◌, ◌+◌, [], Option, None, length, get_or, refl, sym, subst, ap, ◌∙◌, arith, rules}
 use Rattle.std.specs.Prelude.{IfSome}
 use Rattle.outside.specs.Library.{FileTable}
 use Rattle.outside.proofs.Growth.{grown_none}
@@ -7,6 +7,9 @@ use Rattle.turn_lock.specs.declared.view.View.{View}
 use Rattle.turn_lock.specs.Views.{opening_view}
 use Rattle.cache_core.specs.Views.{calls_of}
 use Rattle.cache_core.specs.Histories.{own}
+use Rattle.cache_core.specs.States.{limits_of}
+use Rattle.cache_core.specs.declared.limits.Limits.{Limits}
+use Rattle.dvi_run.specs.CacheLimits.{cache_limits}
 use Rattle.dvi_run.specs.Endings.{Memory}
 use Rattle.dvi_run.specs.Looked.{EveryPageCameToItsEnd, MayBreakOff}
 use Rattle.dvi_run.specs.Rounds.{IsNewBench, WorkerRan}
@@ -14,10 +17,11 @@ use Rattle.dvi_run.proofs.WorkerSeats.{unused}
 use Rattle.dvi_run.proofs.Shares.{none_shared}
 use Rattle.dvi_run.proofs.shared_cache.draw_with_shared_cache.Goals as goal
 
-opening_is : (v : View) (capacity : ℕ) (u : Units) (l : Option FileTable) → v ≡ opening_view (record { capacity = capacity; units = u; library = l }) → v ≡ opening_view (record { capacity = v.part.capacity; units = u; library = l })
-opening_is v capacity u l e =
-    let c : v.part.capacity ≡ capacity = ap (λ (x : View). x.part.capacity) e in
-    e ∙ ap (λ (n : ℕ). opening_view (record { capacity = n; units = u; library = l })) (sym c)
+opening_is : (v : View) (limits : Limits) (u : Units) (l : Option FileTable) → v ≡ opening_view (record { capacity = limits.capacity; budget = limits.budget; units = u; library = l })
+    → v ≡ opening_view (record { capacity = v.part.capacity; budget = v.part.budget; units = u; library = l })
+opening_is v limits u l e =
+    let same : limits_of v.part ≡ limits = ap (λ (x : View). limits_of x.part) e in
+    e ∙ ap (λ (n : Limits). opening_view (record { capacity = n.capacity; budget = n.budget; units = u; library = l })) (sym same)
 
 pub returns-in_default-clause-ends : goal.returns-in_default-clause-ends
 returns-in_default-clause-ends g c =
@@ -35,8 +39,8 @@ returns-in_default-clause-workers g c =
 pub draw_with_cache-ending-requires : goal.draw_with_cache-ending-requires
 draw_with_cache-ending-requires g c κs within =
     let q = c.requires.1.1.1.1.1 in
-    let made : IsNewBench c.args.settings.now.cache g.known c.args.index.now c.in-Some.opening.0 c.in-Some.opening.1 =
-    subst (λ o. IfSome o (λ made. IsNewBench c.args.settings.now.cache g.known c.args.index.now made.0 made.1)) c.in-Some.is q.1.1.1.0 in (
+    let made : IsNewBench (cache_limits c.args.settings.now) g.known c.args.index.now c.in-Some.opening.0 c.in-Some.opening.1 =
+    subst (λ o. IfSome o (λ made. IsNewBench (cache_limits c.args.settings.now) g.known c.args.index.now made.0 made.1)) c.in-Some.is q.1.1.1.0 in (
       search rules fits 100000 depth 60,
       (
         search rules fits 100000 depth 60,
@@ -58,7 +62,7 @@ draw_with_cache-ending-requires g c κs within =
                         made.sound,
                         (
                           made.lock,
-                          (opening_is c.in-Some.opening.1.view c.args.settings.now.cache c.in-Some.opening.0.units g.known made.opening, q.1.1.1.1.0),
+                          (opening_is c.in-Some.opening.1.view (cache_limits c.args.settings.now) c.in-Some.opening.0.units g.known made.opening, q.1.1.1.1.0),
                         ),
                       ),
                     ),

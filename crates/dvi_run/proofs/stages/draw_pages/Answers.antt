@@ -3,6 +3,8 @@ use Rattle.std.specs.Prelude.{IfOk, IfSome}
 use Rattle.atomic_table.specs.Seated.{TableId}
 use Rattle.std.proofs.lemmas.List.{length-take-le}
 use Rattle.outside.specs.Library.{FileTable}
+use Rattle.cache_core.specs.declared.limits.Limits.{Limits}
+use Rattle.dvi_run.specs.CacheLimits.{cache_limits}
 use Rattle.pixel_round.specs.Preamble.{AreUnits}
 use Rattle.pixel_round.specs.declared.units.Units.{Units}
 use Rattle.page_index.specs.Pages.{Indexed, document_units}
@@ -21,17 +23,17 @@ use Rattle.dvi_run.proofs.RunOfWorkers.{history_for_sample, of_prefix, one_histo
 use Rattle.dvi_run.proofs.stages.draw_pages.Goals as goal
 
 -- a bench with a new cache, where there was memory for one
-new_bench : (known : Option FileTable) (capacity : ℕ) (indexed : Indexed) (units : Units) → document_units indexed.res indexed.reading ≡ Some units → AreUnits units → {E : Type 0} (opened : Result (TableId × SeatView) E) (made : Option (Bench × SeatView))
-    → IfOk opened (λ m. m.1.lock ≡ m.0) → IfOk opened (λ m. m.1.view ≡ opening_view (record { capacity = capacity; units = units; library = known })) → IfSome made (λ b. b.0.units ≡ units) → IfSome made (λ b. opened ≡ Ok (b.0.cache, b.1))
-    → IfSome made (λ b. IsNewBench capacity known indexed b.0 b.1)
-new_bench known capacity indexed units of_document sound opened None lock seat same is = tt
-new_bench known capacity indexed units of_document sound opened (Some b) lock seat same is =
-    let view : b.1.view ≡ opening_view (record { capacity = capacity; units = units; library = known }) = subst (λ r. IfOk r (λ m. m.1.view ≡ opening_view (record { capacity = capacity; units = units; library = known }))) is seat in
+new_bench : (known : Option FileTable) (limits : Limits) (indexed : Indexed) (units : Units) → document_units indexed.res indexed.reading ≡ Some units → AreUnits units → {E : Type 0} (opened : Result (TableId × SeatView) E) (made : Option (Bench × SeatView))
+    → IfOk opened (λ m. m.1.lock ≡ m.0) → IfOk opened (λ m. m.1.view ≡ opening_view (record { capacity = limits.capacity; budget = limits.budget; units = units; library = known })) → IfSome made (λ b. b.0.units ≡ units) → IfSome made (λ b. opened ≡ Ok (b.0.cache, b.1))
+    → IfSome made (λ b. IsNewBench limits known indexed b.0 b.1)
+new_bench known limits indexed units of_document sound opened None lock seat same is = tt
+new_bench known limits indexed units of_document sound opened (Some b) lock seat same is =
+    let view : b.1.view ≡ opening_view (record { capacity = limits.capacity; budget = limits.budget; units = units; library = known }) = subst (λ r. IfOk r (λ m. m.1.view ≡ opening_view (record { capacity = limits.capacity; budget = limits.budget; units = units; library = known }))) is seat in
     record {
       units = of_document ∙ ap Some (sym same);
       sound = subst AreUnits (sym same) sound;
       lock = subst (λ r. IfOk r (λ m. m.1.lock ≡ m.0)) is lock;
-      opening = subst (λ (u : Units). b.1.view ≡ opening_view (record { capacity = capacity; units = u; library = known })) (sym same) view;
+      opening = subst (λ (u : Units). b.1.view ≡ opening_view (record { capacity = limits.capacity; budget = limits.budget; units = u; library = known })) (sym same) view;
     }
 
 pub draw_with_shared_cache-ending-requires : goal.draw_with_shared_cache-ending-requires
@@ -43,7 +45,7 @@ draw_with_shared_cache-ending-requires g c κs within =
     let cache = c.open_cache-opened.ensures in
     let bench = c.bench_with-opening.ensures in
     let opening =
-    new_bench g.known c.args.settings.now.cache c.args.index.now c.units-units.result c.units-units.ensures.value c.units-units.ensures.fits c.open_cache-opened.result c.bench_with-opening.result cache.lock cache.seat bench.same bench.made in
+    new_bench g.known (cache_limits c.args.settings.now) c.args.index.now c.units-units.result c.units-units.ensures.value c.units-units.ensures.fits c.open_cache-opened.result c.bench_with-opening.result cache.lock cache.seat bench.same bench.made in
     (search rules fits 100000 depth 60, (search rules fits 100000 depth 60, (search rules fits 100000 depth 60, (search rules fits 100000 depth 60, (search rules fits 100000 depth 60, (prefix_some n ws there q.0.workers.0, (prefix_few n ws there q.0.workers.1, (search rules, (opening, (prefix_fresh g.F.FontSource.library g.known n ws there q.1.1.0, prefix_seatless g.F.FontSource.library g.known n ws there q.1.1.0))))))))))
 
 pub returns-clause-drew : goal.returns-clause-drew

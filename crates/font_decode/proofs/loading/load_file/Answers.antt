@@ -1,4 +1,4 @@
-use Rattle.std.proofs.Common.{◌≡◌, List, ℕ, rules}
+use Rattle.std.proofs.Common.{◌≡◌, rules}
 use Rattle.font_decode.specs.Names.{name_at}
 use Rattle.font_decode.proofs.Asking.{until_of}
 use Rattle.font_decode.proofs.loading.load_file.Goals as goal

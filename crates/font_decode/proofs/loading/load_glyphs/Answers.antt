@@ -1,4 +1,4 @@
-use Rattle.std.proofs.Common.{◌≡◌, true, false, ◌+◌, [], ◌∷◌, ℕ, List, Vec, Global, length, arith}
+use Rattle.std.proofs.Common.{◌≡◌, true, false, ℕ, List, Vec, Global, arith}
 use Rattle.std.specs.Prelude.{is_some}
 use Rattle.std.specs.Option.{option_map}
 use Rattle.outside.specs.Library.{Asks}

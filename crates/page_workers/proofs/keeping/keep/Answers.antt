@@ -1,11 +1,10 @@
-use Rattle.std.proofs.Common.{◌∙◌, Global, Option, Result, Ok, Err, IfOk, sym}
+use Rattle.std.proofs.Common.{◌∙◌, Result, Ok, Err, IfOk, sym, ap}
 use Rattle.std.specs.Prelude.{IsOk}
-use Rattle.std.specs.Option.{option_map}
 use Rattle.std.specs.Arc.{arc_value}
-use Rattle.std.specs.declared.sync.Arc.{Arc}
-use Rattle.outside.specs.declared.keys.FontKey.{FontKey}
 use Rattle.cache_core.specs.declared.calls.Done.TheVariants.{Filled}
+use Rattle.cache_core.specs.declared.entry.Fill.{Fill}
 use Rattle.font_cache.specs.Turns.{NotedCall}
+use Rattle.font_decode.specs.Weights.{weight_of}
 use Rattle.page_workers.proofs.keeping.keep.Goals as goal
 
 -- what holds of an answer that there is
@@ -18,7 +17,6 @@ returns-then-is_ok-clause-filled g c =
     let key = arc_value c.args.key.now in
     let before = c.args.seat.now.view in
     let after = c.fill.new.seat.view in
-    let filled = first_of_ok
-    (λ (gone : Option (Arc FontKey Global)). NotedCall key (Filled (option_map arc_value gone)) before after)
-    c.fill.result (sym c.is_ok.ensures.value ∙ c.if-is_ok.true) c.fill.ensures.noted in
-    (option_map arc_value filled.0, filled.1.own)
+    let weight = weight_of (arc_value c.in-Ok.kept) in
+    let filled = first_of_ok (λ (f : Fill). NotedCall key (Filled weight f.kept f.gone) before after) c.fill.result (sym c.is_ok.ensures.value ∙ c.if-is_ok.true) c.fill.ensures.noted in
+    (weight, filled.0.kept, filled.0.gone, filled.1.own, (arc_value c.args.font, c.requires.stands, ap weight_of c.in-Ok.ensures))

@@ -13,3 +13,7 @@ returns-clause-of_three c = refl
 pub returns-clause-of_two_seats : goal.returns-clause-of_two_seats
 unfolding digits
 returns-clause-of_two_seats c = refl
+
+pub returns-clause-of_nine : goal.returns-clause-of_nine
+unfolding digits
+returns-clause-of_nine c = refl

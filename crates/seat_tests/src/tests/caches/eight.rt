@@ -7,7 +7,7 @@ ghost use Rattle.cache_core.specs.Histories.{own, open_claim};
 ghost use Rattle.turn_lock.specs.declared.view.Stage.TheVariants.{Idle};
 ghost use Rattle.turn_lock.specs.Seats.{AllJoined};
 
-use super::walk::{Note, Walk, told};
+use super::walk::{Note, Walk, first_size, told};
 use crate::tests::{Sized, key_of, meet};
 use cache_core::{Entry, Look};
 use font_cache::{CacheSeat, FontCache};
@@ -101,8 +101,7 @@ fn end_claim<R: Wait>(
         },
     )?;
     match cache.fill(rt, seat, key, font) {
-        Ok(None) => Ok(Note::new(key.size, 'f', 0, number)),
-        Ok(Some(gone)) => Ok(Note::new(key.size, 'f', gone.size, number)),
+        Ok(fill) => Ok(Note::new(key.size, 'f', first_size(fill.gone.keys()), number)),
         Err(_) => Err(NoMemory),
     }
 }
@@ -242,7 +241,7 @@ fn eight<R: Threads + Wait + Sync>(
     count: u32,
 ) -> Option<(Vec<Entry>, Vec<Vec<Note>>)> {
     let keys = ten_keys(alloc).ok()?;
-    let (cache, mut first) = FontCache::make(alloc, 3).ok()?;
+    let (cache, mut first) = FontCache::make(alloc, 3, u64::MAX).ok()?;
     let mut callers = eight_callers(alloc, &cache, &mut first)?;
     all_calls(rt, alloc, &cache, &keys, &mut callers, count);
     let notes = join_all(alloc, &cache, &mut first, callers)?;

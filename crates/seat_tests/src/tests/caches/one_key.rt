@@ -7,8 +7,8 @@ fn letter(act: &Act) -> char {
         Act::Hit => 'h',
         Act::Claimed => 'c',
         Act::Busy => 'b',
-        Act::Filled { gone: None } => 'f',
-        Act::Filled { gone: Some(_) } => 'g',
+        Act::Filled { kept: true, gone, .. } if gone.keys().is_empty() => 'f',
+        Act::Filled { .. } => 'g',
         Act::Released => 'r',
     }
 }
@@ -40,10 +40,10 @@ fn fits(state: &mut OneKey, entry: &Entry) -> bool {
             state.claims = Some(entry.seat);
             is_free
         }
-        Act::Filled { gone } => {
+        Act::Filled { kept, gone, .. } => {
             state.claims = None;
             state.is_there = true;
-            is_own && gone.is_none()
+            is_own && *kept && gone.keys().is_empty()
         }
         Act::Released => {
             state.claims = None;

@@ -1,7 +1,9 @@
 //! The machine of a cache of three fonts once more, in few words, for tests alone: it judges a
 //! history from outside.
 use cache_core::{Act, Entry};
+use outside::FontKey;
 use std::alloc::Global;
+use std::sync::Arc;
 
 // How many fonts are kept.
 const ROOM: usize = 3;
@@ -172,14 +174,21 @@ fn calls_that_the_walk_refuses(rt: HostRuntime) {
     }
 }
 
+// The size of the first of the keys, or 0.
+pub(crate) fn first_size(keys: &[Arc<FontKey>]) -> u32 {
+    match keys.first() {
+        Some(key) => key.size,
+        None => 0,
+    }
+}
+
 // What its seat was answered, by the entry.
 pub(crate) fn told(entry: &Entry) -> (u32, char, u32) {
     match &entry.act {
         Act::Hit => (entry.key.size, 'h', 0),
         Act::Claimed => (entry.key.size, 'c', 0),
         Act::Busy => (entry.key.size, 'b', 0),
-        Act::Filled { gone: None } => (entry.key.size, 'f', 0),
-        Act::Filled { gone: Some(gone) } => (entry.key.size, 'f', gone.size),
+        Act::Filled { gone, .. } => (entry.key.size, 'f', first_size(gone.keys())),
         Act::Released => (entry.key.size, 'r', 0),
     }
 }

@@ -7,19 +7,19 @@ use Rattle.font_cache.proofs.cache.FontCache.look.Goals as goal
 pub look-reply-requires-clause-free : goal.look-reply-requires-clause-free
 look-reply-requires-clause-free g c =
     let was = c.args.seat.now.view in
-    claim_is_own c.histories.ensures.claims g.T.Stands.stands_for c.take-state.result was.part c.number.result was.number was.seen None
+    claim_is_own c.histories.ensures.claims g.T.Stands.stands_for g.T.Stands.weighs c.take-state.result was.part c.number.result was.number was.seen None
     c.take-state.ensures.stands (c.number.ensures ∙ ap (λ v. v.number) c.take-state.ensures.seen) c.take-state.ensures.own c.requires.free
 
 pub returns-clause-seen : goal.returns-clause-seen
 returns-clause-seen g c =
-    saw_more c.args.seat.now c.take-state.new.seat c.give.new.seat _ _ _ c.take-state.ensures.seen c.give.ensures.seen g.T.Stands.stands_for c.take-state.result c.look-reply.new.self refl
-    c.take-state.ensures.stands c.look-reply.ensures.reached c.look-reply.ensures.capacity
+    saw_more c.args.seat.now c.take-state.new.seat c.give.new.seat _ _ _ c.take-state.ensures.seen c.give.ensures.seen g.T.Stands.stands_for g.T.Stands.weighs c.take-state.result c.look-reply.new.self refl
+    c.take-state.ensures.stands c.look-reply.ensures.reached c.look-reply.ensures.limits
     (turn_begins (λ r. call c.number.result (arc_value c.args.key.now) (answered r)) c.take-state.result c.look-reply.new.self c.args.seat.now.view.seen c.look-reply.result
     c.take-state.ensures.begins c.look-reply.ensures.noted c.look-reply.ensures.refused)
     c.take-state.ensures.joined c.give.ensures.joined
 
 pub returns-clause-noted : goal.returns-clause-noted
 returns-clause-noted g c =
-    noted_turn c.own_calls.ensures.joined g.T.Stands.stands_for c.take-state.result c.look-reply.new.self (arc_value c.args.key.now) c.number.result c.args.seat.now.view c.give.new.seat.view
+    noted_turn c.own_calls.ensures.joined g.T.Stands.stands_for g.T.Stands.weighs c.take-state.result c.look-reply.new.self (arc_value c.args.key.now) c.number.result c.args.seat.now.view c.give.new.seat.view
     (c.number.ensures ∙ ap (λ v. v.number) c.take-state.ensures.seen) c.take-state.ensures.stands c.take-state.ensures.begins c.take-state.ensures.own (ap (λ v. v.seen) c.give.ensures.seen)
     answered c.look-reply.result c.look-reply.ensures.taken c.look-reply.ensures.noted

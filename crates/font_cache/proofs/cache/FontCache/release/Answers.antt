@@ -7,18 +7,18 @@ use Rattle.font_cache.proofs.cache.FontCache.release.Goals as goal
 pub release-requires-clause-claim : goal.release-requires-clause-claim
 release-requires-clause-claim g c =
     let was = c.args.seat.now.view in
-    claim_is_own c.histories.ensures.claims g.T.Stands.stands_for c.take-state.result was.part c.number.result was.number was.seen (Some (arc_value c.args.key.now))
+    claim_is_own c.histories.ensures.claims g.T.Stands.stands_for g.T.Stands.weighs c.take-state.result was.part c.number.result was.number was.seen (Some (arc_value c.args.key.now))
     c.take-state.ensures.stands (c.number.ensures ∙ ap (λ v. v.number) c.take-state.ensures.seen) c.take-state.ensures.own c.requires.claim
 
 pub returns-clause-seen : goal.returns-clause-seen
 returns-clause-seen g c =
-    saw_more c.args.seat.now c.take-state.new.seat c.give.new.seat _ _ _ c.take-state.ensures.seen c.give.ensures.seen g.T.Stands.stands_for c.take-state.result c.release.new.self refl
-    c.take-state.ensures.stands c.release.ensures.reached c.release.ensures.capacity
+    saw_more c.args.seat.now c.take-state.new.seat c.give.new.seat _ _ _ c.take-state.ensures.seen c.give.ensures.seen g.T.Stands.stands_for g.T.Stands.weighs c.take-state.result c.release.new.self refl
+    c.take-state.ensures.stands c.release.ensures.reached c.release.ensures.limits
     (longer_begins c.args.seat.now.view.seen c.take-state.result.history c.release.new.self.history _ c.take-state.ensures.begins c.release.ensures.noted)
     c.take-state.ensures.joined c.give.ensures.joined
 
 pub returns-clause-noted : goal.returns-clause-noted
 returns-clause-noted g c =
-    noted_call c.own_calls.ensures.joined g.T.Stands.stands_for c.take-state.result c.release.new.self (arc_value c.args.key.now) c.number.result c.args.seat.now.view c.give.new.seat.view
+    noted_call c.own_calls.ensures.joined g.T.Stands.stands_for g.T.Stands.weighs c.take-state.result c.release.new.self (arc_value c.args.key.now) c.number.result c.args.seat.now.view c.give.new.seat.view
     (c.number.ensures ∙ ap (λ v. v.number) c.take-state.ensures.seen) c.take-state.ensures.stands c.take-state.ensures.begins c.take-state.ensures.own (ap (λ v. v.seen) c.give.ensures.seen)
     Released c.release.ensures.taken c.release.ensures.noted

@@ -2,4 +2,4 @@ use Rattle.seat_tests.specs.Samples.{part_of}
 use Rattle.seat_tests.proofs.tests.caches.two_threads.Given as goal
 
 abbrev pub ghost-make : goal.ghost-make
-ghost-make g a = part_of 2
+ghost-make g a = part_of 2 9

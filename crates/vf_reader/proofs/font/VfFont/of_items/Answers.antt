@@ -1,8 +1,14 @@
-use Rattle.std.proofs.Common.{◌≡◌, ◌-◌, length, arith}
+use Rattle.std.proofs.Common.{◌≡◌, ◌∙◌, ◌-◌, length, arith}
 use Rattle.std.proofs.lemmas.Bool.{le-leb, lt-leb}
 use Rattle.std.proofs.lemmas.Result.{err_from_is_err_and}
-use Rattle.vf_reader.proofs.SoFar.{item_place, item_stop, local_read, packet_read}
+use Rattle.vf_reader.proofs.SoFar.{item_place, item_stop, local_read, nothing_read, packet_read}
 use Rattle.vf_reader.proofs.font.VfFont.of_items.Goals as goal
+
+pub loop-locals-init : goal.loop-locals-init
+loop-locals-init c = record {
+  read = nothing_read c.args.bytes.now c.new-items.result c.in_ok-packets.packets c.new-locals.result c.in_ok-after_preamble.ensures.right
+      (c.new-items.ensures ∙ c.in_ok-after_preamble.ensures.rest) c.in_ok-packets.ensures c.new-locals.ensures;
+}
 
 pub loop-locals-preserved-in_ok-add_packet : goal.loop-locals-preserved-in_ok-add_packet
 loop-locals-preserved-in_ok-add_packet c =

@@ -1,5 +1,5 @@
-use Rattle.vf_reader.proofs.Kept.{nothing_kept}
+use Rattle.vf_reader.proofs.Weighed.{nothing_weighed}
 use Rattle.vf_reader.proofs.packet_table.PacketTable.empty.Goals as goal
 
-pub returns : goal.returns
-returns c = λ k. nothing_kept k c.in_ok-no_spans.field-0.items c.new.result.entries c.in_ok-no_spans.ensures c.new.ensures.empty
+pub invariant_of-result : goal.invariant_of-result
+invariant_of-result c = nothing_weighed c.in_ok-empty.field-0 c.in_ok-empty.ensures
