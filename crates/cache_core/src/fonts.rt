@@ -1,10 +1,10 @@
 //! The resident fonts, in the order of their use.
-ghost use Rattle.std.specs.Prelude.{◌≡◌, ◌+◌, ◌≤◌, leb, ◌&&◌, ◌∷◌, ◌++◌, Some, None, length, map, take, drop, reverse, IfOk, OnOk, OnErr, IfErr, IfSome, OnSome};
+ghost use Rattle.std.specs.Prelude.{◌≡◌, ◌+◌, ◌-◌, ◌≤◌, leb, ◌&&◌, ◌∷◌, ◌++◌, Some, None, length, map, take, drop, reverse, IfOk, OnOk, OnErr, IfErr, IfSome, OnSome};
 ghost use Rattle.std.specs.Option.{option_map};
 ghost use Rattle.std.specs.Arc.{arc_value};
 ghost use Rattle.std.specs.Vec.{vec_len, vec_capacity};
 ghost use Rattle.std.specs.Map.{lookup, keys_of, values_of};
-ghost use Rattle.lru.specs.LruCache.{promoted, lru_cache};
+ghost use Rattle.lru.specs.LruCache.{promoted, lru_cache, last_entry};
 ghost use Rattle.outside.specs.declared.keys.FontKey.{FontKey};
 ghost use Rattle.cache_core.specs.Limits.{MAX_CACHED_FONTS};
 ghost use Rattle.cache_core.specs.Machine.{key_eq, weights, stay, gone_of};
@@ -163,6 +163,15 @@ fn find_leavers<T: Stands>(
     })
 }
 
+// Takes out the least recently used font, with its key.
+fn pop_oldest<T: Drop>(fonts: &mut Fonts<T>) -> Option<(Arc<FontKey>, Arc<T>)>
+    ensures value { result ≡ last_entry fonts.old.entries }
+    ensures entries { fonts.new
+        ≡ lru_cache (take (length fonts.old.entries - 1) fonts.old.entries) fonts.old.cap }
+{
+    fonts.pop_lru()
+}
+
 // Takes out the least recently used fonts until n are left, into room that is there.
 fn drop_oldest<T: Drop>(fonts: &mut Fonts<T>, stay: usize, left: &mut Vec<Arc<T>>)
     requires room { vec_len left.old + length fonts.old.entries ≤ vec_capacity left.old + stay }
@@ -172,7 +181,7 @@ fn drop_oldest<T: Drop>(fonts: &mut Fonts<T>, stay: usize, left: &mut Vec<Arc<T>
         ++ reverse (values_of (drop stay (fonts_of fonts.old.entries))) }
 {
     for _ in stay..fonts.len() {
-        let Some((_, font)) = fonts.pop_lru() else {
+        let Some((_, font)) = pop_oldest(fonts) else {
             unreachable!()
         };
         left.push_reserved(font);

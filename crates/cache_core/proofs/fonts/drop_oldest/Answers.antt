@@ -39,8 +39,8 @@ loop-preserved g c =
     let inside = c.loop-test.true in
     let len = c.len-end.ensures.len in
     let one : suc (length c.loop.fonts.entries - 1) ≡ length c.loop.fonts.entries = omega arith in
-    let entries : c.pop_lru.new.self.entries ≡ take (length c.loop.fonts.entries - 1) c.loop.fonts.entries = ap (λ l. l.entries) c.pop_lru.ensures.entries in
-    let shorter : length c.pop_lru.new.self.entries ≡ length c.loop.fonts.entries - 1 =
+    let entries : c.pop_oldest.new.fonts.entries ≡ take (length c.loop.fonts.entries - 1) c.loop.fonts.entries = ap (λ l. l.entries) c.pop_oldest.ensures.entries in
+    let shorter : length c.pop_oldest.new.fonts.entries ≡ length c.loop.fonts.entries - 1 =
     ap length entries ∙ length-take-le (length c.loop.fonts.entries - 1) c.loop.fonts.entries (omega arith) in
     let last = ap (λ n. slice_get (take n c.args.fonts.now.entries) (length c.loop.fonts.entries - 1)) one
     ∙ (ap (λ l. slice_get l (length c.loop.fonts.entries - 1)) (sym i.stays) ∙ sym c.in-Some.ensures.value) in
@@ -51,7 +51,7 @@ loop-preserved g c =
           ∙ (take-take (length c.loop.fonts.entries - 1) (length c.loop.fonts.entries) c.args.fonts.now.entries (omega arith)
           ∙ ap (λ n. take n c.args.fonts.now.entries) (sym shorter)));
       some = omega arith;
-      cap = ap (λ l. l.cap) c.pop_lru.ensures.entries ∙ i.cap;
+      cap = ap (λ l. l.cap) c.pop_oldest.ensures.entries ∙ i.cap;
       count = omega arith;
       room = omega arith;
       gone = taken_out (length c.loop.fonts.entries - 1) c.args.fonts.now.entries c.loop.left.items c.push_reserved.new.self.items (map arc_value c.args.left.now.items) last
