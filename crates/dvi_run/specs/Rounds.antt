@@ -175,8 +175,9 @@ pub record IsFresh {F : Type 0} (library : F → Option FileTable) (known : Opti
 -- what a worker did in a run, by the calls of its seat in the history: they answer the look-ups of
 -- the pages that it drew, of which only the last may have been broken off, where it may have been;
 -- each font that it handed in has its key's weight; a claim is given up at their end alone, and
--- only where that page was; no page was broken off where the run is whole; and it loaded at most eight files for each look that was no hit. It has
--- neither a seat nor a result any more, and its source has the library that the run knows
+-- only where that page was; no page was broken off where the run is whole; and it loaded at most
+-- eight files for each look that was no hit. It has neither a seat nor a result any more, and its
+-- source has the library that the run knows
 pub record WorkerRan {F : Type 0} (MayBreak : ℕ → Type 0) (Whole : Type 0)
     (library : F → Option FileTable) (faults loads : F → ℕ) (g : Setup) (reading : Reading)
     (history : List Call) (number : ℕ) (before after : Worker F) : Type 0 where
