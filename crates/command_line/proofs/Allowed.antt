@@ -9,6 +9,7 @@ use Rattle.pixel_round.specs.Limits.{MAX_RESOLUTION}
 use Rattle.raster_page.specs.Limits.{MAX_PAGE_SIDE}
 use Rattle.command_line.specs.declared.settings.Settings.{Settings}
 use Rattle.command_line.specs.declared.parse.LineStop.{LineStop}
+use Rattle.command_line.specs.Limits.{MAX_ROOM}
 use Rattle.command_line.specs.Settings.{AreSettings}
 use Rattle.command_line.specs.Line.{Text, Use, choices, has_sample, is_in_range, is_used}
 use Rattle.command_line.specs.Line.{is_within, number_of}
@@ -41,6 +42,7 @@ record AreInRange (us : List Use) : Type 0 where
   top : is_within 0 MAX_PAGE_SIDE (number_of (codes "top") us) ≡ true
   workers : is_within 1 32 (number_of (codes "workers") us) ≡ true
   cache : is_within 1 256 (number_of (codes "cache") us) ≡ true
+  room : is_within 0 MAX_ROOM (number_of (codes "room") us) ≡ true
   sample : is_within 1 1000 (number_of (codes "sample") us) ≡ true
 
 in_range : (us : List Use) → list_all (is_in_range us) choices ≡ true → AreInRange us
@@ -52,7 +54,8 @@ in_range us h =
     let top = and_parts _ _ left.1 in
     let workers = and_parts _ _ top.1 in
     let cache = and_parts _ _ workers.1 in
-    let sample = and_parts _ _ cache.1 in
+    let room = and_parts _ _ cache.1 in
+    let sample = and_parts _ _ room.1 in
     record {
       res = res.0;
       width = width.0;
@@ -61,6 +64,7 @@ in_range us h =
       top = top.0;
       workers = workers.0;
       cache = cache.0;
+      room = room.0;
       sample = sample.0;
     }
 
@@ -95,6 +99,7 @@ are_settings us r sampled =
       };
       workers = within_or 1 32 1 (codes "workers") us r.workers (omega arith) (omega arith);
       cache = within_or 1 256 16 (codes "cache") us r.cache (omega arith) (omega arith);
+      room = (within_or 0 MAX_ROOM MAX_ROOM (codes "room") us r.room (omega arith) (omega arith)).1;
       sample = within_if 1 1000 (number_of (codes "sample") us) r.sample;
       packed = with_sample (is_used (codes "packed") us) (number_of (codes "sample") us) sampled;
     }

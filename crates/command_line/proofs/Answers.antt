@@ -16,7 +16,7 @@ use Rattle.clap.specs.declared.error.kind.ErrorKind.TheVariants as kind
 use Rattle.clap.specs.declared.parser.matches.Found.{Found}
 use Rattle.clap.proofs.WalkLemmas.{find-map, first_value-rows, one_text-rows}
 use Rattle.command_line.specs.Line.{Choice, Use, are_distinct, choice_of, choices, is_named}
-use Rattle.command_line.specs.Line.{is_used, is_value, settings_among, settings_of, uses_of}
+use Rattle.command_line.specs.Line.{is_in_range, is_short, is_used, is_value, settings_among, settings_of, uses_of}
 use Rattle.command_line.specs.declared.settings.Settings.{Settings}
 use Rattle.command_line.specs.declared.parse.LineStop.{LineStop}
 use Rattle.command_line.specs.declared.parse.LineStop.TheVariants.{Usage}
@@ -213,13 +213,20 @@ taken_arguments arguments f ok none rows = elim (outcome arguments ok) [
   | inr n ↦ absurd (n.fault (sym (fault_is arguments) ∙ none))
 ]
 
+and_regrouped : (a b c d : Bool) → (((a && b) && c) && d) ≡ (a && ((b && c) && d))
+and_regrouped true b c d = refl
+and_regrouped false b c d = refl
+
 -- and their settings are read off these
 pub settings_taken : (arguments : List Text) (workers : ℕ) (us : List Use)
     → uses_of arguments ≡ Some us → are_distinct us ≡ true
     → settings_of workers arguments
-    ≡ cond (is_allowed workers (given_of us)) (Some (settings_with (given_of us))) None
+    ≡ cond (list_all (is_short us) choices && is_allowed workers (given_of us))
+    (Some (settings_with (given_of us))) None
 unfolding settings_of
-settings_taken arguments workers us e d = rw (e, d) refl
+settings_taken arguments workers us e d =
+    rw (e, d) (ap (λ b. cond b (Some (settings_with (given_of us))) None)
+    (and_regrouped (list_all (is_short us) choices) (list_all (is_in_range us) choices) _ _))
 
 -- ---- what the call of `clap` tells
 

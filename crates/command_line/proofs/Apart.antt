@@ -44,7 +44,7 @@ lacks (x ∷ xs) h i lt = go (x == 61) refl h (lacks xs) i lt
 -- no value begins with a hyphen
 no_value : (c : Choice) (text : Text) → with_value c (45 ∷ text) ≡ stray
 no_value c text =
-    let short = nat_le 1 (length (45 ∷ text)) && nat_le (length (45 ∷ text)) 7 in
+    let short = nat_le 1 (length (45 ∷ text)) && nat_le (length (45 ∷ text)) 10 in
     rw (and_right short false refl) refl
 
 module _ (t : List Choice) (name : Text) (least most : ℕ)

@@ -1,6 +1,7 @@
 -- Values as numbers.
 use Rattle.std.proofs.Common.{◌≡◌, ◌<◌, ◌≤◌, ◌^◌, ℕ, true, length, Result, Ok, arith, rules}
 use Rattle.std.proofs.Common.{leb-true}
+use Rattle.std.specs.Prelude.{nat_le}
 use Rattle.std.specs.List.{list_all}
 use Rattle.std.specs.Char.{is_ascii_digit}
 use Rattle.std.specs.Str.Parse.{ParsesUnsigned, digits_value}
@@ -18,14 +19,25 @@ tells_digits = search rules
 pub own : IsNumeralModel AreDigits (digits_value 10)
 own = numerals_by_value AreDigits tells_digits
 
--- a value is read as its number
+-- a value of seven digits is read as its number of 32 bits
 pub value_read : {E : Type 0} (t : Text) (r : Result ℕ E) → is_value t ≡ true
-    → ParsesUnsigned 32 10 t r → r ≡ Ok (digits_value 10 t)
-value_read t r v h =
+    → nat_le (length t) 7 ≡ true → ParsesUnsigned 32 10 t r → r ≡ Ok (digits_value 10 t)
+value_read t r v short h =
     let parts = and_parts _ _ v in
-    let sizes = and_parts _ _ parts.0 in
-    let some : 1 ≤ length t = leb-true 1 (length t) sizes.0 in
-    let few : length t ≤ 7 = leb-true (length t) 7 sizes.1 in
+    let some : 1 ≤ length t = leb-true 1 (length t) (and_parts _ _ parts.0).0 in
+    let few : length t ≤ 7 = leb-true (length t) 7 short in
     let small : digits_value 10 t < 10 ^ 7 = digits_value_short own t 7 parts.1 few in
     let fits : digits_value 10 t < 2 ^ 32 = omega arith in
     parse_gives own 32 t r h parts.1 some fits
+
+-- and each value as its number of 64 bits
+pub long_value_read : {E : Type 0} (t : Text) (r : Result ℕ E) → is_value t ≡ true
+    → ParsesUnsigned 64 10 t r → r ≡ Ok (digits_value 10 t)
+long_value_read t r v h =
+    let parts = and_parts _ _ v in
+    let sizes = and_parts _ _ parts.0 in
+    let some : 1 ≤ length t = leb-true 1 (length t) sizes.0 in
+    let few : length t ≤ 10 = leb-true (length t) 10 sizes.1 in
+    let small : digits_value 10 t < 10 ^ 10 = digits_value_short own t 10 parts.1 few in
+    let fits : digits_value 10 t < 2 ^ 64 = omega arith in
+    parse_gives own 64 t r h parts.1 some fits

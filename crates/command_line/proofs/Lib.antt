@@ -2,6 +2,7 @@ pub mod Rules
 pub mod Looks
 pub mod Forms
 pub mod States
+pub mod Short
 pub mod Shapes
 pub mod Steps
 pub mod Lines

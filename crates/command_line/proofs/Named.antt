@@ -2,8 +2,9 @@
 use Rattle.std.proofs.Common.{◌≡◌, ◌∙◌, ◌≤◌, ◌<◌, ◌^◌, ◌&&◌, ℕ, Bool, cond, true, false, List}
 use Rattle.std.proofs.Common.{[], ◌∷◌, ◌++◌, length, Option, Some, None, codes, decimal, refl, ap}
 use Rattle.std.proofs.Common.{arith, le-leb}
-use Rattle.std.specs.Prelude.{IfSome, IsSome, IsTrue, nat_le, option_and_then}
+use Rattle.std.specs.Prelude.{IfSome, IsSome, IsTrue, find, nat_le, option_and_then}
 use Rattle.std.specs.List.{list_all}
+use Rattle.std.specs.Option.{option_map_or}
 use Rattle.std.specs.Str.Parse.{digits_value}
 use Rattle.std.proofs.lemmas.Bool.{and_from}
 use Rattle.std.proofs.lemmas.Fmt.{decimal_nonempty, digits_decimal, digits_value-decimal}
@@ -11,9 +12,10 @@ use Rattle.std.proofs.lemmas.Fmt.{length-decimal-le}
 use Rattle.pixel_round.specs.Limits.{MAX_RESOLUTION}
 use Rattle.raster_page.specs.Limits.{MAX_PAGE_SIDE}
 use Rattle.command_line.specs.declared.settings.Settings.{Settings}
+use Rattle.command_line.specs.Limits.{MAX_ROOM}
 use Rattle.command_line.specs.Settings.{AreSettings}
 use Rattle.command_line.specs.Line.{Choice, Text, Use, are_distinct, choices, has_sample}
-use Rattle.command_line.specs.Line.{is_in_range, is_used}
+use Rattle.command_line.specs.Line.{is_in_range, is_named, is_short, is_used}
 use Rattle.command_line.specs.Line.{is_value, is_within, number_in, number_of, settings_among}
 use Rattle.command_line.specs.Line.{settings_from, settings_of, switch, uses_from, uses_of}
 use Rattle.command_line.specs.Laws.{naming_all, naming_if, naming_some}
@@ -21,15 +23,21 @@ use Rattle.command_line.proofs.Digits.{own}
 
 -- ---- numbers in decimal
 
-told : (n : ℕ) → n < 10 ^ 7 → digits_value 10 (decimal n) ≡ n
+told : (n : ℕ) → n < 10 ^ 10 → digits_value 10 (decimal n) ≡ n
 told n small = digits_value-decimal own n (omega arith)
 
-is_value-decimal : (n : ℕ) → n < 10 ^ 7 → is_value (decimal n) ≡ true
+is_value-decimal : (n : ℕ) → n < 10 ^ 10 → is_value (decimal n) ≡ true
 is_value-decimal n small =
     let fits : n < 2 ^ 64 = omega arith in
-    let few : length (decimal n) ≤ 7 = length-decimal-le 7 n (omega arith) small fits in
-    and_from _ _ (and_from _ _ (le-leb 1 _ (decimal_nonempty n fits)) (le-leb _ 7 few))
+    let few : length (decimal n) ≤ 10 = length-decimal-le 10 n (omega arith) small fits in
+    and_from _ _ (and_from _ _ (le-leb 1 _ (decimal_nonempty n fits)) (le-leb _ 10 few))
     (digits_decimal own n fits)
+
+-- where the bounds leave a number no more digits
+few_digits : (digits n : ℕ) → 1 ≤ digits → n < 10 ^ digits → n < 2 ^ 64
+    → nat_le (length (decimal n)) digits ≡ true
+few_digits digits n some small fits =
+    le-leb _ digits (length-decimal-le digits n some small fits)
 
 -- ---- the uses that name the settings
 
@@ -57,6 +65,7 @@ uses_for s = use_of (number_in (codes "res") 1 MAX_RESOLUTION) s.res
     ∷ use_of (number_in (codes "top") 0 MAX_PAGE_SIDE) s.sheet.top
     ∷ use_of (number_in (codes "workers") 1 32) s.workers
     ∷ use_of (number_in (codes "cache") 1 256) s.cache
+    ∷ use_of (number_in (codes "room") 0 MAX_ROOM) s.room
     ∷ more_uses s.sample s.packed s.trace s.summary
 
 switches : (packed trace summary : Bool)
@@ -81,7 +90,7 @@ more_spelled : (sample : Option ℕ) (packed trace summary : Bool)
     ≡ Some (more_uses sample packed trace summary)
 more_spelled None packed trace summary h = switches packed trace summary
 more_spelled (Some n) packed trace summary h =
-    let small : n < 10 ^ 7 = omega (arith, h.1) in
+    let small : n < 10 ^ 10 = omega (arith, h.1) in
     rw (is_value-decimal n small, switches packed trace summary) refl
 
 spelled : (s : Settings) → AreSettings s → uses_of (naming_all s) ≡ Some (uses_for s)
@@ -93,8 +102,9 @@ spelled s h =
     let top = is_value-decimal s.sheet.top (omega (arith, h.sheet.top)) in
     let workers = is_value-decimal s.workers (omega (arith, h.workers.1)) in
     let cache = is_value-decimal s.cache (omega (arith, h.cache.1)) in
+    let room = is_value-decimal s.room (omega (arith, h.room)) in
     let more = more_spelled s.sample s.packed s.trace s.summary h.sample in
-    rw (res, width, height, left, top, workers, cache, more) refl
+    rw (res, width, height, left, top, workers, cache, room, more) refl
 
 -- ---- what these uses set
 
@@ -200,6 +210,7 @@ record AreTold (s : Settings) : Type 0 where
   top : digits_value 10 (decimal s.sheet.top) ≡ s.sheet.top
   workers : digits_value 10 (decimal s.workers) ≡ s.workers
   cache : digits_value 10 (decimal s.cache) ≡ s.cache
+  room : digits_value 10 (decimal s.room) ≡ s.room
   sample : number_of (codes "sample") (more_uses s.sample s.packed s.trace s.summary) ≡ s.sample
 
 all_told : (s : Settings) → AreSettings s → AreTold s
@@ -211,6 +222,7 @@ all_told s h = record {
   top = told s.sheet.top (omega (arith, h.sheet.top));
   workers = told s.workers (omega (arith, h.workers.1));
   cache = told s.cache (omega (arith, h.cache.1));
+  room = told s.room (omega (arith, h.room));
   sample = sample_is s.sample s.packed s.trace s.summary h.sample;
 }
 
@@ -224,6 +236,36 @@ sample_bounds None given e h = rw e refl
 sample_bounds (Some n) given e h =
     rw e (and_from _ _ (le-leb 1 n h.0) (le-leb n 1000 h.1))
 
+sample_short : (sample : Option ℕ) (packed trace summary : Bool)
+    → IfSome sample (λ n. (1 ≤ n) × (n ≤ 1000))
+    → option_map_or (λ (u : Use). nat_le (length u.value) 7)
+    (find (is_named (codes "sample")) (more_uses sample packed trace summary)) true ≡ true
+sample_short (Some n) packed trace summary h =
+    few_digits 7 n (omega arith) (omega (arith, h.1)) (omega (arith, h.1))
+sample_short None true true true h = refl
+sample_short None true true false h = refl
+sample_short None true false true h = refl
+sample_short None true false false h = refl
+sample_short None false true true h = refl
+sample_short None false true false h = refl
+sample_short None false false true h = refl
+sample_short None false false false h = refl
+
+shorts : (s : Settings) → AreSettings s → list_all (is_short (uses_for s)) choices ≡ true
+shorts s h =
+    let seven = λ (n : ℕ) (small : n < 10 ^ 7).
+    few_digits 7 n (omega arith) small (omega (arith, small)) in
+    let ten = few_digits 10 s.room (omega arith) (omega (arith, h.room)) (omega (arith, h.room)) in
+    and_from _ _ (seven s.res (omega (arith, h.resolution.1)))
+    (and_from _ _ (seven s.sheet.width (omega (arith, h.sheet.width)))
+    (and_from _ _ (seven s.sheet.height (omega (arith, h.sheet.height)))
+    (and_from _ _ (seven s.sheet.left (omega (arith, h.sheet.left)))
+    (and_from _ _ (seven s.sheet.top (omega (arith, h.sheet.top)))
+    (and_from _ _ (seven s.workers (omega (arith, h.workers.1)))
+    (and_from _ _ (seven s.cache (omega (arith, h.cache.1)))
+    (and_from _ _ ten
+    (and_from _ _ (sample_short s.sample s.packed s.trace s.summary h.sample) refl))))))))
+
 ranges : (s : Settings) → AreSettings s → AreTold s
     → list_all (is_in_range (uses_for s)) choices ≡ true
 ranges s h t =
@@ -234,7 +276,8 @@ ranges s h t =
     (and_from _ _ (bounds 0 MAX_PAGE_SIDE s.sheet.top _ t.top (omega arith) h.sheet.top)
     (and_from _ _ (bounds 1 32 s.workers _ t.workers h.workers.0 h.workers.1)
     (and_from _ _ (bounds 1 256 s.cache _ t.cache h.cache.0 h.cache.1)
-    (and_from _ _ (sample_bounds s.sample _ t.sample h.sample) refl)))))))
+    (and_from _ _ (bounds 0 MAX_ROOM s.room _ t.room (omega arith) h.room)
+    (and_from _ _ (sample_bounds s.sample _ t.sample h.sample) refl))))))))
 
 same : (s : Settings) → AreTold s → settings_from (uses_for s) ≡ s
 same s t =
@@ -246,6 +289,7 @@ same s t =
       sheet = record { width = t.width i; height = t.height i; left = t.left i; top = t.top i };
       workers = t.workers i;
       cache = t.cache i;
+      room = t.room i;
       sample = t.sample i;
       packed = packed i;
       trace = trace i;
@@ -276,5 +320,5 @@ named workers s h enough =
     rw t.workers (le-leb s.workers workers enough) in
     ap (option_and_then (settings_among workers)) (spelled s h)
     ∙ chosen _ _ s
-    (and_from _ _ (and_from _ _ (and_from _ _ (distinct s) (ranges s h t)) enough_given)
-    (sampled s h t)) (same s t)
+    (and_from _ _ (and_from _ _ (and_from _ _ (and_from _ _ (distinct s) (shorts s h))
+    (ranges s h t)) enough_given) (sampled s h t)) (same s t)

@@ -2,7 +2,7 @@
 use Rattle.std.proofs.Common.{◌≡◌, ◌∙◌, ◌||◌, ◌&&◌, ◌++◌, ℕ, Bool, cond, true, false, not, List, []}
 use Rattle.std.proofs.Common.{◌∷◌, Option, Some, None, codes, refl, sym, ap, ap₂}
 use Rattle.std.specs.Prelude.{bytes_eq, find, min, nat_le, option_and_then, option_map, unwrap_or}
-use Rattle.std.specs.Prelude.{◌*◌, ◌/◌}
+use Rattle.std.specs.Prelude.{◌*◌, ◌/◌, length}
 use Rattle.std.specs.List.{list_all, list_any}
 use Rattle.std.specs.Option.{option_map_or}
 use Rattle.std.specs.Str.Parse.{digits_value}
@@ -12,7 +12,8 @@ use Rattle.raster_page.specs.Limits.{MAX_PAGE_SIDE}
 use Rattle.command_line.specs.declared.settings.Settings.{Settings}
 use Rattle.command_line.specs.Line.{has_sample, Choice, Part, Text, Use, are_distinct, choices, is_named}
 use Rattle.command_line.specs.Line.{is_used}
-use Rattle.command_line.specs.Line.{is_within, number_of, opens, part_of_argument, settings_among}
+use Rattle.command_line.specs.Limits.{MAX_ROOM}
+use Rattle.command_line.specs.Line.{is_within, most_digits, opens, part_of_argument, settings_among}
 use Rattle.command_line.specs.Line.{settings_of}
 use Rattle.command_line.specs.Line.{stray, use_before, uses_from, uses_of, waiting_after, whole}
 
@@ -130,10 +131,17 @@ find_alike name (x ∷ us) u v vs apart =
 
 -- ---- settings by what each name has
 
-abbrev chosen_by : ℕ → Bool → (Text → Option ℕ) → (Text → Bool) → Option Settings
-chosen_by workers distinct numbers used =
+abbrev number_by : (Text → Option Use) → Text → Option ℕ
+number_by finds name = option_map (λ u. digits_value 10 u.value) (finds name)
+
+abbrev chosen_by : ℕ → Bool → (Text → Option Use) → (Text → Bool) → Option Settings
+chosen_by workers distinct finds used =
+    let numbers : (Text → Option ℕ) = number_by finds in
     let res = unwrap_or (numbers (codes "res")) 300 in
     cond (distinct
+    && list_all (λ (c : Choice).
+    option_map_or (λ r. option_map_or (λ (u : Use). nat_le (length u.value) (most_digits r.1))
+    (finds c.name) true) c.range true) choices
     && list_all (λ (c : Choice).
     option_map_or (λ r. is_within r.0 r.1 (numbers c.name)) c.range true) choices
     && nat_le (unwrap_or (numbers (codes "workers")) 1) workers
@@ -148,6 +156,7 @@ chosen_by workers distinct numbers used =
       };
       workers = unwrap_or (numbers (codes "workers")) 1;
       cache = unwrap_or (numbers (codes "cache")) 16;
+      room = unwrap_or (numbers (codes "room")) MAX_ROOM;
       sample = numbers (codes "sample");
       packed = used (codes "packed");
       trace = used (codes "trace");
@@ -155,7 +164,8 @@ chosen_by workers distinct numbers used =
     })) None
 
 by_names : (workers : ℕ) (us : List Use) → settings_among workers us
-    ≡ chosen_by workers (are_distinct us) (λ name. number_of name us) (λ name. is_used name us)
+    ≡ chosen_by workers (are_distinct us) (λ name. find (is_named name) us)
+    (λ name. is_used name us)
 by_names workers us = refl
 
 among_alike : (workers : ℕ) (us : List Use) (u v : Use) (vs : List Use)
@@ -170,7 +180,7 @@ among_alike workers us u v vs = go (are_distinct (us ++ u ∷ v ∷ vs)) refl
     go true e =
         let apart = two_names us u v vs e in
         λ i. chosen_by workers (distinct_alike us u v vs i)
-        (λ name. option_map (λ w. digits_value 10 w.value) (find_alike name us u v vs apart i))
+        (λ name. find_alike name us u v vs apart i)
         (λ name. any_alike (is_named name) us u v vs i)
 
 -- ---- two options

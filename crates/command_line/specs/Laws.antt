@@ -56,6 +56,7 @@ naming_all s = naming (codes "res") s.res
     ∷ naming (codes "top") s.sheet.top
     ∷ naming (codes "workers") s.workers
     ∷ naming (codes "cache") s.cache
+    ∷ naming (codes "room") s.room
     ∷ naming_some (codes "sample") s.sample
     ++ (naming_if (codes "packed") s.packed
     ++ (naming_if (codes "trace") s.trace ++ naming_if (codes "summary") s.summary))

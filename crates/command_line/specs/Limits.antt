@@ -8,3 +8,7 @@ MAX_WORKERS = 32
 -- the most fonts that a cache may keep
 abbrev pub MAX_CACHED_FONTS : ℕ
 MAX_CACHED_FONTS = 256
+
+-- the most bytes that the fonts in a cache may weigh together: 256 of the greatest weight
+abbrev pub MAX_ROOM : ℕ
+MAX_ROOM = 2147483648

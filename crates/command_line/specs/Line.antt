@@ -11,7 +11,7 @@ use Rattle.pixel_round.specs.Limits.{MAX_RESOLUTION}
 use Rattle.raster_page.specs.Limits.{MAX_PAGE_SIDE}
 use Rattle.command_line.specs.declared.settings.Settings.{Settings}
 use Rattle.command_line.specs.Limits.{MAX_WORKERS}
-use Rattle.command_line.specs.Limits.{MAX_CACHED_FONTS}
+use Rattle.command_line.specs.Limits.{MAX_CACHED_FONTS, MAX_ROOM}
 
 abbrev pub Text : Type 0
 Text = List ℕ
@@ -38,6 +38,7 @@ choices = number_in (codes "res") 1 MAX_RESOLUTION
     ∷ number_in (codes "top") 0 MAX_PAGE_SIDE
     ∷ number_in (codes "workers") 1 MAX_WORKERS
     ∷ number_in (codes "cache") 1 MAX_CACHED_FONTS
+    ∷ number_in (codes "room") 0 MAX_ROOM
     ∷ number_in (codes "sample") 1 1000
     ∷ switch (codes "packed")
     ∷ switch (codes "trace")
@@ -48,10 +49,15 @@ choices = number_in (codes "res") 1 MAX_RESOLUTION
 abbrev pub choice_of : List Choice → Text → Option Choice
 choice_of table name = find (λ c. bytes_eq c.name name) table
 
--- one to seven decimal digits
+-- one to ten decimal digits
 abbrev pub is_value : Text → Bool
 is_value text =
-    nat_le 1 (length text) && nat_le (length text) 7 && list_all is_ascii_digit text
+    nat_le 1 (length text) && nat_le (length text) 10 && list_all is_ascii_digit text
+
+-- how many digits a value may have, by the greatest number that its option takes: seven, or ten
+-- where seven can't spell that
+abbrev pub most_digits : ℕ → ℕ
+most_digits greatest = if nat_le 10000000 greatest then 10 else 7
 
 -- an option as it was used, with its value; a switch has the empty text
 pub record Use : Type 0 where
@@ -141,6 +147,11 @@ abbrev pub are_distinct : List Use → Bool
 are_distinct [] = true
 are_distinct (u ∷ us) = not (list_any (is_named u.choice.name) us) && are_distinct us
 
+-- an option that takes a number was given none, or one with no more digits than it may have
+abbrev pub is_short : List Use → Choice → Bool
+is_short us c = option_map_or (λ r. option_map_or
+    (λ u. nat_le (length u.value) (most_digits r.1)) (find (is_named c.name) us) true) c.range true
+
 -- the number that an option was given
 abbrev pub number_of : Text → List Use → Option ℕ
 number_of name us = option_map (λ u. digits_value 10 u.value) (find (is_named name) us)
@@ -172,6 +183,7 @@ settings_from us = let res = number_or 300 (codes "res") us in record {
   };
   workers = number_or 1 (codes "workers") us;
   cache = number_or 16 (codes "cache") us;
+  room = number_or MAX_ROOM (codes "room") us;
   sample = number_of (codes "sample") us;
   packed = is_used (codes "packed") us;
   trace = is_used (codes "trace") us;
@@ -182,11 +194,12 @@ settings_from us = let res = number_or 300 (codes "res") us in record {
 abbrev pub has_sample : (packed : Bool) → (sample : Option ℕ) → Bool
 has_sample packed sample = not packed || is_some sample
 
--- the settings of the uses, where no option is used twice, each number lies in its range, there are
--- as many workers as are asked for, and packed fonts are asked for with a sample alone
+-- the settings of the uses, where no option is used twice, no number has too many digits, each lies
+-- in its range, there are as many workers as are asked for, and packed fonts are asked for with a
+-- sample alone
 abbrev pub settings_among : ℕ → List Use → Option Settings
-settings_among workers us = if are_distinct us && list_all (is_in_range us) choices
-    && nat_le (number_or 1 (codes "workers") us) workers
+settings_among workers us = if are_distinct us && list_all (is_short us) choices
+    && list_all (is_in_range us) choices && nat_le (number_or 1 (codes "workers") us) workers
     && has_sample (is_used (codes "packed") us) (number_of (codes "sample") us)
     then Some (settings_from us) else None
 

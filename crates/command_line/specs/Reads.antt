@@ -1,6 +1,7 @@
 -- The matches of a line, by its uses.
-use Rattle.std.specs.Prelude.{◌≡◌, ◌/◌, ◌*◌, ◌&&◌, ℕ, Bool, true, min, List, Some, codes}
-use Rattle.std.specs.Prelude.{find, if◌then◌else◌, nat_le, option_map, unwrap_or}
+use Rattle.std.specs.Prelude.{◌≡◌, ◌/◌, ◌*◌, ◌&&◌, ℕ, Bool, true, min, List, Option, Some, codes}
+use Rattle.std.specs.Prelude.{find, if◌then◌else◌, length, nat_le, option_map, unwrap_or}
+use Rattle.std.specs.Option.{option_map_or}
 use Rattle.clap.specs.Words.{first_value, one_text}
 use Rattle.clap.specs.declared.parser.matches.Found.{Found}
 use Rattle.pixel_round.specs.Limits.{MAX_RESOLUTION}
@@ -10,7 +11,7 @@ use Rattle.command_line.specs.Line.{has_sample, is_within, number_in, number_of,
 use Rattle.command_line.specs.declared.settings.Settings.{Settings}
 use Rattle.command_line.specs.declared.matches.LineValues.{LineValues}
 use Rattle.command_line.specs.Limits.{MAX_WORKERS}
-use Rattle.command_line.specs.Limits.{MAX_CACHED_FONTS}
+use Rattle.command_line.specs.Limits.{MAX_CACHED_FONTS, MAX_ROOM}
 
 -- what the matches have at each name
 pub record MatchesHold (us : List Use) (f : Found) : Type 0 where
@@ -22,6 +23,10 @@ pub record MatchesHold (us : List Use) (f : Found) : Type 0 where
   pub switch : (name : Text) → choice_of choices name ≡ Some (switch name)
       → one_text f name ≡ Some (if is_used name us then codes "true" else codes "false")
 
+-- a text that is given, if there is one, is that of a number of at most seven digits
+abbrev pub is_short_text : Option Text → Bool
+is_short_text given = option_map_or (λ text. nat_le (length text) 7) given true
+
 -- the numbers and switches of the uses
 abbrev pub given_of : List Use → LineValues
 given_of us = record {
@@ -32,6 +37,7 @@ given_of us = record {
   top = number_of (codes "top") us;
   workers = number_of (codes "workers") us;
   cache = number_of (codes "cache") us;
+  room = number_of (codes "room") us;
   sample = number_of (codes "sample") us;
   packed = is_used (codes "packed") us;
   trace = is_used (codes "trace") us;
@@ -45,7 +51,7 @@ is_allowed workers g = is_within 1 MAX_RESOLUTION g.res
     && (is_within 1 MAX_PAGE_SIDE g.width && (is_within 1 MAX_PAGE_SIDE g.height
     && (is_within 0 MAX_PAGE_SIDE g.left && (is_within 0 MAX_PAGE_SIDE g.top
     && (is_within 1 MAX_WORKERS g.workers && (is_within 1 MAX_CACHED_FONTS g.cache
-    && (is_within 1 1000 g.sample && true)))))))
+    && (is_within 0 MAX_ROOM g.room && (is_within 1 1000 g.sample && true))))))))
     && nat_le (unwrap_or g.workers 1) workers && has_sample g.packed g.sample
 
 abbrev pub settings_with : LineValues → Settings
@@ -59,6 +65,7 @@ settings_with g = let res = unwrap_or g.res 300 in record {
   };
   workers = unwrap_or g.workers 1;
   cache = unwrap_or g.cache 16;
+  room = unwrap_or g.room MAX_ROOM;
   sample = g.sample;
   packed = g.packed;
   trace = g.trace;

@@ -5,7 +5,7 @@ use Rattle.page_draw.specs.Sheets.{IsDrawable}
 use Rattle.page_draw.specs.declared.sheet.Sheet.{Sheet}
 use Rattle.command_line.specs.declared.settings.Settings.{Settings}
 use Rattle.command_line.specs.Limits.{MAX_WORKERS}
-use Rattle.command_line.specs.Limits.{MAX_CACHED_FONTS}
+use Rattle.command_line.specs.Limits.{MAX_CACHED_FONTS, MAX_ROOM}
 
 -- the sheet where no option names another, at 300 dots for an inch: 8.5 by 11 inches, and margins
 -- of one inch
@@ -19,6 +19,7 @@ default_settings = record {
   sheet = default_sheet;
   workers = 1;
   cache = 16;
+  room = MAX_ROOM;
   sample = None;
   packed = false;
   trace = false;
@@ -31,6 +32,7 @@ pub record AreSettings (settings : Settings) : Type 0 where
   pub sheet : IsDrawable settings.sheet
   pub workers : (1 ≤ settings.workers) × (settings.workers ≤ MAX_WORKERS)
   pub cache : (1 ≤ settings.cache) × (settings.cache ≤ MAX_CACHED_FONTS)
+  pub room : settings.room ≤ MAX_ROOM
   pub sample : IfSome settings.sample (λ pages. (1 ≤ pages) × (pages ≤ 1000))
   -- packed fonts are those of a sample
   pub packed : IsTrue settings.packed → IsSome settings.sample

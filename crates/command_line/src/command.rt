@@ -62,6 +62,7 @@ pub fn command<'a>(alloc: Global) -> Result<Command<'a>, AllocError>
     let command = with_number(alloc, command, "top")?;
     let command = with_number(alloc, command, "workers")?;
     let command = with_number(alloc, command, "cache")?;
+    let command = with_number(alloc, command, "room")?;
     let command = with_number(alloc, command, "sample")?;
     let command = with_switch(alloc, command, "packed")?;
     let command = with_switch(alloc, command, "trace")?;

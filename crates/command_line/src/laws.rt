@@ -27,6 +27,7 @@ pub fn worked_lines()
       sheet = record { width = 2550; height = 3300; left = 300; top = 300 };
       workers = 1;
       cache = 16;
+      room = 2147483648;
       sample = None;
       packed = false;
       trace = false;
@@ -34,12 +35,14 @@ pub fn worked_lines()
     }) }
     ensures joined { settings_of 32 (codes "--res=300" ∷ []) ≡ settings_of 32 [] }
     ensures apart { settings_of 32 (codes "--res" ∷ codes "300" ∷ []) ≡ settings_of 32 [] }
+    ensures room { settings_of 32 (codes "--room=2147483648" ∷ []) ≡ settings_of 32 [] }
     ensures zeros { settings_of 32 (codes "--res" ∷ codes "0000300" ∷ []) ≡ settings_of 32 [] }
     ensures fine { settings_of 32 (codes "--res=4800" ∷ []) ≡ Some (record {
       res = 4800;
       sheet = record { width = 20000; height = 20000; left = 4800; top = 4800 };
       workers = 1;
       cache = 16;
+      room = 2147483648;
       sample = None;
       packed = false;
       trace = false;
@@ -50,25 +53,29 @@ pub fn worked_lines()
       sheet = record { width = 8; height = 11; left = 1; top = 1 };
       workers = 1;
       cache = 16;
+      room = 2147483648;
       sample = None;
       packed = false;
       trace = false;
       summary = true;
     }) }
     ensures mixed { settings_of 2 (codes "--trace" ∷ codes "--width" ∷ codes "8"
-        ∷ codes "--sample=3" ∷ codes "--res=4800" ∷ codes "--workers" ∷ codes "2" ∷ [])
+        ∷ codes "--sample=3" ∷ codes "--res=4800" ∷ codes "--workers" ∷ codes "2"
+        ∷ codes "--room" ∷ codes "0000000006" ∷ [])
         ≡ Some (record {
           res = 4800;
           sheet = record { width = 8; height = 20000; left = 4800; top = 4800 };
           workers = 2;
           cache = 16;
+          room = 6;
           sample = Some 3;
           packed = false;
           trace = true;
           summary = false;
         }) }
     ensures every { settings_of 32 (codes "--summary" ∷ codes "--packed" ∷ codes "--trace"
-        ∷ codes "--sample" ∷ codes "1000" ∷ codes "--cache" ∷ codes "256" ∷ codes "--workers=32"
+        ∷ codes "--sample" ∷ codes "1000" ∷ codes "--cache" ∷ codes "256" ∷ codes "--room=0"
+        ∷ codes "--workers=32"
         ∷ codes "--top=0" ∷ codes "--left=20000" ∷ codes "--height=20000" ∷ codes "--width=1"
         ∷ codes "--res=1" ∷ [])
         ≡ Some (record {
@@ -76,6 +83,7 @@ pub fn worked_lines()
           sheet = record { width = 1; height = 20000; left = 20000; top = 0 };
           workers = 32;
           cache = 256;
+          room = 0;
           sample = Some 1000;
           packed = true;
           trace = true;
@@ -114,6 +122,7 @@ pub fn worked_values()
     ensures plus { settings_of 32 (codes "--res=+300" ∷ []) ≡ None }
     ensures two_equals_signs { settings_of 32 (codes "--res=3=3" ∷ []) ≡ None }
     ensures eight_digits { settings_of 32 (codes "--res" ∷ codes "00000300" ∷ []) ≡ None }
+    ensures eleven_digits { settings_of 32 (codes "--room" ∷ codes "00000000006" ∷ []) ≡ None }
     ensures switch_empty { settings_of 32 (codes "--trace=" ∷ []) ≡ None }
     ensures switch_value { settings_of 32 (codes "--trace=1" ∷ []) ≡ None }
     ensures switch_apart { settings_of 32 (codes "--trace" ∷ codes "1" ∷ []) ≡ None }
@@ -134,6 +143,7 @@ pub fn worked_ranges()
     ensures no_worker { settings_of 0 [] ≡ None }
     ensures no_cache { settings_of 32 (codes "--cache=0" ∷ []) ≡ None }
     ensures cache { settings_of 32 (codes "--cache=257" ∷ []) ≡ None }
+    ensures room { settings_of 32 (codes "--room=2147483649" ∷ []) ≡ None }
     ensures no_sample { settings_of 32 (codes "--sample=0" ∷ []) ≡ None }
     ensures sample { settings_of 32 (codes "--sample=1001" ∷ []) ≡ None }
 {}

@@ -7,6 +7,9 @@ ghost use Rattle.command_line.specs.Settings.{default_sheet as the_default_sheet
 
 use page_draw::Sheet;
 
+/// The most bytes that the fonts in a cache may weigh together: 256 of the greatest weight.
+pub const MAX_ROOM: u64 = 2_147_483_648;
+
 /// What a run is given besides its input and its fonts.
 #[derive(Clone, Copy, Debug, PartialEq, Eq)]
 pub struct Settings {
@@ -18,6 +21,8 @@ pub struct Settings {
     pub workers: u32,
     /// How many fonts are kept: 1 to 256.
     pub cache: u32,
+    /// How many bytes the fonts that are kept may weigh together: 0 to 2,147,483,648.
+    pub room: u64,
     /// How many pages of the sample are drawn in place of the input's: 1 to 1000. `None` draws the
     /// input's.
     pub sample: Option<u32>,
@@ -44,8 +49,8 @@ pub fn default_sheet() -> Sheet
 }
 
 /// The settings of a run without arguments: 300 dots to the inch, the sheet of `default_sheet`, one
-/// worker, 16 fonts kept, the input's pages, and nothing printed but the line of a run that is
-/// refused.
+/// worker, 16 fonts kept, whatever they weigh, the input's pages, and nothing printed but the line
+/// of a run that is refused.
 #[tactic(auto, unfolding(crate::specs::Settings::default_settings))]
 pub fn default_settings() -> Settings
     ensures value { result ≡ the_default_settings }
@@ -56,6 +61,7 @@ pub fn default_settings() -> Settings
         sheet: default_sheet(),
         workers: 1,
         cache: 16,
+        room: MAX_ROOM,
         sample: None,
         packed: false,
         trace: false,

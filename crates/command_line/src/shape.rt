@@ -12,11 +12,11 @@ fn are_digits(text: &[u8]) -> bool
     text.iter().all(|byte| byte.is_ascii_digit())
 }
 
-/// Whether the text is one to seven decimal digits.
+/// Whether the text is one to ten decimal digits.
 pub fn is_value(text: &[u8]) -> bool
     ensures { result ≡ is_value_text text.now }
 {
-    if text.is_empty() || text.len() > 7 {
+    if text.is_empty() || text.len() > 10 {
         return false;
     }
     are_digits(text)

@@ -25,6 +25,7 @@ const DEFAULTS: Settings = Settings {
     },
     workers: 1,
     cache: 16,
+    room: 2147483648,
     sample: None,
     packed: false,
     trace: false,
@@ -32,11 +33,12 @@ const DEFAULTS: Settings = Settings {
 };
 
 // The arguments, how many workers there are, and the settings.
-static TAKEN: [(&'static [&'static str], usize, Settings); 7] = [
+static TAKEN: [(&'static [&'static str], usize, Settings); 8] = [
     (&[], 1, DEFAULTS),
     (&["--res=300"], 32, DEFAULTS),
     (&["--res", "0000300"], 32, DEFAULTS),
     (&["--workers", "1", "--cache=16"], 32, DEFAULTS),
+    (&["--room", "2147483648"], 32, DEFAULTS),
     // Every option is read.
     (
         &[
@@ -47,6 +49,8 @@ static TAKEN: [(&'static [&'static str], usize, Settings); 7] = [
             "--res=4800",
             "--workers",
             "2",
+            "--room",
+            "0000000006",
         ],
         2,
         Settings {
@@ -59,6 +63,7 @@ static TAKEN: [(&'static [&'static str], usize, Settings); 7] = [
             },
             workers: 2,
             cache: 16,
+            room: 6,
             sample: Some(3),
             packed: false,
             trace: true,
@@ -73,6 +78,7 @@ static TAKEN: [(&'static [&'static str], usize, Settings); 7] = [
             "1000",
             "--cache",
             "256",
+            "--room=0",
             "--workers=32",
             "--top=0",
             "--left=20000",
@@ -91,6 +97,7 @@ static TAKEN: [(&'static [&'static str], usize, Settings); 7] = [
             },
             workers: 32,
             cache: 256,
+            room: 0,
             sample: Some(1000),
             packed: true,
             trace: false,
@@ -110,6 +117,7 @@ static TAKEN: [(&'static [&'static str], usize, Settings); 7] = [
             },
             workers: 2,
             cache: 16,
+            room: 2147483648,
             sample: None,
             packed: false,
             trace: false,
@@ -168,7 +176,7 @@ fn the_sheet_goes_by_the_resolution(rt: HostRuntime) {
 }
 
 // The arguments, and how many workers there are.
-static REFUSED: [(&'static [&'static str], usize); 38] = [
+static REFUSED: [(&'static [&'static str], usize); 45] = [
     (&["--workers", "33"], 64),
     (&["--workers=0"], 64),
     (&["--res", "0"], 64),
@@ -176,6 +184,8 @@ static REFUSED: [(&'static [&'static str], usize); 38] = [
     (&["--width=0"], 64),
     (&["--height", "20001"], 64),
     (&["--cache=257"], 64),
+    (&["--room=2147483649"], 64),
+    (&["--room", "9999999999"], 64),
     (&["--sample=1001"], 64),
     (&["--sample", "0"], 64),
     (&["--res", "300", "--res", "300"], 64),
@@ -187,6 +197,11 @@ static REFUSED: [(&'static [&'static str], usize); 38] = [
     (&["--res="], 64),
     (&["--res", ""], 64),
     (&["--res", "00000300"], 64),
+    (&["--cache=0000000016"], 64),
+    (&["--room=00000000006"], 64),
+    (&["--room=-1"], 64),
+    (&["--room="], 64),
+    (&["--room=6", "--room", "6"], 64),
     (&["--res=3=3"], 64),
     (&["--res", "--trace"], 64),
     (&["--width"], 64),

@@ -15,8 +15,9 @@ returns c =
     let e5 = c.in_ok-command-5.ensures ∙ ap (number (codes "top")) e4 in
     let e6 = c.in_ok-command-6.ensures ∙ ap (number (codes "workers")) e5 in
     let e7 = c.in_ok-command-7.ensures ∙ ap (number (codes "cache")) e6 in
-    let e8 = c.in_ok-command-8.ensures ∙ ap (number (codes "sample")) e7 in
-    let e9 = c.in_ok-command-9.ensures ∙ ap (λ (a : App). with_switch a (codes "packed")) e8 in
-    let e10 = c.in_ok-command-10.ensures ∙ ap (λ (a : App). with_switch a (codes "trace")) e9 in
+    let e8 = c.in_ok-command-8.ensures ∙ ap (number (codes "room")) e7 in
+    let e9 = c.in_ok-command-9.ensures ∙ ap (number (codes "sample")) e8 in
+    let e10 = c.in_ok-command-10.ensures ∙ ap (λ (a : App). with_switch a (codes "packed")) e9 in
+    let e11 = c.in_ok-command-11.ensures ∙ ap (λ (a : App). with_switch a (codes "trace")) e10 in
     IfOk-weaker c.with_switch-3.result _ _
-    (λ r h. h ∙ ap (λ (a : App). with_switch a (codes "summary")) e10) c.with_switch-3.ensures
+    (λ r h. h ∙ ap (λ (a : App). with_switch a (codes "summary")) e11) c.with_switch-3.ensures

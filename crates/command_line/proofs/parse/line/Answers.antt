@@ -1,11 +1,9 @@
-use Rattle.std.proofs.Common.{◌≡◌, ◌∙◌, sym, ap, Some, None, cond, map, string_bytes}
+use Rattle.std.proofs.Common.{◌≡◌, ◌∙◌, sym, map, string_bytes}
 use Rattle.std.proofs.lemmas.List.Folds.{list_all-map}
 use Rattle.std.proofs.lemmas.Result.{IfOk-weaker}
 use Rattle.clap.specs.Words.{found_of, kind_of, rows_of}
 use Rattle.command_line.specs.declared.parse.LineStop.TheVariants.{Usage}
 use Rattle.command_line.specs.Shaped.{is_shaped}
-use Rattle.command_line.specs.Reads.{is_allowed, settings_with}
-use Rattle.command_line.specs.declared.matches.LineValues.{LineValues}
 use Rattle.command_line.proofs.Allowed.{allowed_if}
 use Rattle.command_line.proofs.Answers.{answer_ok, answer_usage, found_rows, misshapen, no_fault}
 use Rattle.command_line.proofs.Answers.{refused_arguments, settings_taken, some_fault}
@@ -18,8 +16,8 @@ returns-then-not-are_shaped-clause-usage c _ =
     misshapen arguments c.args.workers
     (list_all-map is_shaped string_bytes c.args.words.now ∙ sym c.if-not-are_shaped.ensures)
 
-pub given_in-requires : goal.given_in-requires
-given_in-requires c =
+pub settings_in-requires : goal.settings_in-requires
+settings_in-requires c =
     let arguments = map string_bytes c.args.words.now in
     let f = found_of c.in-Ok.matches in
     let ok = list_all-map is_shaped string_bytes c.args.words.now
@@ -40,12 +38,9 @@ settings_given c =
     let rows = found_rows _ arguments
     (rows_of f) _ c.in_ok-command.ensures c.in-Ok.ensures.matches in
     let t = taken_arguments arguments f ok none rows in
-    let given = c.given_in.ensures t.uses t.reads in
     let same = settings_taken arguments c.args.workers t.uses t.spelled t.distinct
-    ∙ sym (c.settings.ensures
-    ∙ ap (λ (g : LineValues). cond (is_allowed c.args.workers g) (Some (settings_with g)) None)
-    given) in
-    answer_ok c.settings.result _ c.ok_or.result c.ok_or.ensures.value same
+    ∙ sym (c.settings_in.ensures t.uses t.reads) in
+    answer_ok c.settings_in.result _ c.ok_or.result c.ok_or.ensures.value same
 
 pub returns-in-Ok-clause-settings : goal.returns-in-Ok-clause-settings
 returns-in-Ok-clause-settings = settings_given
@@ -72,12 +67,9 @@ returns-in-Ok-clause-usage c =
     let rows = found_rows _ arguments
     (rows_of f) _ c.in_ok-command.ensures c.in-Ok.ensures.matches in
     let t = taken_arguments arguments f ok none rows in
-    let given = c.given_in.ensures t.uses t.reads in
     let same = settings_taken arguments c.args.workers t.uses t.spelled t.distinct
-    ∙ sym (c.settings.ensures
-    ∙ ap (λ (g : LineValues). cond (is_allowed c.args.workers g) (Some (settings_with g)) None)
-    given) in
-    answer_usage c.settings.result _ c.ok_or.result c.ok_or.ensures.value same
+    ∙ sym (c.settings_in.ensures t.uses t.reads) in
+    answer_usage c.settings_in.result _ c.ok_or.result c.ok_or.ensures.value same
 
 pub returns-in-Err-clause-usage : goal.returns-in-Err-clause-usage
 returns-in-Err-clause-usage c usage =
