@@ -11,10 +11,6 @@ use page_workers::Bench;
 use pixel_round::Units;
 use std::alloc::{AllocError as NoMemory, Global};
 
-/// How many bytes the fonts in the cache of a run may weigh together: 2 GiB, which few documents
-/// come near to.
-pub const CACHE_BUDGET: u64 = 2_147_483_648;
-
 /// An empty cache for the fonts of a document with these units, and seat 0 of it. The fonts that it
 /// keeps weigh no more bytes than the budget together. `_units` is there for the proof: the units of
 /// the seat's common part.

@@ -11,7 +11,7 @@ ghost use Rattle.dvi_run.specs.Outside.{change_of, task_for_sample};
 ghost use Rattle.dvi_run.specs.Together.{WorkersAreDone, DrewDocument, PagesMatchHistory, IsReadyWorker, RestIsKept, SomeUsed, SourceRose};
 
 use crate::ending::Ending;
-use crate::opening::{CACHE_BUDGET, bench_with, open_cache};
+use crate::opening::{bench_with, open_cache};
 use crate::reading::{ReadStop, read_all};
 use crate::shared_cache::draw_with_shared_cache;
 use crate::tally::Tally;
@@ -57,7 +57,7 @@ fn draw_pages<R: Threads + Wait + Sync, F: FontSource + Send, O: Output>(
     ensures output { O.faults out.old ≤ O.faults out.new }
 {
     let units = index.units();
-    let opened = open_cache(alloc, settings.cache as usize, CACHE_BUDGET, &units);
+    let opened = open_cache(alloc, settings.cache as usize, settings.room, &units);
     let opening = bench_with(opened, units);
     let (ending, tally, calls) = draw_with_shared_cache(
         rt,

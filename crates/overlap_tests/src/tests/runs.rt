@@ -34,6 +34,7 @@ fn settings() -> Settings
         },
         workers: 2,
         cache: 4,
+        room: 2_147_483_648,
         sample: None,
         packed: false,
         trace: false,
