@@ -21,6 +21,7 @@ struct Machine {
 }
 
 // What a fill says: what its font weighs, whether it is kept, and the keys of those that left.
+#[derive(Clone, Copy)]
 struct Filled<'f> {
     weight: u64,
     kept: bool,

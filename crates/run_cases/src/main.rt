@@ -39,7 +39,8 @@
 //! times; `=K` is page K once more. What holds of every run is told only where it is wrong: no
 //! worker keeps a seat or a result; the pages drawn are the first ones, each drawn once, by one of
 //! as many workers as `--workers=N` says (1), each worker's in rising order; and the calls are
-//! those of a cache with room for as many fonts as `--cache=N` says (16).
+//! those of a cache with room for as many fonts as `--cache=N` says (16), which weigh together no
+//! more bytes than `--room=N` says (2147483648).
 #![tactic(auto)]
 
 mod bytes;
