@@ -145,7 +145,9 @@ class Arguments(unittest.TestCase):
 
     def test_arguments_that_are_no_command_line(self):
         for words in (['--help'], [''], ['page.dvi'], ['--'], ['--res'], ['--res', '0'], ['--res=4801'], ['--res=+300'], ['--width', '00000001'],
-                      ['--trace=1'], ['--workers', '33'], ['--trace', '--trace'], ['--summ'], ['--sample', '0'], ['--sample=1001']):
+                      ['--trace=1'], ['--workers', '33'], ['--trace', '--trace'], ['--cache', '0000000016'],
+                      ['--room'], ['--room='], ['--room=-1'], ['--room', '2147483649'], ['--room=00000000006'], ['--room=6', '--room=6'],
+                      ['--summ'], ['--sample', '0'], ['--sample=1001']):
             self.assertEqual(self.drawn(*words), (1, b'', 'dvipbm: usage\n'), words)
 
     def test_an_argument_that_is_not_utf_8(self):
@@ -201,6 +203,82 @@ class Arguments(unittest.TestCase):
 
     def test_a_run_without_a_cache_has_its_line_alone(self):
         self.assertEqual(self.drawn('--trace', '--summary', data=b''), (2, b'', 'dvipbm: document: truncated at 0\n'))
+
+
+def glyphs_of(name):
+    """The width and height of each glyph of a PK file of the sample's, by its code; its packets have the short form, and it has no specials."""
+    with open(f'{SAMPLE}/{name}.300pk', 'rb') as file:
+        text = file.read()
+    at, found = 19 + text[2], {}
+    while text[at] < 240:
+        assert text[at] % 8 < 4, name
+        found[text[at + 2]] = text[at + 7], text[at + 8]
+        at += 3 + (text[at] % 4 * 256 + text[at + 1])
+    return found
+
+
+def calls_of(looks, weights, room):
+    """What a cache with so much room does at these looks, as a trace prints it. It is large enough for all fonts."""
+    kept, lines = [], []  # the font used longest ago first
+    for font in looks:
+        if font in kept:
+            kept.append(kept.pop(kept.index(font)))
+            lines.append(f'1 look {font} hit')
+        elif weights[font] > room:
+            lines += [f'1 look {font} claimed', f'1 fill {font} not kept']
+        else:
+            kept.append(font)
+            gone = []
+            while sum(weights[one] for one in kept) > room:
+                gone.append(kept.pop(0))
+            lines += [f'1 look {font} claimed', f'1 fill {font} evict {", ".join(gone) or "-"}']
+    return lines
+
+
+@needs_program
+class Room(unittest.TestCase):
+    """A document in the sample's four fonts, over a cache with more and less room for them."""
+    FONTS = {'drawn12': (786432, b'T'), 'drawn8': (524288, b'1'), 'slant12': (786432, b'a'), 'slant8': (524288, b'r')}
+    PAGES = (0, 1, 2, 3), (3, 0), (1, 2), (0, 3, 0)
+
+    def setUp(self):
+        keys = {name: f'{name} {size} {size}' for name, (size, _) in self.FONTS.items()}
+        self.weights = {key: sum(height * ((width + 7) // 8) for width, height in glyphs_of(name).values()) for name, key in keys.items()}
+        self.looks = [list(keys.values())[font] for page in self.PAGES for font in page]
+        letters = [bytes([171 + font]) + letter for font, (_, letter) in enumerate(self.FONTS.values())]
+        fonts = b''.join(definition(font, name.encode(), size, size) for font, (name, (size, _)) in enumerate(self.FONTS.items()))
+        self.data = document([b''.join(letters[font] for font in page) for page in self.PAGES], fonts)
+
+    def drawn(self, *words):
+        return called(words=['--trace', '--summary', *words], stdin=held(self.data), env=environment(DVIPBM_FONTS=SAMPLE))
+
+    def rooms(self):
+        """None; one byte too few for each font, and enough; for all but a byte, and for all."""
+        each = sorted(self.weights.values())
+        return [0, *(room for weight in each for room in (weight - 1, weight)), sum(each) - 1, sum(each), 2147483648]
+
+    def test_the_calls_are_those_of_a_cache_with_this_room(self):
+        for room in self.rooms():
+            notes = self.drawn(f'--room={room}')[2].splitlines()
+            wanted = calls_of(self.looks, self.weights, room)
+            evicted = sum(line.split(' evict ')[1].count(', ') + 1 for line in wanted if ' evict ' in line and not line.endswith(' -'))
+            claims = sum(line.endswith(' claimed') for line in wanted)
+            self.assertEqual(notes[:-9], wanted, room)
+            self.assertEqual(notes[-6:-1], [f'claims {claims}', 'busy 0', f'evictions {evicted}', 'releases 0', f'loads {3 * claims}'], room)
+
+    def test_the_pages_are_the_same(self):
+        whole = self.drawn()
+        self.assertEqual((whole[0], whole[1].count(PAGE)), (0, 4))
+        for room in self.rooms():
+            for workers in ('1', '4'):
+                self.assertTrue(self.drawn('--room', str(room), '--workers', workers)[:2] == whole[:2], (room, workers))
+
+    def test_less_room_reads_more(self):
+        each = sorted(self.weights.values())
+        counts = [dict(line.split() for line in self.drawn(f'--room={room}')[2].splitlines()[-9:]) for room in (sum(each), sum(each) - 1, each[-1], 0)]
+        loads, evicted = ([int(count[name]) for count in counts] for name in ('loads', 'evictions'))
+        self.assertTrue(3 * len(each) == loads[0] < loads[1] <= loads[2] <= loads[3] == 3 * len(self.looks), loads)
+        self.assertTrue(0 == evicted[0] < evicted[1] < evicted[2] and evicted[3] == 0, evicted)
 
 
 @needs_program
