@@ -1,4 +1,6 @@
-"""bench/pages tells a program's own memory and not that of the script, and counts whole pages; bench/divisions finds what divides."""
+"""bench/pages tells a program's own memory and not that of the script, and counts whole pages; bench/divisions finds what divides; bench/room
+says whether memory falls with the room of the cache.
+"""
 import os, re, subprocess, sys, tempfile, unittest
 
 from common import TOP
@@ -69,6 +71,47 @@ class Divisions(unittest.TestCase):
         last = 'packed_rows::pieces::stamp_part: 2 instructions, {} divide, {} calls of a wide division'.format
         found = [self.looked(instruction) for instruction in ('mul    %rcx', 'div    %rcx', 'call   50 <__udivti3>')]
         self.assertEqual(found, [(0, [last(0, 0)]), (1, [last(1, 0)]), (1, [last(0, 1)])])
+
+
+# A program that keeps so much of 8 MiB of fonts as it has room for, on top of 16 MiB, or that much of what it has no room for.
+ROOMY = '''#!{python}
+import sys
+room = min(int(sys.argv[sys.argv.index('--room') + 1]), 8 << 20)
+held = b'x' * ((16 << 20) + {held})
+evicted = (8 << 20) - room >> 15
+for _ in range(3):
+    sys.stdout.buffer.write(b'P4\\n2550 3300\\n' + bytes(1052700))
+sys.stdout.buffer.flush()
+print('pages 3', f'evictions {{evicted}}', f'loads {{768 + evicted}}', sep='\\n', file=sys.stderr)
+sys.exit({status})
+'''
+
+
+@unittest.skipUnless(os.path.exists('/proc/self/status'), 'the system has no /proc')
+class Room(unittest.TestCase):
+    def measured(self, held, status=0):
+        with tempfile.TemporaryDirectory() as room:
+            path = os.path.join(room, 'program')
+            with open(path, 'w') as file:
+                file.write(ROOMY.format(python=sys.executable, held=held, status=status))
+            os.chmod(path, 0o755)
+            ran = subprocess.run([sys.executable, f'{TOP}/bench/room', path, os.devnull, room], capture_output=True, text=True)
+        return ran
+
+    def test_memory_that_falls_with_the_room(self):
+        ran = self.measured('room')
+        lines = ran.stdout.splitlines()
+        rooms = [(int(size.replace(',', '')), int(evicted)) for size, evicted in re.findall(r'^ *([\d,]+) KiB .* (\d+)  [\d.]+ s$', ran.stdout, re.M)]
+        self.assertEqual((ran.returncode, lines[-1:]), (0, ['the memory falls with the room; one text']), ran.stdout + ran.stderr)
+        self.assertEqual(rooms, [(32 << at, max(0, 256 - (1 << at))) for at in range(10)])
+
+    def test_memory_that_does_not(self):
+        ran = self.measured('(8 << 20) - room')
+        self.assertEqual((ran.returncode, ran.stdout.splitlines()[-1:]), (1, ['the memory does not fall with the room; one text']), ran.stdout)
+
+    def test_a_run_that_fails(self):
+        ran = self.measured('room', 4)
+        self.assertEqual((ran.returncode, 'status 4' in ran.stderr), (1, True), ran.stderr)
 
 
 if __name__ == '__main__':

@@ -40,6 +40,14 @@ class Messages(unittest.TestCase):
         lacking = [line for line in items if len(module.of_manual(manual.replace(f'{line}\n', '', 1))) != len(items) - 1]
         self.assertEqual(lacking, [])
 
+    def test_options_calls_and_counts(self):
+        module = loaded()
+        formats, manual = module.others_of_formats(read('FORMATS.md')), module.others_of_manual(read('man/dvipbm.1'))
+        self.assertEqual(formats ^ manual, set())
+        self.assertLessEqual({'--room', '--top', 'trace: look KEY busy', 'trace: fill KEY evict -', 'trace: fill KEY evict KEY, KEY',
+                              'trace: fill KEY not kept', 'summary: claims', 'summary: evictions'}, manual)
+        self.assertEqual((sum(word.startswith('--') for word in manual), sum(word.startswith('summary') for word in manual)), (12, 9))
+
 
 if __name__ == '__main__':
     unittest.main()
