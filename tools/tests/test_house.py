@@ -47,7 +47,6 @@ NEIGHBOURS = {
     'crates/pk_runs/src/numbers.rt: number',            # dyn_f, and a nybble
     'crates/cache_seats/src/pace.rt: steps_from',       # a number, and how many steps from it
     'crates/cache_seats/src/pace.rt: note',             # look-ups, and a number that is kept
-    'crates/run_report/src/trace.rt: put_eviction',     # two keys, in the order in which they are printed
     'crates/turn_lock/src/example.rt: finish',          # two seats that are joined one after the other
 }
 
