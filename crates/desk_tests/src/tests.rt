@@ -96,7 +96,7 @@ fn calls_and_glyph<R: Wait>(rt: &R, alloc: Global) -> Result<([u8; 4], usize, bo
     let (_, calls) = desk.finish();
     let has_glyph = match &*held {
         Decoded::Font(font) => font.glyph(0x41).is_some(),
-        Decoded::Fault(_) => false,
+        Decoded::Bare(_) | Decoded::Fault(_) => false,
     };
     Ok((letters_of(&calls), calls.len(), has_glyph))
 }

@@ -10,7 +10,7 @@ use Rattle.packed_rows.specs.Changes.{black_count}
 use Rattle.packed_rows.proofs.Lists.{length-from_fn}
 use Rattle.pixel_round.specs.Pixels.{Fraction, conversion}
 use Rattle.raster_page.specs.Ink.{Inked, is_inked, page_of}
-use Rattle.vf_expand.specs.Course.{Course, Gives, Asks, Ends, Stops}
+use Rattle.vf_expand.specs.Course.{Course, Gives, Asks, Lacks, Ends, Stops}
 use Rattle.page_draw.specs.Members.{marks_from}
 use Rattle.page_draw.specs.Sheets.{IsDrawable}
 use Rattle.page_draw.specs.Values.{EndsIn, bitmap_of, ended_with}
@@ -37,6 +37,7 @@ ended (r ∷ saved) eop b page is = cc
 drawn : (c : Fraction) (s : State) (b : Bitmap) (to : Course) (page : Bitmap) → EndsIn c s b to (Ok page) → page ≡ b
 drawn c s b (Gives f g at rest) page h = let is = h.2 in cc
 drawn c s b (Asks k at rest) page h = absurd h
+drawn c s b (Lacks f at rest) page h = absurd h
 drawn c s b (Ends at) page h = ended s.saved at b page h
 drawn c s b (Stops fault at) page h = cc
 

@@ -14,11 +14,11 @@ use Rattle.font_decode.specs.Names.{is_valid_name, dpi, is_resolution}
 use Rattle.font_decode.specs.Files.{FontFiles}
 use Rattle.font_decode.specs.Fonts.{FontValue, first_in, glyph_at, glyph_in, is_virtual_shape, local_in, packet_in}
 use Rattle.font_decode.specs.declared.shapes.Shapes.{Shapes}
-use Rattle.font_decode.specs.declared.shapes.Shapes.TheVariants.{Packed, Generic, Virtual}
+use Rattle.font_decode.specs.declared.shapes.Shapes.TheVariants.{Packed, Generic, Bare as NoShape, Virtual}
 use Rattle.font_decode.specs.Laws.{OneIsFound, OneOfItsFiles, OneInALibrary}
-use Rattle.font_decode.specs.Decoding.{IsPackedFont, IsGenericFont, IsVirtualFont, is_too_long, DecodesPk, DecodesShortPk, DecodesGf, DecodesShortGf, DecodesGlyphs, DecodesPacked, DecodesItems, DecodesVf, DecodesShortVf, DecodesSound, DecodesTfm, IsDecodingOf, AreAlike, AreAlikeFonts}
+use Rattle.font_decode.specs.Decoding.{IsBareFont, IsPackedFont, IsGenericFont, IsVirtualFont, is_too_long, DecodesBare, DecodesPk, DecodesShortPk, DecodesGf, DecodesShortGf, DecodesGlyphs, DecodesPacked, DecodesItems, DecodesVf, DecodesShortVf, DecodesSound, DecodesTfm, IsDecodingOf, AreAlike, AreAlikeFonts}
 use Rattle.font_decode.specs.declared.font_or_fault.Decoded.{Decoded}
-use Rattle.font_decode.specs.declared.font_or_fault.Decoded.TheVariants.{Font, Fault}
+use Rattle.font_decode.specs.declared.font_or_fault.Decoded.TheVariants.{Font, Bare, Fault}
 use Rattle.font_decode.specs.declared.faults.FontFault.{FontFault}
 use Rattle.font_decode.specs.declared.faults.FontFault.TheVariants as fault
 
@@ -29,7 +29,9 @@ IsOne P = (d e : Decoded) → P d → P e → AreAlike d e
 -- one fault
 one_fault : (f : FontFault) → IsOne (λ d. d ≡ Fault f)
 one_fault f (Font x) e p q = absurd (cc)
+one_fault f (Bare x) e p q = absurd (cc)
 one_fault f (Fault x) (Font y) p q = absurd (cc)
+one_fault f (Fault x) (Bare y) p q = absurd (cc)
 one_fault f (Fault x) (Fault y) p q = cc
 
 -- where each branch leaves one answer, so does the choice
@@ -45,21 +47,25 @@ one_of_option (Some a) P Q p q d e x y = q a d e x y
 no_packet : (s : Shapes) (c : ℕ) → is_virtual_shape s ≡ false → packet_in s c ≡ None
 no_packet (Packed glyphs) c packed = refl
 no_packet (Generic glyphs) c packed = refl
+no_packet NoShape c packed = refl
 no_packet (Virtual file keys) c packed = cc
 
 no_local : (s : Shapes) (n : ℤ) → is_virtual_shape s ≡ false → local_in s n ≡ None
 no_local (Packed glyphs) n packed = refl
 no_local (Generic glyphs) n packed = refl
+no_local NoShape n packed = refl
 no_local (Virtual file keys) n packed = cc
 
 no_first : (s : Shapes) → is_virtual_shape s ≡ false → first_in s ≡ None
 no_first (Packed glyphs) packed = refl
 no_first (Generic glyphs) packed = refl
+no_first NoShape packed = refl
 no_first (Virtual file keys) packed = cc
 
 no_glyph : (s : Shapes) (c : ℕ) → is_virtual_shape s ≡ true → glyph_in s c ≡ None
 no_glyph (Packed glyphs) c virtual = cc
 no_glyph (Generic glyphs) c virtual = cc
+no_glyph NoShape c virtual = refl
 no_glyph (Virtual file keys) c virtual = refl
 
 -- the fonts of two sound files are alike
@@ -87,6 +93,17 @@ alike_generic k tfm gf f g p q = record {
   first = no_first f.shapes p.packed ∙ sym (no_first g.shapes q.packed);
 }
 
+alike_bare : (k : FontKey) (tfm : List ℕ) (f g : FontValue) → IsBareFont k tfm f → IsBareFont k tfm g → AreAlikeFonts f g
+alike_bare k tfm f g p q = record {
+  size = p.size ∙ sym q.size;
+  widths = λ c. p.widths c ∙ sym (q.widths c);
+  virtual = p.packed ∙ sym q.packed;
+  glyphs = λ c. p.none c ∙ sym (q.none c);
+  packets = λ c. no_packet f.shapes c p.packed ∙ sym (no_packet g.shapes c q.packed);
+  locals = λ n. no_local f.shapes n p.packed ∙ sym (no_local g.shapes n q.packed);
+  first = no_first f.shapes p.packed ∙ sym (no_first g.shapes q.packed);
+}
+
 alike_virtual : (u : Units) (k : FontKey) (tfm : List ℕ) (items : List (List ℕ)) (f g : FontValue) → IsVirtualFont u k tfm items f → IsVirtualFont u k tfm items g → AreAlikeFonts f g
 alike_virtual u k tfm items f g p q = record {
   size = p.size ∙ sym q.size;
@@ -100,15 +117,26 @@ alike_virtual u k tfm items f g p q = record {
 
 one_of_pk : (k : FontKey) (tfm pk : List ℕ) → IsOne (DecodesPk k tfm pk)
 one_of_pk k tfm pk (Font f) (Font g) p q = alike_fonts k tfm pk f g p q
-one_of_pk k tfm pk (Font f) (Fault g) p q = files_have_no_fault pk p.items q.0 p.file q.1
-one_of_pk k tfm pk (Fault f) (Font g) p q = files_have_no_fault pk q.items p.0 q.file p.1
+one_of_pk k tfm pk (Font f) (Fault g) p q = absurd (files_have_no_fault pk p.items q.0 p.file q.1)
+one_of_pk k tfm pk (Fault f) (Font g) p q = absurd (files_have_no_fault pk q.items p.0 q.file p.1)
+one_of_pk k tfm pk (Bare f) e p q = absurd p
+one_of_pk k tfm pk d (Bare g) p q = absurd q
 one_of_pk k tfm pk (Fault f) (Fault g) p q = p.2 ∙ ap fault.Pk (first_faults_are_one pk p.0 q.0 p.1 q.1) ∙ sym q.2
 
 one_of_gf : (k : FontKey) (tfm gf : List ℕ) → IsOne (DecodesGf k tfm gf)
 one_of_gf k tfm gf (Font f) (Font g) p q = alike_generic k tfm gf f g p q
-one_of_gf k tfm gf (Font f) (Fault g) p q = gf_file.files_have_no_fault gf p.characters q.0 p.file q.1
-one_of_gf k tfm gf (Fault f) (Font g) p q = gf_file.files_have_no_fault gf q.characters p.0 q.file p.1
+one_of_gf k tfm gf (Font f) (Fault g) p q = absurd (gf_file.files_have_no_fault gf p.characters q.0 p.file q.1)
+one_of_gf k tfm gf (Fault f) (Font g) p q = absurd (gf_file.files_have_no_fault gf q.characters p.0 q.file p.1)
+one_of_gf k tfm gf (Bare f) e p q = absurd p
+one_of_gf k tfm gf d (Bare g) p q = absurd q
 one_of_gf k tfm gf (Fault f) (Fault g) p q = p.2 ∙ ap fault.Gf (gf_file.first_faults_are_one gf p.0 q.0 p.1 q.1) ∙ sym q.2
+
+one_of_bare : (k : FontKey) (tfm : List ℕ) → IsOne (DecodesBare k tfm)
+one_of_bare k tfm (Bare f) (Bare g) p q = alike_bare k tfm f g p q
+one_of_bare k tfm (Font f) e p q = absurd p
+one_of_bare k tfm (Fault f) e p q = absurd p
+one_of_bare k tfm d (Font g) p q = absurd q
+one_of_bare k tfm d (Fault g) p q = absurd q
 
 module _ (u : Units) (k : FontKey) where
   one_of_short_pk : (tfm pk : List ℕ) → IsOne (DecodesShortPk k tfm pk)
@@ -118,7 +146,7 @@ module _ (u : Units) (k : FontKey) where
   one_of_short_gf tfm gf = one_of_two (is_too_long gf) _ _ (one_fault _) (one_of_gf k tfm gf)
 
   one_of_glyphs : (tfm : List ℕ) (files : FontFiles) → IsOne (DecodesGlyphs k tfm files)
-  one_of_glyphs tfm files = one_of_option files.pk _ _ (one_of_option files.gf _ _ (one_fault _) (one_of_short_gf tfm)) (one_of_short_pk tfm)
+  one_of_glyphs tfm files = one_of_option files.pk _ _ (one_of_option files.gf _ _ (one_of_bare k tfm) (one_of_short_gf tfm)) (one_of_short_pk tfm)
 
   one_of_packed : (tfm : List ℕ) (files : FontFiles) → IsOne (DecodesPacked u k tfm files)
   one_of_packed tfm files = one_of_two (is_resolution (dpi u k)) _ _ (one_of_glyphs tfm files) (one_fault _)
@@ -128,6 +156,8 @@ module _ (u : Units) (k : FontKey) where
   one_of_items tfm items (Font f) (Fault g) p q = absurd (true≢false (sym p.0 ∙ q.0))
   one_of_items tfm items (Fault f) (Font g) p q = absurd (true≢false (sym q.0 ∙ p.0))
   one_of_items tfm items (Fault f) (Fault g) p q = p.1 ∙ sym q.1
+  one_of_items tfm items (Bare f) e p q = absurd p
+  one_of_items tfm items d (Bare g) p q = absurd q
 
   one_of_vf : (tfm vf : List ℕ) → IsOne (DecodesVf u k tfm vf)
   one_of_vf tfm vf d e (inl p) (inl q) =

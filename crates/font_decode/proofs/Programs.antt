@@ -9,10 +9,10 @@ use Rattle.font_decode.specs.Names.{is_valid_name, dpi, is_resolution}
 use Rattle.font_decode.specs.Files.{FontFiles}
 use Rattle.font_decode.specs.Fonts.{IsProgram, is_virtual_shape, packet_in, packet_of}
 use Rattle.font_decode.specs.declared.shapes.Shapes.{Shapes}
-use Rattle.font_decode.specs.declared.shapes.Shapes.TheVariants.{Packed, Generic, Virtual}
-use Rattle.font_decode.specs.Decoding.{is_too_long, DecodesPk, DecodesShortPk, DecodesGf, DecodesShortGf, DecodesGlyphs, DecodesPacked, DecodesVf, DecodesShortVf, DecodesSound, DecodesTfm, IsDecodingOf}
+use Rattle.font_decode.specs.declared.shapes.Shapes.TheVariants.{Packed, Generic, Bare as NoShape, Virtual}
+use Rattle.font_decode.specs.Decoding.{is_too_long, DecodesBare, DecodesPk, DecodesShortPk, DecodesGf, DecodesShortGf, DecodesGlyphs, DecodesPacked, DecodesVf, DecodesShortVf, DecodesSound, DecodesTfm, IsDecodingOf}
 use Rattle.font_decode.specs.declared.font_or_fault.Decoded.{Decoded}
-use Rattle.font_decode.specs.declared.font_or_fault.Decoded.TheVariants.{Font, Fault}
+use Rattle.font_decode.specs.declared.font_or_fault.Decoded.TheVariants.{Font, Bare, Fault}
 use Rattle.font_decode.specs.declared.faults.FontFault.{FontFault}
 use Rattle.font_decode.specs.Laws.{PacketsAreBalanced}
 use Rattle.font_decode.proofs.SoundVf.{sound_programs}
@@ -20,6 +20,7 @@ use Rattle.font_decode.proofs.SoundVf.{sound_programs}
 -- each packet of a font is a program
 abbrev pub HasPrograms : Decoded → Type 0
 HasPrograms (Font f) = (c : ℕ) → IfSome (packet_of f c) (IsProgram c)
+HasPrograms (Bare f) = Unit {0}
 HasPrograms (Fault f) = Unit {0}
 
 abbrev GivesPrograms : (Decoded → Type 0) → Type 0
@@ -27,6 +28,7 @@ GivesPrograms P = (d : Decoded) → P d → HasPrograms d
 
 one_fault : (f : FontFault) → GivesPrograms (λ d. d ≡ Fault f)
 one_fault f (Font x) e = absurd (cc)
+one_fault f (Bare x) e = tt
 one_fault f (Fault x) e = tt
 
 one_of_two : (b : Bool) (P Q : Decoded → Type 0) → GivesPrograms P → GivesPrograms Q → GivesPrograms (λ d. MatchBool b (P d) (Q d))
@@ -41,16 +43,24 @@ one_of_option (Some a) P Q p q d h = q a d h
 none_packed : (s : Shapes) (c : ℕ) → is_virtual_shape s ≡ false → IfSome (packet_in s c) (IsProgram c)
 none_packed (Packed glyphs) c packed = tt
 none_packed (Generic glyphs) c packed = tt
+none_packed NoShape c packed = tt
 none_packed (Virtual file keys) c packed = absurd (cc)
 
 module _ (u : Units) (k : FontKey) where
   of_pk : (tfm pk : List ℕ) → GivesPrograms (DecodesPk k tfm pk)
   of_pk tfm pk (Font f) h = λ c. none_packed f.shapes c h.packed
+  of_pk tfm pk (Bare f) h = tt
   of_pk tfm pk (Fault f) h = tt
 
   of_gf : (tfm gf : List ℕ) → GivesPrograms (DecodesGf k tfm gf)
   of_gf tfm gf (Font f) h = λ c. none_packed f.shapes c h.packed
+  of_gf tfm gf (Bare f) h = tt
   of_gf tfm gf (Fault f) h = tt
+
+  of_bare : (tfm : List ℕ) → GivesPrograms (DecodesBare k tfm)
+  of_bare tfm (Font f) h = absurd h
+  of_bare tfm (Bare f) h = tt
+  of_bare tfm (Fault f) h = tt
 
   of_short_pk : (tfm pk : List ℕ) → GivesPrograms (DecodesShortPk k tfm pk)
   of_short_pk tfm pk = one_of_two (is_too_long pk) _ _ (one_fault _) (of_pk tfm pk)
@@ -59,12 +69,13 @@ module _ (u : Units) (k : FontKey) where
   of_short_gf tfm gf = one_of_two (is_too_long gf) _ _ (one_fault _) (of_gf tfm gf)
 
   of_glyphs : (tfm : List ℕ) (files : FontFiles) → GivesPrograms (DecodesGlyphs k tfm files)
-  of_glyphs tfm files = one_of_option files.pk _ _ (one_of_option files.gf _ _ (one_fault _) (of_short_gf tfm)) (of_short_pk tfm)
+  of_glyphs tfm files = one_of_option files.pk _ _ (one_of_option files.gf _ _ (of_bare tfm) (of_short_gf tfm)) (of_short_pk tfm)
 
   of_packed : (tfm : List ℕ) (files : FontFiles) → GivesPrograms (DecodesPacked u k tfm files)
   of_packed tfm files = one_of_two (is_resolution (dpi u k)) _ _ (of_glyphs tfm files) (one_fault _)
 
   of_vf : (tfm vf : List ℕ) → GivesPrograms (DecodesVf u k tfm vf)
+  of_vf tfm vf (Bare f) h = tt
   of_vf tfm vf (Fault f) h = tt
   of_vf tfm vf (Font f) (inl wrong) = absurd (cc (wrong.2))
   of_vf tfm vf (Font f) (inr right) = λ c. subst (λ (o : Option (List ℕ)). IfSome o (IsProgram c)) (sym (right.2.1.packets c)) (sound_programs right.0 right.1.sound c)

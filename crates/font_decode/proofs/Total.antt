@@ -21,10 +21,10 @@ use Rattle.outside.specs.declared.keys.FontKey.{FontKey}
 use Rattle.pixel_round.specs.declared.units.Units.{Units}
 use Rattle.font_decode.specs.Names.{is_valid_name, dpi, is_resolution, tfm_name, vf_name}
 use Rattle.font_decode.specs.Files.{FontFiles, first_there, pk_choices, gf_choices}
-use Rattle.font_decode.specs.Decoding.{is_too_long, scaled_width, DecodesPk, DecodesShortPk, DecodesGf, DecodesShortGf, DecodesGlyphs, DecodesPacked, DecodesItems, DecodesVf, DecodesShortVf, DecodesSound, DecodesTfm, IsDecodingOf}
+use Rattle.font_decode.specs.Decoding.{is_too_long, scaled_width, DecodesPk, DecodesShortPk, DecodesGf, DecodesShortGf, DecodesGlyphs, DecodesPacked, DecodesItems, DecodesVf, DecodesShortVf, DecodesSound, DecodesTfm, IsDecodingOf, DecodesBare}
 use Rattle.font_decode.specs.Laws.{AreByteFiles, EachKeyIsDecoded}
 use Rattle.font_decode.specs.declared.font_or_fault.Decoded.{Decoded}
-use Rattle.font_decode.specs.declared.font_or_fault.Decoded.TheVariants.{Font, Fault}
+use Rattle.font_decode.specs.declared.font_or_fault.Decoded.TheVariants.{Font, Bare, Fault}
 use Rattle.font_decode.specs.declared.faults.FileKind.TheVariants as kind
 use Rattle.font_decode.specs.declared.faults.FontFault.TheVariants as fault
 use Rattle.font_decode.specs.Locals.{are_local_sizes}
@@ -115,12 +115,17 @@ module _ (u : Units) (k : FontKey) where
     | inr fits ↦ let r = gf_then tfm gf sound in (r.0, at_false (r.0 ≡ Fault (fault.TooLong kind.Gf)) _ fits r.1)
   ]
 
-  gf_file_then : (tfm : List ℕ) (gf : Option (List ℕ)) → tfm_fault tfm ≡ None → (d : Decoded) × MatchOption gf (d ≡ Fault (fault.Missing kind.Pk)) (λ g. DecodesShortGf k tfm g d)
-  gf_file_then tfm None sound = (Fault (fault.Missing kind.Pk), refl)
+  bare_then : (tfm : List ℕ) → tfm_fault tfm ≡ None → (d : Decoded) × DecodesBare k tfm d
+  bare_then tfm sound =
+      let widths = widths_then tfm sound in
+      (Bare (record { size = k.size; widths = widths.0; shapes = shape.Bare }), record { size = refl; widths = widths.1; packed = refl; none = λ c. refl })
+
+  gf_file_then : (tfm : List ℕ) (gf : Option (List ℕ)) → tfm_fault tfm ≡ None → (d : Decoded) × MatchOption gf (DecodesBare k tfm d) (λ g. DecodesShortGf k tfm g d)
+  gf_file_then tfm None sound = bare_then tfm sound
   gf_file_then tfm (Some gf) sound = short_gf_then tfm gf sound
 
   glyphs_then : (tfm : List ℕ) (pk gf : Option (List ℕ)) → tfm_fault tfm ≡ None → IfSome pk AreBytes
-      → (d : Decoded) × MatchOption pk (MatchOption gf (d ≡ Fault (fault.Missing kind.Pk)) (λ g. DecodesShortGf k tfm g d)) (λ p. DecodesShortPk k tfm p d)
+      → (d : Decoded) × MatchOption pk (MatchOption gf (DecodesBare k tfm d) (λ g. DecodesShortGf k tfm g d)) (λ p. DecodesShortPk k tfm p d)
   glyphs_then tfm None gf sound few = gf_file_then tfm gf sound
   glyphs_then tfm (Some pk) gf sound few = short_then tfm pk sound few
 

@@ -1,6 +1,6 @@
 -- What decodings weigh.
 use Rattle.std.proofs.Common.{◌≡◌, ◌∙◌, ℕ, ◌+◌, None, refl, sym, ap, ap₂, arith}
-use Rattle.code_sums.proofs.Sums.{equal_terms_have_one_sum}
+use Rattle.code_sums.proofs.Sums.{equal_terms_have_one_sum, sums_are_bounded}
 use Rattle.pk_runs.specs.Glyphs.{Glyphs, glyph_of}
 use Rattle.pk_runs.specs.Weights.{glyphs_weight, raster_bytes}
 use Rattle.vf_reader.specs.Fonts.{Virtual, packet_of}
@@ -11,8 +11,8 @@ use Rattle.font_decode.specs.Decoding.{AreAlikeFonts}
 use Rattle.font_decode.specs.FontWeights.{font_weight, shapes_weight}
 use Rattle.font_decode.specs.Weights.{AlikeWeighTheSame, EachKeyHasAWeight, OneWeightInALibrary, weight_of}
 use Rattle.font_decode.specs.declared.shapes.Shapes.{Shapes}
-use Rattle.font_decode.specs.declared.shapes.Shapes.TheVariants.{Packed, Generic}
-use Rattle.font_decode.specs.declared.font_or_fault.Decoded.TheVariants.{Font, Fault}
+use Rattle.font_decode.specs.declared.shapes.Shapes.TheVariants.{Packed, Generic, Bare as NoShape}
+use Rattle.font_decode.specs.declared.font_or_fault.Decoded.TheVariants.{Font, Bare, Fault}
 use Rattle.font_decode.proofs.Alike.{one_in_a_library}
 use Rattle.font_decode.proofs.Total.{each_key_is_decoded}
 
@@ -25,6 +25,11 @@ packed_weight glyphs =
 pub generic_weight : (glyphs : Glyphs) → glyphs_weight glyphs ≡ shapes_weight (Generic glyphs)
 generic_weight glyphs =
     equal_terms_have_one_sum (λ c. raster_bytes (glyph_of glyphs c)) (λ c. raster_bytes (glyph_in (Generic glyphs) c) + packet_bytes (packet_in (Generic glyphs) c)) (λ c code. omega arith)
+
+pub bare_weight : 0 ≡ shapes_weight NoShape
+bare_weight =
+    let none = sums_are_bounded (λ c. raster_bytes (glyph_in NoShape c) + packet_bytes (packet_in NoShape c)) 0 (λ c. omega arith) in
+    omega arith
 
 pub virtual_weight : (shapes : Shapes) (file : Virtual) → ((c : ℕ) → glyph_in shapes c ≡ None) → ((c : ℕ) → packet_in shapes c ≡ packet_of file c) → packets_weight file ≡ shapes_weight shapes
 virtual_weight shapes file none packets =
@@ -40,8 +45,13 @@ alike_fonts f g alike =
 
 pub alike_weigh_the_same : AlikeWeighTheSame
 alike_weigh_the_same (Font f) (Font g) alike = alike_fonts f g alike
+alike_weigh_the_same (Font f) (Bare g) alike = absurd alike
 alike_weigh_the_same (Font f) (Fault g) alike = absurd alike
+alike_weigh_the_same (Bare f) (Font g) alike = absurd alike
+alike_weigh_the_same (Bare f) (Bare g) alike = refl
+alike_weigh_the_same (Bare f) (Fault g) alike = absurd alike
 alike_weigh_the_same (Fault f) (Font g) alike = absurd alike
+alike_weigh_the_same (Fault f) (Bare g) alike = absurd alike
 alike_weigh_the_same (Fault f) (Fault g) alike = refl
 
 pub one_weight_in_a_library : OneWeightInALibrary

@@ -2,7 +2,7 @@
 -- and files are judged is this driver's own; what the files hold is defined by Knuth's TFtoPL,
 -- VFtoVP and GFtype and Rokicki's PKtype, and the widths by DVItype, "Reading the font
 -- information".
-use Rattle.std.specs.Prelude.{◌≡◌, ◌⊎◌, ℕ, ℤ, Bool, List, length, nat_lt, slice_get, Option, IfSome, IsFalse, IsTrue, MatchBool, MatchOption}
+use Rattle.std.specs.Prelude.{◌≡◌, ◌⊎◌, ℕ, ℤ, Bool, List, length, nat_lt, slice_get, Option, None, IfSome, IsFalse, IsTrue, MatchBool, MatchOption}
 use Rattle.std.specs.Option.{option_map}
 use Rattle.fix_word.specs.Scale.{scale}
 use Rattle.tfm_reader.specs.Tfm.{tfm_fault, tfm_width}
@@ -26,7 +26,7 @@ use Rattle.font_decode.specs.Files.{FontFiles, IsFound, IsInOrder}
 use Rattle.font_decode.specs.Fonts.{FontValue, scaled_width_of, glyph_at, is_virtual_of, packet_of, local_of, first_local_of}
 use Rattle.font_decode.specs.Locals.{are_local_sizes, local_key}
 use Rattle.font_decode.specs.declared.font_or_fault.Decoded.{Decoded}
-use Rattle.font_decode.specs.declared.font_or_fault.Decoded.TheVariants.{Font, Fault}
+use Rattle.font_decode.specs.declared.font_or_fault.Decoded.TheVariants.{Font, Bare, Fault}
 use Rattle.font_decode.specs.declared.faults.FileKind.TheVariants as kind
 use Rattle.font_decode.specs.declared.faults.FontFault.TheVariants as fault
 
@@ -54,6 +54,13 @@ pub record IsGenericFont (k : FontKey) (tfm gf : List ℕ) (f : FontValue) : Typ
   pub file : IsGfFile gf characters
   pub glyphs : (c : ℕ) → glyph_at f c ≡ glyph_for characters c
 
+-- the bare font of a key with a sound TFM file and no file of glyphs: its widths, and no glyph
+pub record IsBareFont (k : FontKey) (tfm : List ℕ) (f : FontValue) : Type 0 where
+  pub size : f.size ≡ k.size
+  pub widths : (c : ℤ) → scaled_width_of f c ≡ scaled_width k.size tfm c
+  pub packed : IsFalse (is_virtual_of f)
+  pub none : (c : ℕ) → glyph_at f c ≡ None
+
 -- the font of a key with a sound TFM file and these items of a sound VF file, whose local fonts
 -- have sizes in range
 pub record IsVirtualFont (u : Units) (k : FontKey) (tfm : List ℕ) (items : List (List ℕ))
@@ -76,6 +83,7 @@ is_too_long bytes = nat_lt MAX_FILE_LENGTH (length bytes)
 -- a PK file: the font, or the file's first fault
 abbrev pub DecodesPk : FontKey → List ℕ → List ℕ → Decoded → Type 0
 DecodesPk k tfm pk (Font f) = IsPackedFont k tfm pk f
+DecodesPk k tfm pk (Bare f) = ⊥
 DecodesPk k tfm pk (Fault f) = (found : PkFault) × IsFirstFault pk found × (f ≡ fault.Pk found)
 
 abbrev pub DecodesShortPk : FontKey → List ℕ → List ℕ → Decoded → Type 0
@@ -85,6 +93,7 @@ DecodesShortPk k tfm pk d =
 -- a GF file: the font, or the file's first fault
 abbrev pub DecodesGf : FontKey → List ℕ → List ℕ → Decoded → Type 0
 DecodesGf k tfm gf (Font f) = IsGenericFont k tfm gf f
+DecodesGf k tfm gf (Bare f) = ⊥
 DecodesGf k tfm gf (Fault f) =
     (found : GfFault) × gf_file.IsFirstFault gf found × (f ≡ fault.Gf found)
 
@@ -92,10 +101,16 @@ abbrev pub DecodesShortGf : FontKey → List ℕ → List ℕ → Decoded → Ty
 DecodesShortGf k tfm gf d =
     MatchBool (is_too_long gf) (d ≡ Fault (fault.TooLong kind.Gf)) (DecodesGf k tfm gf d)
 
--- where there is a PK file, no GF file is looked at; without either, the PK file is missing
+-- no file of glyphs: the bare font
+abbrev pub DecodesBare : FontKey → List ℕ → Decoded → Type 0
+DecodesBare k tfm (Font f) = ⊥
+DecodesBare k tfm (Bare f) = IsBareFont k tfm f
+DecodesBare k tfm (Fault f) = ⊥
+
+-- where there is a PK file, no GF file is looked at; without either, the font is bare
 abbrev pub DecodesGlyphs : FontKey → List ℕ → FontFiles → Decoded → Type 0
 DecodesGlyphs k tfm files d = MatchOption files.pk
-    (MatchOption files.gf (d ≡ Fault (fault.Missing kind.Pk)) (λ gf. DecodesShortGf k tfm gf d))
+    (MatchOption files.gf (DecodesBare k tfm d) (λ gf. DecodesShortGf k tfm gf d))
     (λ pk. DecodesShortPk k tfm pk d)
 
 -- without a VF file: the resolution before the files of glyphs
@@ -107,6 +122,7 @@ DecodesPacked u k tfm files d =
 abbrev pub DecodesItems : Units → FontKey → List ℕ → List (List ℕ) → Decoded → Type 0
 DecodesItems u k tfm items (Font f) =
     IsTrue (are_local_sizes u k.size (locals_of items)) × IsVirtualFont u k tfm items f
+DecodesItems u k tfm items (Bare f) = ⊥
 DecodesItems u k tfm items (Fault f) =
     IsFalse (are_local_sizes u k.size (locals_of items)) × (f ≡ fault.Size)
 
@@ -168,10 +184,10 @@ pub record AreAlikeFonts (f g : FontValue) : Type 0 where
   pub locals : (n : ℤ) → local_of f n ≡ local_of g n
   pub first : first_local_of f ≡ first_local_of g
 
--- one fault, or fonts with one size, with one width, glyph and packet for each code, and with the
--- same local fonts
+-- one fault, or fonts, both bare or neither of them, with one size, with one width, glyph and
+-- packet for each code, and with the same local fonts
 abbrev pub AreAlike : Decoded → Decoded → Type 0
 AreAlike (Font f) (Font g) = AreAlikeFonts f g
-AreAlike (Font f) (Fault g) = ⊥
-AreAlike (Fault f) (Font g) = ⊥
+AreAlike (Bare f) (Bare g) = AreAlikeFonts f g
 AreAlike (Fault f) (Fault g) = f ≡ g
+AreAlike _ _ = ⊥

@@ -7,7 +7,7 @@ use Rattle.vf_reader.specs.Weights.{packet_bytes}
 use Rattle.font_decode.specs.Fonts.{FontValue, IsFontValue, glyph_in, packet_in}
 use Rattle.font_decode.specs.declared.shapes.Shapes.{Shapes}
 
--- a packed font has no packets, and a virtual font no glyphs
+-- a packed font has no packets, a virtual font no glyphs, and a bare font neither
 abbrev pub shapes_weight : Shapes → ℕ
 shapes_weight shapes =
     sum_of_codes (λ c. raster_bytes (glyph_in shapes c) + packet_bytes (packet_in shapes c))

@@ -15,10 +15,11 @@ use Rattle.vf_reader.specs.Fonts as vf
 use Rattle.vf_reader.specs.Programs.{AreCommandsOf}
 use Rattle.outside.specs.Limits.{SIZES}
 use Rattle.font_decode.specs.declared.shapes.Shapes.{Shapes}
-use Rattle.font_decode.specs.declared.shapes.Shapes.TheVariants.{Packed, Generic, Virtual}
+use Rattle.font_decode.specs.declared.shapes.Shapes.TheVariants.{Packed, Generic, Bare, Virtual}
 
 -- the size and the widths in DVI units, these of the codes from 0 on, and what its characters are:
--- glyphs in dots, or the packets of a VF file beside the keys of its local fonts by their numbers
+-- glyphs in dots, none of them, or the packets of a VF file beside the keys of its local fonts by
+-- their numbers
 pub record FontValue : Type 0 where
   pub size : ℕ
   pub widths : List (Option ℤ)
@@ -33,6 +34,7 @@ scaled_width_of f c = tfm.width_of f.widths c
 abbrev pub is_virtual_shape : Shapes → Bool
 is_virtual_shape (Packed glyphs) = false
 is_virtual_shape (Generic glyphs) = false
+is_virtual_shape Bare = false
 is_virtual_shape (Virtual file keys) = true
 
 -- its characters are packets
@@ -42,18 +44,20 @@ is_virtual_of f = is_virtual_shape f.shapes
 abbrev pub glyph_in : Shapes → ℕ → Option Glyph
 glyph_in (Packed glyphs) c = glyph_of glyphs c
 glyph_in (Generic glyphs) c = glyph_of glyphs c
+glyph_in Bare c = None
 glyph_in (Virtual file keys) c = None
 
--- the glyph of a code; a virtual font has none
+-- the glyph of a code; a bare font and a virtual one have none
 abbrev pub glyph_at : FontValue → ℕ → Option Glyph
 glyph_at f c = glyph_in f.shapes c
 
 abbrev pub packet_in : Shapes → ℕ → Option (List ℕ)
 packet_in (Packed glyphs) c = None
 packet_in (Generic glyphs) c = None
+packet_in Bare c = None
 packet_in (Virtual file keys) c = vf.packet_of file c
 
--- the bytes of the packet of a code; a packed font has none
+-- the bytes of the packet of a code; only a virtual font has one
 abbrev pub packet_of : FontValue → ℕ → Option (List ℕ)
 packet_of f c = packet_in f.shapes c
 
@@ -66,15 +70,17 @@ key_with keys k = lookup (λ n. is_eq (int_cmp k n)) keys
 abbrev pub local_in : Shapes → ℤ → Option FontKey
 local_in (Packed glyphs) k = None
 local_in (Generic glyphs) k = None
+local_in Bare k = None
 local_in (Virtual file keys) k = key_with keys k
 
--- the key of the local font with a number; a packed font has none
+-- the key of the local font with a number; only a virtual font has one
 abbrev pub local_of : FontValue → ℤ → Option FontKey
 local_of f k = local_in f.shapes k
 
 abbrev pub first_in : Shapes → Option ℤ
 first_in (Packed glyphs) = None
 first_in (Generic glyphs) = None
+first_in Bare = None
 first_in (Virtual file keys) = option_map (λ local. local.number) (slice_get file.locals 0)
 
 -- the number of the first local font of the file

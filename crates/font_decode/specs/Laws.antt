@@ -78,7 +78,8 @@ EachKeyIsDecoded =
     → (d : Decoded) × IsFontIn l u k d
 
 -- the decoding of files is determined by one list of rows: the fault of the first row that holds,
--- and where none holds the font
+-- or the bare font in place of the fault that no file of glyphs is there, and where none holds the
+-- font
 abbrev pub RowsDetermineTheDecoding : Type 0
 RowsDetermineTheDecoding =
     (u : Units) (k : FontKey) (files : FontFiles) (d : Decoded)

@@ -1,6 +1,7 @@
 -- What may be wrong with a font: one list of rows, in the order in which its name and its files are
--- judged. The first row that holds is the font's fault; where none holds, there is the font.
-use Rattle.std.specs.Prelude.{◌≡◌, ◌⊎◌, ℕ, List, [], ◌∷◌, Some, None, IsTrue, IsFalse, MatchOption}
+-- judged. The first row that holds is the font's fault, but that of files of glyphs which are
+-- missing: there the font is bare. Where none holds, there is the font.
+use Rattle.std.specs.Prelude.{◌≡◌, ◌≢◌, ◌⊎◌, ℕ, List, [], ◌∷◌, Some, None, IsTrue, IsFalse, MatchOption}
 use Rattle.tfm_reader.specs.Tfm.{tfm_fault}
 use Rattle.tfm_reader.specs.declared.faults.TfmFault.{TfmFault}
 use Rattle.pk_packets.specs.Faults as pk_file
@@ -17,9 +18,9 @@ use Rattle.font_decode.specs.Names.{is_valid_name, dpi, is_resolution}
 use Rattle.font_decode.specs.Files.{FontFiles}
 use Rattle.font_decode.specs.Fonts.{FontValue}
 use Rattle.font_decode.specs.Locals.{are_local_sizes}
-use Rattle.font_decode.specs.Decoding.{is_too_long, IsPackedFont, IsGenericFont, IsVirtualFont}
+use Rattle.font_decode.specs.Decoding.{is_too_long, IsBareFont, IsPackedFont, IsGenericFont, IsVirtualFont}
 use Rattle.font_decode.specs.declared.font_or_fault.Decoded.{Decoded}
-use Rattle.font_decode.specs.declared.font_or_fault.Decoded.TheVariants.{Font, Fault}
+use Rattle.font_decode.specs.declared.font_or_fault.Decoded.TheVariants.{Font, Bare, Fault}
 use Rattle.font_decode.specs.declared.faults.FileKind.TheVariants as kind
 use Rattle.font_decode.specs.declared.faults.FontFault.{FontFault}
 use Rattle.font_decode.specs.declared.faults.FontFault.TheVariants as fault
@@ -44,6 +45,10 @@ pub data Row : Type 0 where
 abbrev pub rows : List Row
 rows = WrongName ∷ NoTfm ∷ LongTfm ∷ WrongTfm ∷ LongVf ∷ WrongVf ∷ LocalSize ∷ Resolution
     ∷ LongPk ∷ WrongPk ∷ LongGf ∷ WrongGf ∷ NoGlyphs ∷ []
+
+-- the fault of a font without a file of glyphs
+abbrev pub NO_GLYPHS : FontFault
+NO_GLYPHS = fault.Missing kind.Pk
 
 -- a row holds of a key and its files, with this fault; those of a PK file only where there is no VF
 -- file, and those of a GF file only where there is no PK file either
@@ -80,7 +85,7 @@ Holds u k files WrongGf f =
     (files.vf ≡ None) × (files.pk ≡ None) × (bytes : List ℕ) × (files.gf ≡ Some bytes)
     × (found : GfFault) × gf_file.IsFirstFault bytes found × (f ≡ fault.Gf found)
 Holds u k files NoGlyphs f =
-    (files.vf ≡ None) × (files.pk ≡ None) × (files.gf ≡ None) × (f ≡ fault.Missing kind.Pk)
+    (files.vf ≡ None) × (files.pk ≡ None) × (files.gf ≡ None) × (f ≡ NO_GLYPHS)
 
 -- ---- the first row that holds, else the font
 
@@ -112,10 +117,16 @@ IsFontOfFiles u k files f =
     (tfm : List ℕ) × (files.tfm ≡ Some tfm) × MatchOption files.vf (IsPackedOf k tfm files f)
     (λ vf. IsVirtualOf u k tfm vf f)
 
--- the fault of the first row that holds, else the font
+-- the font that the TFM file alone makes
+abbrev pub IsBareOfFiles : FontKey → FontFiles → FontValue → Type 0
+IsBareOfFiles k files f = (tfm : List ℕ) × (files.tfm ≡ Some tfm) × IsBareFont k tfm f
+
+-- the fault of the first row that holds, in place of which the font is bare where no file of glyphs
+-- is there; else the font
 abbrev pub IsFirstOf : Units → FontKey → FontFiles → List Row → Decoded → Type 0
 IsFirstOf u k files from (Font f) = NoneHolds u k files from × IsFontOfFiles u k files f
-IsFirstOf u k files from (Fault f) = FirstHolds u k files from f
+IsFirstOf u k files from (Bare f) = FirstHolds u k files from NO_GLYPHS × IsBareOfFiles k files f
+IsFirstOf u k files from (Fault f) = FirstHolds u k files from f × (f ≢ NO_GLYPHS)
 
 abbrev pub IsFirstRow : Units → FontKey → FontFiles → Decoded → Type 0
 IsFirstRow u k files d = IsFirstOf u k files rows d

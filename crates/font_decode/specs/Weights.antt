@@ -7,11 +7,12 @@ use Rattle.font_decode.specs.FontWeights.{font_weight}
 use Rattle.font_decode.specs.Decoding.{AreAlike, IsFontOf}
 use Rattle.font_decode.specs.Laws.{AreByteFiles}
 use Rattle.font_decode.specs.declared.font_or_fault.Decoded.{Decoded}
-use Rattle.font_decode.specs.declared.font_or_fault.Decoded.TheVariants.{Font, Fault}
+use Rattle.font_decode.specs.declared.font_or_fault.Decoded.TheVariants.{Font, Bare, Fault}
 
--- a fault weighs nothing
+-- a bare font and a fault weigh nothing
 abbrev pub weight_of : Decoded → ℕ
 weight_of (Font f) = font_weight f
+weight_of (Bare f) = 0
 weight_of (Fault f) = 0
 
 -- the weight of the key's font where the library is known, and else of some font that may be the

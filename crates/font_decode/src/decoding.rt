@@ -3,7 +3,7 @@ ghost use Rattle.std.specs.Prelude.{◌≡◌, ◌≤◌, List, ℕ, IfOk};
 ghost use Rattle.outside.specs.FontKeys.{IsFontKey};
 ghost use Rattle.pixel_round.specs.Preamble.{AreUnits};
 ghost use Rattle.font_decode.specs.Files.{bytes_of};
-ghost use Rattle.font_decode.specs.Decoding.{is_too_long, DecodesShortPk, DecodesShortGf, DecodesGlyphs, DecodesPacked, DecodesItems, DecodesShortVf, DecodesSound, DecodesTfm, IsDecodingOf};
+ghost use Rattle.font_decode.specs.Decoding.{is_too_long, DecodesBare, DecodesShortPk, DecodesShortGf, DecodesGlyphs, DecodesPacked, DecodesItems, DecodesShortVf, DecodesSound, DecodesTfm, IsDecodingOf};
 ghost use Rattle.font_decode.specs.Reading.{IsTfmOf, IsVfRead};
 ghost use Rattle.vf_reader.specs.Fonts.{HasPacketsOf};
 ghost use Rattle.vf_reader.specs.Weights.{packets_weight};
@@ -35,9 +35,9 @@ fn is_too_long(bytes: &[u8]) -> bool
 /// of the TFM file. Where there is a VF file, its `TooLong` and `Vf` follow, and `Size` where the
 /// size or the design size of a local font lies outside 1 to 2^27 - 1 DVI units; where there is
 /// none, `Size` of the resolution; then `TooLong` and `Pk` of the PK file or, where there is none,
-/// `TooLong` and `Gf` of the GF file; and where there is neither, `Missing` of the PK file. A file
-/// after the first fault isn't looked at, nor a PK or GF file beside a VF file, nor a GF file
-/// beside a PK file.
+/// `TooLong` and `Gf` of the GF file. Where there is neither, the font is bare: it has its widths
+/// and no glyph. A file after the first fault isn't looked at, nor a PK or GF file beside a VF
+/// file, nor a GF file beside a PK file.
 ///
 /// The widths are those of the TFM file (Knuth, TFtoPL, "Font metric data"), scaled to the key's
 /// size, the glyphs those of the PK file (Rokicki, PKtype, "Packed file format") or of the GF file
@@ -187,8 +187,18 @@ fn decode_glyphs(
     match (&files.pk, &files.gf) {
         (Some(pk), _) => decode_pk(alloc, key, tfm, pk),
         (None, Some(gf)) => decode_gf(alloc, key, tfm, gf),
-        (None, None) => Ok(Decoded::Fault(FontFault::Missing(FileKind::Pk))),
+        (None, None) => decode_bare(alloc, key, tfm),
     }
+}
+
+// Without a file of glyphs: makes the font of its widths alone.
+fn decode_bare(alloc: Global, key: &FontKey, tfm: &Tfm) -> Result<Decoded, NoMemory>
+    requires key { IsFontKey key.now }
+    ensures { IfOk result (λ d. (bytes : List ℕ) → IsTfmOf bytes tfm.now →
+        DecodesBare key.now bytes d) }
+{
+    let widths = scaled_widths(alloc, tfm, key.size)?;
+    Ok(Decoded::Bare(Font::new(key.size, widths, Shapes::Bare, 0)))
 }
 
 // Judges the PK file, and makes the font.

@@ -7,7 +7,9 @@ use cache_core::Stands;
 pub enum Decoded {
     /// The font.
     Font(Font),
-    /// Its first fault.
+    /// A font that has neither a PK nor a GF file, and no other fault: its widths, and no glyph.
+    Bare(Font),
+    /// Its first fault, where that is another one.
     Fault(FontFault),
 }
 
@@ -15,7 +17,7 @@ pub enum Decoded {
 /// the units of the document. Where no library is known, it is what some files come to, which were
 /// found in the order of the format; nothing is then said of where these were, nor that two
 /// decodings that stand for one key are alike. A font weighs the bytes of its glyphs or packets,
-/// and a fault nothing.
+/// and a bare font and a fault nothing.
 impl Stands for Decoded {
     ghost use Rattle.std.specs.Prelude.{Some};
     ghost use Rattle.font_decode.specs.Decoding.{IsFontOf};
@@ -28,7 +30,7 @@ impl Stands for Decoded {
     fn weight(&self) -> u64 {
         match self {
             Decoded::Font(font) => font.weight(),
-            Decoded::Fault(_) => 0,
+            Decoded::Bare(_) | Decoded::Fault(_) => 0,
         }
     }
 }

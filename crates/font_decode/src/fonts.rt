@@ -12,10 +12,10 @@ use pk_runs::Glyph;
 use std::marker::Model;
 use std::sync::Arc;
 
-/// A font at a size: its widths, and its glyphs in dots or, of a virtual font, its packets of
-/// commands and its local fonts. A contract sees it as its size, the widths of the codes from 0 on,
-/// and what its characters are; `scaled_width_of`, `glyph_at` and `packet_of` say which ones a code
-/// has, and `local_of` which font a number.
+/// A font at a size: its widths, and its glyphs in dots, of which a bare font has none, or, of a
+/// virtual font, its packets of commands and its local fonts. A contract sees it as its size, the
+/// widths of the codes from 0 on, and what its characters are; `scaled_width_of`, `glyph_at` and
+/// `packet_of` say which ones a code has, and `local_of` which font a number.
 #[derive(Drop)]
 pub struct Font {
     size: u32,
@@ -75,13 +75,14 @@ impl Font {
         ensures { result ≡ is_virtual_of self.now }
     {
         match &self.shapes {
-            Shapes::Packed(_) | Shapes::Generic(_) => false,
+            Shapes::Packed(_) | Shapes::Generic(_) | Shapes::Bare => false,
             Shapes::Virtual { .. } => true,
         }
     }
 
     /// The glyph of a character: that of the last packet of the PK file, or of the last character
-    /// of the GF file, with its code. `None` where none has the code, and in a virtual font.
+    /// of the GF file, with its code. `None` where none has the code, and in a bare or a virtual
+    /// font.
     #[inline(always)]
     pub fn glyph(&self, c: u32) -> Option<&Glyph>
         ensures { MatchOption result (glyph_at self.now c ≡ None)
@@ -90,7 +91,7 @@ impl Font {
         match &self.shapes {
             Shapes::Packed(glyphs) => glyphs.glyph(c),
             Shapes::Generic(glyphs) => glyphs.glyph(c),
-            Shapes::Virtual { .. } => None,
+            Shapes::Bare | Shapes::Virtual { .. } => None,
         }
     }
 
@@ -104,7 +105,7 @@ impl Font {
         ensures commands { IfSome result (λ packet. IsProgram c packet.now) }
     {
         match &self.shapes {
-            Shapes::Packed(_) | Shapes::Generic(_) => None,
+            Shapes::Packed(_) | Shapes::Generic(_) | Shapes::Bare => None,
             Shapes::Virtual { file, .. } => file.packet(c),
         }
     }
@@ -117,7 +118,7 @@ impl Font {
         ensures fits { IfSome result (λ key. IsFontKey (arc_value key.now)) }
     {
         match &self.shapes {
-            Shapes::Packed(_) | Shapes::Generic(_) => None,
+            Shapes::Packed(_) | Shapes::Generic(_) | Shapes::Bare => None,
             Shapes::Virtual { keys, .. } => keys.get(k),
         }
     }
@@ -129,7 +130,7 @@ impl Font {
         ensures there { IfSome result (λ k. IsSome (local_of self.now k)) }
     {
         match &self.shapes {
-            Shapes::Packed(_) | Shapes::Generic(_) => None,
+            Shapes::Packed(_) | Shapes::Generic(_) | Shapes::Bare => None,
             Shapes::Virtual { file, .. } => file.first_local(),
         }
     }

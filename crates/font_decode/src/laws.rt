@@ -18,8 +18,8 @@ pub fn answers()
 
 /// Files come to one font or have one first fault, and so does a key in a library: two decodings
 /// are the same fault, or fonts that answer alike. One list of rows, in the order in which a font's
-/// name and files are judged, determines which: the fault of the first row that holds, and else the
-/// font.
+/// name and files are judged, determines which: the fault of the first row that holds, or the bare
+/// font where that row is that of files of glyphs which are missing; and else the font.
 pub fn decodings()
     ensures files { OneOfItsFiles }
     ensures library { OneInALibrary }

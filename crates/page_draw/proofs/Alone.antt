@@ -8,7 +8,6 @@ use Rattle.pixel_round.specs.declared.units.Units.{Units}
 use Rattle.cache_core.specs.declared.calls.Call.{Call}
 use Rattle.cache_core.specs.declared.calls.Done.{Done}
 use Rattle.cache_core.specs.declared.calls.Done.TheVariants.{Hit, Claimed, Busy, Filled, Released}
-use Rattle.cache_core.specs.declared.common.Common.{Common}
 use Rattle.cache_core.specs.declared.limits.Limits.{Limits}
 use Rattle.cache_core.specs.Machine.{claim_of, Legal}
 use Rattle.cache_core.specs.Histories.{AllWeigh, AreOf, NoneReleased, NoneBusy, SeatCalls, look_of, looks}
@@ -16,7 +15,6 @@ use Rattle.cache_core.specs.States.{Cache, IsReached, StateStands, call}
 use Rattle.font_decode.specs.Desks.{GrewBy, IsWeightIn, ReleasedLast, misses, Loaded, TrailGrew}
 use Rattle.font_decode.specs.Loads.{RoseUpTo, MAX_LOADS}
 use Rattle.font_decode.specs.Weights.{weight_of}
-use Rattle.font_decode.specs.Decoding.{IsFontOf}
 use Rattle.font_decode.specs.declared.font_or_fault.Decoded.{Decoded}
 use Rattle.page_draw.specs.SoloDesks.{IsAlone, asked_by, common_part, stands_for_key, trail_by}
 

@@ -1,5 +1,5 @@
 -- What was followed of a page that was broken off is the beginning of what leads to its value.
-use Rattle.std.proofs.Common.{◌≡◌, ℕ, List, [], ◌∷◌, ◌++◌, ◌⊎◌, inl, inr, refl, sym, ap, subst, ◌∙◌, append_assoc, Option, Some, Ok}
+use Rattle.std.proofs.Common.{◌≡◌, ℕ, false, List, [], ◌∷◌, ◌++◌, ◌⊎◌, inl, inr, refl, sym, ap, subst, ◌∙◌, append_assoc, Option, Some, Ok}
 use Rattle.outside.specs.declared.keys.FontKey.{FontKey}
 use Rattle.pixel_round.specs.Pixels.{conversion, Fraction}
 use Rattle.pixel_round.specs.declared.units.Units.{Units}
@@ -8,13 +8,13 @@ use Rattle.font_decode.specs.Decoding.{AreAlike, IsFontIn}
 use Rattle.font_decode.specs.Desks.{GrewBy}
 use Rattle.font_decode.specs.declared.font_or_fault.Decoded.{Decoded}
 use Rattle.font_decode.proofs.Alike.{one_in_a_library}
-use Rattle.vf_expand.specs.Course.{Course, Gives, Asks, course_of}
+use Rattle.vf_expand.specs.Course.{Course, Gives, Asks, Lacks, course_of}
 use Rattle.vf_expand.proofs.Similar.{Similar, course_similar}
 use Rattle.vf_expand.proofs.PageLists.{looks_append}
-use Rattle.page_draw.specs.Members.{Member, Flat, LookUp, Finding, Unfolds, looks_of, last_state}
+use Rattle.page_draw.specs.Members.{Member, Flat, LookUp, Lack, Finding, Unfolds, looks_of, last_state}
 use Rattle.page_draw.specs.Laws.{BrokenPagesBegin}
 use Rattle.page_draw.proofs.Lists.{apart}
-use Rattle.page_draw.proofs.OneValue.{IsAtEnd, at_end, goes_on, moved_both, same_flat, same_look, similar_end}
+use Rattle.page_draw.proofs.OneValue.{IsAtEnd, at_end, goes_on, moved_both, same_flat, same_lack, same_look, similar_end}
 
 module _ (Finds : Finding) (c : Fraction) (alike : (k : FontKey) (d e : Decoded) → Finds k d → Finds k e → AreAlike d e) where
   -- of two lists of similar courses, one of which comes to an end, the other is the beginning
@@ -29,6 +29,20 @@ module _ (Finds : Finding) (c : Fraction) (alike : (k : FontKey) (d e : Decoded)
       absurd (goes_on c s there.0 f g at second.0 there.1 (similar_end c s to (Gives f g at second.0) next (subst (λ (x : State). IsAtEnd c x to) here ends)))
   begins from from' s [] (LookUp k at ∷ ns) to to' t t' similar first second moved moved' ends =
       absurd (similar_end c t to (Asks k at second.0) (moved_both from from' to (Asks k at second.0) first second.2 similar) ends)
+  begins from from' s [] (Lack f at ∷ ns) to to' t t' similar first second moved moved' ends =
+      absurd (similar_end c t to (Lacks f at second.0) (moved_both from from' to (Lacks f at second.0) first second.1 similar) ends)
+  begins from from' s (Flat f g at ∷ ms) (Lack f' at' ∷ ns) to to' t t' similar first second moved moved' ends =
+      absurd (moved_both from from' (Gives f g at first.0) (Lacks f' at' second.0) first.1 second.1 similar)
+  begins from from' s (LookUp k at ∷ ms) (Lack f' at' ∷ ns) to to' t t' similar first second moved moved' ends =
+      absurd (moved_both from from' (Asks k at first.0) (Lacks f' at' second.0) first.2 second.1 similar)
+  begins from from' s (Lack f at ∷ ms) (Flat f' g' at' ∷ ns) to to' t t' similar first second moved moved' ends =
+      absurd (moved_both from from' (Lacks f at first.0) (Gives f' g' at' second.0) first.1 second.1 similar)
+  begins from from' s (Lack f at ∷ ms) (LookUp k at' ∷ ns) to to' t t' similar first second moved moved' ends =
+      absurd (moved_both from from' (Lacks f at first.0) (Asks k at' second.0) first.1 second.2 similar)
+  begins from from' s (Lack f at ∷ ms) (Lack f' at' ∷ ns) to to' t t' similar first second moved moved' ends =
+      let next = moved_both from from' (Lacks f at first.0) (Lacks f' at' second.0) first.1 second.1 similar in
+      let others = begins first.0 second.0 s ms ns to to' t t' next.2 first.2 second.2 moved moved' ends in
+      (others.0, same_lack f f' at at' ms (ns ++ others.0) next.0 next.1 others.1, others.2, others.3, others.4)
   begins from from' s (Flat f g at ∷ ms) (LookUp k at' ∷ ns) to to' t t' similar first second moved moved' ends =
       absurd (moved_both from from' (Gives f g at first.0) (Asks k at' second.0) first.1 second.2 similar)
   begins from from' s (LookUp k at ∷ ms) (Flat f g at' ∷ ns) to to' t t' similar first second moved moved' ends =
@@ -55,6 +69,8 @@ module _ (Finds : Finding) (c : Fraction) (alike : (k : FontKey) (d e : Decoded)
   next_look past to [] k at rest t similar leads ends = absurd (similar_end c t past (Asks k at rest) similar (subst (IsAtEnd c t) (sym leads) ends))
   next_look past to (Flat f g at' ∷ more) k at rest t similar leads ends =
       absurd (moved_both past (Asks k at rest) (Gives f g at' leads.0) (Asks k at rest) leads.1 refl similar)
+  next_look past to (Lack f at' ∷ more) k at rest t similar leads ends =
+      absurd (moved_both past (Asks k at rest) (Lacks f at' leads.0) (Asks k at rest) leads.1 refl similar)
   next_look past to (LookUp k' at' ∷ more) k at rest t similar leads ends =
       let next = moved_both past (Asks k at rest) (Asks k' at' leads.0) (Asks k at rest) leads.2 refl similar in
       (looks_of more, ap (λ (x : FontKey). x ∷ looks_of more) next.0)
@@ -82,8 +98,8 @@ broken_pages_begin l u indexed sheet i value looks old new has broken =
     let whole = has.has in
     let alike = λ (k : FontKey) (d : Decoded) (e : Decoded) (a : IsFontIn l u k d) (b : IsFontIn l u k e). one_in_a_library l u k d e a b in
     let ends = at_end c _ _ _ value whole.ends in
-    let begun = begins (IsFontIn l u) c alike (course_of indexed.reading i) (course_of indexed.reading i) at_origin whole.members broken.members whole.to broken.to whole.state broken.state
-    (course_similar indexed.reading i) whole.leads broken.leads whole.moved
+    let begun = begins (IsFontIn l u) c alike (course_of false indexed.reading i) (course_of false indexed.reading i) at_origin whole.members broken.members whole.to broken.to whole.state broken.state
+    (course_similar false indexed.reading i) whole.leads broken.leads whole.moved
     (subst (λ (x : Units). last_state (conversion x) at_origin broken.members ≡ Ok broken.state) same broken.moved) ends in
     asked_first (IsFontIn l u) c alike begun.2 whole.to broken.to broken.members begun.0 whole.state looks old new begun.3 begun.4 ends
     (whole.looked ∙ ap looks_of begun.1 ∙ looks_append broken.members begun.0) broken.asked

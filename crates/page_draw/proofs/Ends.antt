@@ -1,5 +1,5 @@
 -- How a page ends that was drawn so far.
-use Rattle.std.proofs.Common.{◌≡◌, ◌≢◌, ◌⊎◌, ◌≤◌, inl, inr, ap₂, arith, IfOk, IfErr, ℕ, List, [], ◌∷◌, ◌++◌, refl, sym, ap, subst, ◌∙◌, Option, Result, Ok, Err}
+use Rattle.std.proofs.Common.{◌≡◌, ◌≢◌, ◌⊎◌, ◌≤◌, inl, inr, ap₂, arith, IfOk, IfErr, ℕ, false, List, [], ◌∷◌, ◌++◌, refl, sym, ap, subst, ◌∙◌, Option, Result, Ok, Err}
 use Rattle.outside.specs.declared.keys.FontKey.{FontKey}
 use Rattle.pixel_round.specs.Pixels.{conversion, Fraction}
 use Rattle.outside.specs.Counts.{Rose}
@@ -24,12 +24,12 @@ use Rattle.page_draw.proofs.EqualFractions.{states_alike, value_alike}
 use Rattle.page_draw.proofs.Lists.{IsDrawnUpTo, grew_more, grew_none}
 
 module _ (Finds : Finding) (c : Fraction) (sheet : Sheet) (indexed : Indexed) (i : ℕ) (to : Course) (s : State) (page : Bitmap) (old new : Option (List FontKey))
-    (so_far : IsDrawnUpTo Finds c sheet (course_of indexed.reading i) to s page old new)
+    (so_far : IsDrawnUpTo Finds c sheet (course_of false indexed.reading i) to s page old new)
     (conv : IsConversionOf (document_units indexed.res indexed.reading) c) where
   pub drawn_so_far : (value : PageValue) → EndsIn c s page to value → IsDrawn Finds indexed sheet i value old new
   drawn_so_far value ends =
       let members = so_far.members in
-      let own : HasValue Finds c sheet (course_of indexed.reading i) value (looks_of members) = record {
+      let own : HasValue Finds c sheet (course_of false indexed.reading i) value (looks_of members) = record {
         members = members;
         to = to;
         state = s;
@@ -39,7 +39,7 @@ module _ (Finds : Finding) (c : Fraction) (sheet : Sheet) (indexed : Indexed) (i
         looked = refl;
       } in (
         looks_of members,
-        record { units = conv.0; of_document = conv.1; has = value_alike Finds c (conversion conv.0) sheet (course_of indexed.reading i) value (looks_of members) conv.2 own },
+        record { units = conv.0; of_document = conv.1; has = value_alike Finds c (conversion conv.0) sheet (course_of false indexed.reading i) value (looks_of members) conv.2 own },
         so_far.asked,
       )
 
@@ -134,7 +134,7 @@ pub broken_at_first : (Finds : Finding) (indexed : Indexed) (i : ℕ) (c : Fract
 broken_at_first Finds indexed i c old conv =
     record {
       members = [];
-      to = course_of indexed.reading i;
+      to = course_of false indexed.reading i;
       units = conv.0;
       state = at_origin;
       of_document = conv.1;

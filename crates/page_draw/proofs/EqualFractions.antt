@@ -12,8 +12,8 @@ use Rattle.drift_rules.specs.declared.flat.Mark.TheVariants as code
 use Rattle.drift_rules.specs.declared.flat.Registers.{Registers}
 use Rattle.packed_rows.specs.Bitmap.{Bitmap}
 use Rattle.raster_page.specs.Ink.{Inked, page_of}
-use Rattle.vf_expand.specs.Course.{Course, Gives, Asks, Ends, Stops}
-use Rattle.page_draw.specs.Members.{Finding, Flat, LookUp, Member, and_then, marks_after, last_state, marks_from}
+use Rattle.vf_expand.specs.Course.{Course, Gives, Asks, Lacks, Ends, Stops}
+use Rattle.page_draw.specs.Members.{Finding, Flat, LookUp, Lack, Member, and_then, marks_after, last_state, marks_from}
 use Rattle.page_draw.specs.Sheets.{inks_of}
 use Rattle.page_draw.specs.Values.{EndsIn, HasValue, PageValue, bitmap_of}
 use Rattle.page_draw.specs.declared.sheet.Sheet.{Sheet}
@@ -96,6 +96,7 @@ module _ (c d : Fraction) (same : AreEqual c d) where
       ap (λ (r : Result State PenFault). and_then r (λ t. last_state c t members)) (after_alike s f)
       ∙ then_alike (state_after d s f) members (λ t. states_alike t members)
   states_alike s (LookUp k at ∷ members) = states_alike s members
+  states_alike s (Lack f at ∷ members) = states_alike s members
 
   marks_after_alike : (r : Result State PenFault) (sheet : Sheet) (members : List Member) → ((t : State) → marks_from c sheet t members ≡ marks_from d sheet t members)
       → marks_after r (λ t. marks_from c sheet t members) ≡ marks_after r (λ t. marks_from d sheet t members)
@@ -109,10 +110,12 @@ module _ (c d : Fraction) (same : AreEqual c d) where
       (ap (λ (r : Result State PenFault). marks_after r (λ t. marks_from c sheet t members)) (after_alike s f)
       ∙ marks_after_alike (state_after d s f) sheet members (λ t. marks_alike sheet t members))
   marks_alike sheet s (LookUp k at ∷ members) = marks_alike sheet s members
+  marks_alike sheet s (Lack f at ∷ members) = marks_alike sheet s members
 
   ends_alike : (s : State) (page : Bitmap) (to : Course) (value : PageValue) → EndsIn c s page to value → EndsIn d s page to value
   ends_alike s page (Gives f g at rest) value h = (h.0, sym (after_alike s f) ∙ h.1, h.2)
   ends_alike s page (Asks k at rest) value h = h
+  ends_alike s page (Lacks f at rest) value h = h
   ends_alike s page (Ends at) value h = h
   ends_alike s page (Stops fault at) value h = h
 

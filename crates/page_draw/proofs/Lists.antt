@@ -13,7 +13,7 @@ use Rattle.font_decode.specs.Desks.{GrewBy}
 use Rattle.font_decode.specs.declared.font_or_fault.Decoded.{Decoded}
 use Rattle.vf_expand.specs.Course.{Course, Gives, Asks}
 use Rattle.page_draw.specs.Sheets.{inks_of}
-use Rattle.page_draw.specs.Members.{Member, Flat, LookUp, Finding, Unfolds, looks_of, and_then, last_state, marks_after, marks_from}
+use Rattle.page_draw.specs.Members.{Member, Flat, LookUp, Lack, Finding, Unfolds, looks_of, and_then, last_state, marks_after, marks_from}
 pub use Rattle.page_draw.specs.DrawnUpTo.{IsDrawnUpTo}
 use Rattle.page_draw.specs.declared.sheet.Sheet.{Sheet}
 
@@ -28,6 +28,7 @@ leads_flat : (Finds : Finding) (from : Course) (members : List Member) (f : Flat
 leads_flat Finds from [] f g at to leads = (to, leads, refl)
 leads_flat Finds from (Flat f' g' at' ∷ members) f g at to leads = (leads.0, leads.1, leads_flat Finds leads.0 members f g at to leads.2)
 leads_flat Finds from (LookUp k' at' ∷ members) f g at to leads = (leads.0, leads.1, leads.2, leads.3, leads_flat Finds (leads.0 leads.1) members f g at to leads.4)
+leads_flat Finds from (Lack f' at' ∷ members) f g at to leads = (leads.0, leads.1, leads_flat Finds leads.0 members f g at to leads.2)
 
 leads_look : (Finds : Finding) (from : Course) (members : List Member) (k : FontKey) (at : ℕ) (rest : Decoded → Course) (d : Decoded)
     → Unfolds Finds from members (Asks k at rest) → Finds k d → Unfolds Finds from (with_look members k at) (rest d)
@@ -35,16 +36,19 @@ leads_look Finds from [] k at rest d leads found = (rest, d, leads, found, refl)
 leads_look Finds from (Flat f' g' at' ∷ members) k at rest d leads found = (leads.0, leads.1, leads_look Finds leads.0 members k at rest d leads.2 found)
 leads_look Finds from (LookUp k' at' ∷ members) k at rest d leads found =
     (leads.0, leads.1, leads.2, leads.3, leads_look Finds (leads.0 leads.1) members k at rest d leads.4 found)
+leads_look Finds from (Lack f' at' ∷ members) k at rest d leads found = (leads.0, leads.1, leads_look Finds leads.0 members k at rest d leads.2 found)
 
 looks_flat : (members : List Member) (f : FlatCommand) (g : Option Glyph) (at : ℕ) → looks_of (with_flat members f g at) ≡ looks_of members
 looks_flat [] f g at = refl
 looks_flat (Flat f' g' at' ∷ members) f g at = looks_flat members f g at
 looks_flat (LookUp k' at' ∷ members) f g at = ap (λ (keys : List FontKey). k' ∷ keys) (looks_flat members f g at)
+looks_flat (Lack f' at' ∷ members) f g at = looks_flat members f g at
 
 looks_look : (members : List Member) (k : FontKey) (at : ℕ) → looks_of (with_look members k at) ≡ looks_of members ++ k ∷ []
 looks_look [] k at = refl
 looks_look (Flat f' g' at' ∷ members) k at = looks_look members k at
 looks_look (LookUp k' at' ∷ members) k at = ap (λ (keys : List FontKey). k' ∷ keys) (looks_look members k at)
+looks_look (Lack f' at' ∷ members) k at = looks_look members k at
 
 -- ---- states and marks
 
@@ -63,6 +67,7 @@ state_flat c s t u (Flat f' g' at' ∷ members) f g at e moved =
     let there = apart c (state_after c s f') members t e in
     ap (λ (r : Result State PenFault). and_then r (λ v. last_state c v (with_flat members f g at))) there.1 ∙ state_flat c there.0 t u members f g at there.2 moved
 state_flat c s t u (LookUp k' at' ∷ members) f g at e moved = state_flat c s t u members f g at e moved
+state_flat c s t u (Lack f' at' ∷ members) f g at e moved = state_flat c s t u members f g at e moved
 
 state_beyond : (c : Fraction) (r : Result State PenFault) (members others : List Member) → ((u : State) → last_state c u members ≡ last_state c u others)
     → and_then r (λ u. last_state c u members) ≡ and_then r (λ u. last_state c u others)
@@ -73,6 +78,7 @@ state_look : (c : Fraction) (s : State) (members : List Member) (k : FontKey) (a
 state_look c s [] k at = refl
 state_look c s (Flat f' g' at' ∷ members) k at = state_beyond c (state_after c s f') (with_look members k at) members (λ u. state_look c u members k at)
 state_look c s (LookUp k' at' ∷ members) k at = state_look c s members k at
+state_look c s (Lack f' at' ∷ members) k at = state_look c s members k at
 
 nothing_after : (r : Result State PenFault) → marks_after r (λ u. []) ≡ []
 nothing_after (Ok u) = refl
@@ -92,6 +98,7 @@ marks_flat c sheet s t (Flat f' g' at' ∷ members) f g at e =
     ∙ sym (append_assoc own (marks_from c sheet there.0 members) (inks_of sheet (mark_of c t.now f) g))
     ∙ ap (λ (r : Result State PenFault). (own ++ marks_after r (λ v. marks_from c sheet v members)) ++ inks_of sheet (mark_of c t.now f) g) (sym there.1)
 marks_flat c sheet s t (LookUp k' at' ∷ members) f g at e = marks_flat c sheet s t members f g at e
+marks_flat c sheet s t (Lack f' at' ∷ members) f g at e = marks_flat c sheet s t members f g at e
 
 marks_look : (c : Fraction) (sheet : Sheet) (s t : State) (members : List Member) (k : FontKey) (at : ℕ) → last_state c s members ≡ Ok t
     → marks_from c sheet s (with_look members k at) ≡ marks_from c sheet s members
@@ -103,6 +110,7 @@ marks_look c sheet s t (Flat f' g' at' ∷ members) k at e =
     ∙ ap (λ (marks : List Inked). own ++ marks) (marks_look c sheet there.0 t members k at there.2)
     ∙ ap (λ (r : Result State PenFault). own ++ marks_after r (λ v. marks_from c sheet v members)) (sym there.1)
 marks_look c sheet s t (LookUp k' at' ∷ members) k at e = marks_look c sheet s t members k at e
+marks_look c sheet s t (Lack f' at' ∷ members) k at e = marks_look c sheet s t members k at e
 
 -- ---- the keys asked for
 

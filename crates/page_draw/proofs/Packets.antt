@@ -9,7 +9,7 @@ use Rattle.drift_rules.proofs.Near.{saved_is}
 use Rattle.drift_rules.proofs.Stack.{pops_give_back}
 use Rattle.raster_page.specs.Ink.{Inked}
 use Rattle.page_draw.specs.Sheets.{inks_of}
-use Rattle.page_draw.specs.Members.{Member, Flat, LookUp, and_then, marks_after, last_state, marks_from}
+use Rattle.page_draw.specs.Members.{Member, Flat, LookUp, Lack, and_then, marks_after, last_state, marks_from}
 use Rattle.vf_expand.specs.Packets.{flats_of}
 use Rattle.vf_expand.proofs.Packets.{packets_are_balanced}
 use Rattle.page_draw.specs.Laws.{FontsPacketsAreSetInPlace, PacketsAreSetInPlace}
@@ -24,6 +24,7 @@ moved_by c u m (Flat f g at ∷ members) e =
     let there = apart c (state_after c u f) members m e in
     (there.0, there.1, moved_by c there.0 m members there.2)
 moved_by c u m (LookUp k at ∷ members) e = moved_by c u m members e
+moved_by c u m (Lack f at ∷ members) e = moved_by c u m members e
 
 one_more : (c : Fraction) (u m v : State) (flats : List FlatCommand) (f : FlatCommand)
     → pen.Leads c u flats m → state_after c m f ≡ Ok v → pen.Leads c u (flats ++ f ∷ []) v
@@ -39,6 +40,7 @@ between c u t (Flat f g at ∷ members) others e =
     let r = between c there.0 t members others there.2 in
     (r.0, ap (λ (x : Result State PenFault). and_then x (λ v. last_state c v members)) there.1 ∙ r.1, r.2)
 between c u t (LookUp k at ∷ members) others e = between c u t members others e
+between c u t (Lack f at ∷ members) others e = between c u t members others e
 
 -- what two lists set, one after the other
 marks_append : (c : Fraction) (sheet : Sheet) (u m : State) (members others : List Member) → last_state c u members ≡ Ok m
@@ -54,6 +56,7 @@ marks_append c sheet u m (Flat f g at ∷ members) others e =
     ∙ sym (append_assoc own (marks_from c sheet there.0 members) (marks_from c sheet m others))
     ∙ ap (λ (r : Result State PenFault). (own ++ marks_after r (λ v. marks_from c sheet v members)) ++ marks_from c sheet m others) (sym there.1)
 marks_append c sheet u m (LookUp k at ∷ members) others e = marks_append c sheet u m members others e
+marks_append c sheet u m (Lack f at ∷ members) others e = marks_append c sheet u m members others e
 
 pub packets_are_set_in_place : PacketsAreSetInPlace
 packets_are_set_in_place c sheet s t g h at end packet rest balanced e =

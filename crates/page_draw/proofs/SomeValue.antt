@@ -1,5 +1,5 @@
 -- Each page has exactly one value over a library.
-use Rattle.std.proofs.Common.{◌≡◌, List, [], ◌∷◌, Result, Ok, Err, refl, sym, subst}
+use Rattle.std.proofs.Common.{◌≡◌, false, List, [], ◌∷◌, Result, Ok, Err, refl, sym, subst}
 use Rattle.outside.specs.declared.keys.FontKey.{FontKey}
 use Rattle.pixel_round.specs.Pixels.{conversion, Fraction}
 use Rattle.drift_rules.specs.Position.{State, state_after, at_origin}
@@ -8,9 +8,9 @@ use Rattle.packed_rows.specs.Bitmap.{Bitmap}
 use Rattle.font_decode.specs.Decoding.{IsFontIn}
 use Rattle.font_decode.specs.declared.font_or_fault.Decoded.{Decoded}
 use Rattle.font_decode.proofs.Total.{each_key_is_decoded}
-use Rattle.vf_expand.specs.Course.{Course, Gives, Asks, Ends, Stops, course_of}
+use Rattle.vf_expand.specs.Course.{Course, Gives, Asks, Lacks, Ends, Stops, course_of}
 use Rattle.vf_expand.specs.Faults.{Pen}
-use Rattle.page_draw.specs.Members.{Member, Flat, LookUp, Finding, Unfolds, and_then, looks_of, last_state}
+use Rattle.page_draw.specs.Members.{Member, Flat, LookUp, Lack, Finding, Unfolds, and_then, looks_of, last_state}
 use Rattle.page_draw.specs.Values.{EndsIn, PageValue, bitmap_of, ended_with, fault_at}
 use Rattle.page_draw.specs.Laws.{EachPageHasOneValue}
 use Rattle.page_draw.specs.Drawn.{IsPageValue}
@@ -44,12 +44,15 @@ follow Finds each c s (Asks k at rest) =
     let d = each k in
     let r = follow Finds each c s (rest d.0) in
     record { members = LookUp k at ∷ r.members; to = r.to; state = r.state; leads = (rest, d.0, refl, d.1, r.leads); moved = r.moved; ends = r.ends }
+follow Finds each c s (Lacks f at rest) =
+    let r = follow Finds each c s rest in
+    record { members = Lack f at ∷ r.members; to = r.to; state = r.state; leads = (rest, refl, r.leads); moved = r.moved; ends = r.ends }
 follow Finds each c s (Ends at) = record { members = []; to = Ends at; state = s; leads = refl; moved = refl; ends = λ page. (ended_with s.saved at page, refl) }
 follow Finds each c s (Stops fault at) = record { members = []; to = Stops fault at; state = s; leads = refl; moved = refl; ends = λ page. (fault_at fault at, refl) }
 
 pub each_page_has_one_value : EachPageHasOneValue
 each_page_has_one_value l u indexed sheet i bytes units =
-    let f = follow (IsFontIn l u) (λ k. each_key_is_decoded l u k bytes) (conversion u) at_origin (course_of indexed.reading i) in
+    let f = follow (IsFontIn l u) (λ k. each_key_is_decoded l u k bytes) (conversion u) at_origin (course_of false indexed.reading i) in
     let v = f.ends (bitmap_of (conversion u) sheet f.members) in
     let has : IsPageValue (IsFontIn l u) indexed sheet i v.0 (looks_of f.members) = record {
       units = u;

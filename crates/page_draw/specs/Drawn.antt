@@ -1,6 +1,6 @@
 -- What a drawn page, and one that wasn't drawn, say of the page's value and of the keys that were
 -- asked for.
-use Rattle.std.specs.Prelude.{◌≡◌, ◌⊎◌, ℕ, List, [], ◌∷◌, ◌++◌, Option, Some, Result, Ok, Err}
+use Rattle.std.specs.Prelude.{◌≡◌, ◌⊎◌, ℕ, false, List, [], ◌∷◌, ◌++◌, Option, Some, Result, Ok, Err}
 use Rattle.outside.specs.declared.keys.FontKey.{FontKey}
 use Rattle.pixel_round.specs.Pixels.{conversion}
 use Rattle.pixel_round.specs.declared.units.Units.{Units}
@@ -22,7 +22,7 @@ pub record IsPageValue (Finds : Finding) (indexed : Indexed) (sheet : Sheet) (i 
     (value : PageValue) (looks : List FontKey) : Type 0 where
   pub units : Units
   pub of_document : document_units indexed.res indexed.reading ≡ Some units
-  pub has : HasValue Finds (conversion units) sheet (course_of indexed.reading i) value looks
+  pub has : HasValue Finds (conversion units) sheet (course_of false indexed.reading i) value looks
 
 -- the page has this value, and the keys asked for are its look-ups, in order
 abbrev pub IsDrawn : Finding → Indexed → Sheet → ℕ → PageValue → Option (List FontKey)
@@ -39,7 +39,7 @@ pub record IsBroken (Finds : Finding) (indexed : Indexed) (i : ℕ)
   pub units : Units
   pub state : State
   pub of_document : document_units indexed.res indexed.reading ≡ Some units
-  pub leads : Unfolds Finds (course_of indexed.reading i) members to
+  pub leads : Unfolds Finds (course_of false indexed.reading i) members to
   pub moved : last_state (conversion units) at_origin members ≡ Ok state
   pub asked : GrewBy old new (looks_of members)
       ⊎ ((k : FontKey) × (at : ℕ) × (rest : Decoded → Course) × (to ≡ Asks k at rest)

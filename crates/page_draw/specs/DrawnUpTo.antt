@@ -1,5 +1,5 @@
 -- A page as far as it was drawn.
-use Rattle.std.specs.Prelude.{◌≡◌, ◌≤◌, ℕ, List, Option, Ok}
+use Rattle.std.specs.Prelude.{◌≡◌, ◌≤◌, ℕ, false, List, Option, Ok}
 use Rattle.outside.specs.Library as library
 use Rattle.outside.specs.declared.keys.FontKey.{FontKey}
 use Rattle.pixel_round.specs.Pixels.{Fraction}
@@ -44,7 +44,8 @@ StopsWith c sheet to s page why =
     (known : Option library.FileTable) (units : Option Units) (indexed : Indexed) (i : ℕ)
     (old new : Option (List FontKey))
     → IsConversionOf (document_units indexed.res indexed.reading) c
-    → IsDrawnUpTo (IsFontOf known units) c sheet (course_of indexed.reading i) to s page old new
+    → IsDrawnUpTo (IsFontOf known units) c sheet (course_of false indexed.reading i) to s page
+    old new
     → IsStop (IsFontOf known units) indexed sheet i why old new
 
 -- at a look-up there are no more steps left than before

@@ -9,7 +9,7 @@ use Rattle.drift_rules.specs.declared.faults.PenFault.TheVariants.{StackLeft}
 use Rattle.drift_rules.specs.declared.flat.Registers.{Registers}
 use Rattle.packed_rows.specs.Bitmap.{Bitmap}
 use Rattle.raster_page.specs.Ink.{page_of}
-use Rattle.vf_expand.specs.Course.{Course, Gives, Asks, Ends, Stops}
+use Rattle.vf_expand.specs.Course.{Course, Gives, Asks, Lacks, Ends, Stops}
 use Rattle.vf_expand.specs.Faults.{PageFaultValue, Pen}
 use Rattle.page_draw.specs.Members.{Finding, Unfolds, Member, last_state, looks_of, marks_from}
 use Rattle.page_draw.specs.declared.sheet.Sheet.{Sheet}
@@ -41,6 +41,7 @@ abbrev pub EndsIn : Fraction → State → Bitmap → Course → PageValue → T
 EndsIn c s page (Gives f g at rest) value =
     (fault : PenFault) × (state_after c s f ≡ Err fault) × (value ≡ fault_at (Pen fault) at)
 EndsIn c s page (Asks k at rest) value = ⊥
+EndsIn c s page (Lacks f at rest) value = ⊥
 EndsIn c s page (Ends at) value = value ≡ ended_with s.saved at page
 EndsIn c s page (Stops fault at) value = value ≡ fault_at fault at
 

@@ -61,6 +61,7 @@ fn end_page(page: Page, pen: &Pen, expander: &Expander, step: Step) -> Result<Pa
         }),
         Step::Flat(_) => unreachable!(),
         Step::Ask(_) => unreachable!(),
+        Step::Lack(_) => unreachable!(),
     }
 }
 
@@ -150,7 +151,7 @@ pub fn draw_on<R: Wait, D: Desk>(
         (D.trail desk.old) (D.trail desk.new) }
 {
     let mut pen = Pen::new(alloc, wanted.index.conv());
-    let mut expander = Expander::new(alloc, wanted.index, wanted.number)?;
+    let mut expander = Expander::new(alloc, wanted.index, wanted.number, false)?;
     'steps: loop {
         match draw_flats(&mut page, &mut pen, sheet, &mut expander)? {
             Step::Ask(key) => look_up(rt, alloc, desk, shared, &mut expander, &key)?,

@@ -6,7 +6,7 @@ ghost use Rattle.outside.specs.declared.keys.FontKey.{FontKey};
 ghost use Rattle.drift_rules.specs.Position.{value_of_flat};
 ghost use Rattle.drift_rules.specs.Bounds.{IsInReach, IsNumber, IsPaintable, IsPlaceable};
 ghost use Rattle.raster_page.specs.Ink.{Inked, page_of};
-ghost use Rattle.vf_expand.specs.Expansion.{asks_left, rest_of};
+ghost use Rattle.vf_expand.specs.Expansion.{HasNoLack, asks_left, rest_of};
 ghost use Rattle.vf_expand.specs.Steps.{StepFits, Steps};
 ghost use Rattle.packed_rows.specs.declared.offset.TheConstants.{MAX_COORDINATE};
 ghost use Rattle.page_draw.specs.Inking.{Inks, Moves, step_of, set_in};
@@ -133,10 +133,12 @@ pub fn draw_flats(
     expander: &mut Expander,
 ) -> Result<Step, PageStop>
     requires sheet { IsDrawable sheet.now }
+    requires no_lack { HasNoLack (rest_of expander.old) }
     ensures drawn { OnOk result (Continues pen.old.conv sheet.now
         (rest_of expander.old) pen.old.state page.old (rest_of expander.new) pen.new.state
         page.new) }
     ensures conv { OnOk result (pen.new.conv ≡ pen.old.conv) }
+    ensures no_lack { OnOk result (HasNoLack (rest_of expander.new)) }
     ensures asks { OnOk result (asks_left expander.new ≤ asks_left expander.old) }
     ensures steps { IfOk result (λ step. HasFewerAtLook expander.old step expander.new) }
 
@@ -154,6 +156,7 @@ pub fn draw_flats(
         }
         match expander.next()? {
             Step::Flat(flat) => draw_one(page, pen, sheet, expander, &flat)?,
+            Step::Lack(_) => unreachable!(),
             other => return Ok(other),
         }
     }

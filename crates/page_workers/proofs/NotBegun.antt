@@ -1,5 +1,5 @@
 -- A page for which there was no memory.
-use Rattle.std.proofs.Common.{◌≡◌, ℕ, List, [], inl, refl}
+use Rattle.std.proofs.Common.{◌≡◌, ℕ, false, List, [], inl, refl}
 use Rattle.std.specs.Prelude.{Option, Some}
 use Rattle.outside.specs.declared.keys.FontKey.{FontKey}
 use Rattle.pixel_round.specs.declared.units.Units.{Units}
@@ -14,7 +14,7 @@ use Rattle.page_draw.proofs.Lists.{grew_none}
 pub not_begun : (Finds : Finding) (indexed : Indexed) (i : ℕ) (units : Units) (asked : Option (List FontKey)) → document_units indexed.res indexed.reading ≡ Some units → IsBroken Finds indexed i asked asked
 not_begun Finds indexed i units asked is = record {
   members = [];
-  to = course_of indexed.reading i;
+  to = course_of false indexed.reading i;
   units = units;
   state = at_origin;
   of_document = is;

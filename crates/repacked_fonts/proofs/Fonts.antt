@@ -16,7 +16,7 @@ use Rattle.font_decode.specs.Files.{FontFiles, IsFound, first_there, gf_choices,
 use Rattle.font_decode.specs.Fonts.{glyph_at}
 use Rattle.font_decode.specs.Decoding.{DecodesGlyphs, DecodesPacked, DecodesPk, DecodesShortPk, DecodesSound, DecodesTfm, IsDecodingOf, IsFontIn, is_too_long}
 use Rattle.font_decode.specs.declared.font_or_fault.Decoded.{Decoded}
-use Rattle.font_decode.specs.declared.font_or_fault.Decoded.TheVariants.{Font, Fault}
+use Rattle.font_decode.specs.declared.font_or_fault.Decoded.TheVariants.{Font, Bare, Fault}
 use Rattle.repacked_fonts.specs.Repacked.{DifferInPacking, GiveTheSame, IsRepacked}
 use Rattle.repacked_fonts.specs.Laws.{RepackedFontsAreDecodedAlike}
 
@@ -124,6 +124,7 @@ from_pk k t x y (Font f) g p = record {
       let h = g.glyphs c in
       subst (λ (answer : Option Glyph). IsAnswer g.others c answer) (sym (answers_are_one x p.items g.items c (glyph_at f c) h.0 p.file g.file (p.glyphs c) h.1)) h.2;
 }
+from_pk k t x y (Bare f) g p = absurd p
 from_pk k t x y (Fault f) g p = absurd (files_have_no_fault x g.items p.0 g.file p.1)
 
 from_short : (k : FontKey) (t x y : List ℕ) (d : Decoded) → GiveTheSame x y → DecodesShortPk k t x d → DecodesShortPk k t y d

@@ -8,7 +8,7 @@ use Rattle.font_decode.specs.Decoding.{IsFontOf}
 use Rattle.font_decode.specs.declared.font_or_fault.Decoded.{Decoded}
 use Rattle.vf_expand.specs.Course.{Course}
 use Rattle.page_draw.specs.Drawn.{IsPageValue}
-use Rattle.page_draw.specs.Members.{Finding, Flat, LookUp, Member, Unfolds}
+use Rattle.page_draw.specs.Members.{Finding, Flat, LookUp, Lack, Member, Unfolds}
 use Rattle.page_draw.specs.Values.{PageValue}
 use Rattle.page_draw.specs.declared.sheet.Sheet.{Sheet}
 use Rattle.repacked_fonts.specs.Repacked.{DifferInPacking}
@@ -24,6 +24,7 @@ module _ (F G : Finding) (same : (k : FontKey) (d : Decoded) → F k d → G k d
   unfolds from [] to h = h
   unfolds from (Flat f g at ∷ members) to h = (h.0, h.1, unfolds h.0 members to h.2)
   unfolds from (LookUp k at ∷ members) to h = (h.0, h.1, h.2, same k h.1 h.3, unfolds (h.0 h.1) members to h.4)
+  unfolds from (Lack f at ∷ members) to h = (h.0, h.1, unfolds h.0 members to h.2)
 
   page : (indexed : Indexed) (sheet : Sheet) (i : ℕ) (value : PageValue) (looks : List FontKey) → IsPageValue F indexed sheet i value looks → IsPageValue G indexed sheet i value looks
   page indexed sheet i value looks h = record {

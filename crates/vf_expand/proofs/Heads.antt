@@ -1,5 +1,5 @@
 -- The next command of the page or of the packet that is read.
-use Rattle.std.proofs.Common.{◌≡◌, ℕ, zero, suc, ◌+◌, ◌-◌, ◌<◌, ◌≤◌, List, [], ◌∷◌, length, drop, refl, sym, ap, subst, ◌∙◌, arith, Option, Some, None, length-drop}
+use Rattle.std.proofs.Common.{◌≡◌, ℕ, Bool, true, false, zero, suc, ◌+◌, ◌-◌, ◌<◌, ◌≤◌, List, [], ◌∷◌, length, drop, refl, sym, ap, subst, ◌∙◌, arith, Option, Some, None, length-drop}
 use Rattle.std.specs.Prelude.{slice_range, unwrap_or}
 use Rattle.dvi_commands.specs.declared.command.Context.{Context}
 use Rattle.dvi_commands.specs.declared.command.Context.TheVariants as context
@@ -8,11 +8,11 @@ use Rattle.dvi_commands.specs.Reading.{Placed, placed, placed_from, commands_of,
 use Rattle.dvi_commands.proofs.Commands.{placed_on, placed_none, placed_first, commands_on, commands_none}
 use Rattle.page_index.specs.Document.{Reading}
 use Rattle.page_index.specs.Pages.{eop_at, page_commands}
-use Rattle.vf_expand.specs.Faults.{TooLong}
-use Rattle.vf_expand.specs.Course.{Course, Gives, Asks, Ends, Stops, Current, NoFont, Place, OnPage, course_of, cut, deeper, expand_one, expand_list, leave, page_from}
+use Rattle.vf_expand.specs.Faults.{PageFaultValue, TooLong}
+use Rattle.vf_expand.specs.Course.{Course, Gives, Asks, Lacks, Ends, Stops, lack_or_stop, Current, NoFont, Place, OnPage, course_of, cut, deeper, expand_one, expand_list, leave, page_from}
 use Rattle.vf_expand.specs.Limits.{MAX_FLAT_COMMANDS}
 use Rattle.vf_expand.specs.Limits.{MAX_DEPTH}
-use Rattle.vf_expand.specs.Expansion.{Page, IsEnded, course_left, depth, place_in, place_of, stack_left}
+use Rattle.vf_expand.specs.Expansion.{HasNoLack, Page, IsEnded, course_left, depth, place_in, place_of, stack_left}
 use Rattle.vf_expand.specs.Effects.{value_of_current}
 use Rattle.vf_expand.specs.Levels.{AreLevels, place_at, position, stack_of, text_in, level_text}
 use Rattle.vf_expand.specs.declared.outer_levels.Level.{Level}
@@ -101,59 +101,81 @@ some_placed place [] bytes start some are = absurd (omega (arith, ap length are)
 some_placed place (c ∷ commands) bytes start some are =
     (placed start c are.0, placed_from (start + length are.0) are.1, refl, ap (placed_from start) are.2.whole ∙ placed_first start c are.0 are.1 are.2.spelled)
 
-pub late_stack : (reading : Reading) (eop start at : ℕ) (bytes : List ℕ) (level : Level) (outer : List Level) (current : Current) → level.pos < length (level_text bytes level outer) → AreLevels bytes level outer
-    → cut 0 (stack_left reading eop at current (stack_of bytes start level outer)) ≡ Stops TooLong (position start at level outer)
-late_stack reading eop start at bytes level [] current inside fine =
+pub late_stack : (t : Bool) (reading : Reading) (eop start at : ℕ) (bytes : List ℕ) (level : Level) (outer : List Level) (current : Current) → level.pos < length (level_text bytes level outer) → AreLevels bytes level outer
+    → cut t 0 (stack_left reading eop at current (stack_of bytes start level outer)) ≡ Stops TooLong (position start at level outer)
+late_stack t reading eop start at bytes level [] current inside fine =
     let there = some_placed context.Page fine.readable.commands (drop level.pos bytes) (start + level.pos) (omega (arith, length-drop level.pos bytes)) fine.readable.are in
-    ap (λ (commands : List Placed). cut 0 (page_from reading eop current commands)) there.3
-    ∙ late_one (deeper MAX_DEPTH there.0.at) (OnPage reading) there.0.at current there.0.command (λ next. page_from reading eop next there.1)
+    ap (λ (commands : List Placed). cut t 0 (page_from reading eop current commands)) there.3
+    ∙ late_one t (deeper MAX_DEPTH there.0.at) (OnPage reading) there.0.at current there.0.command (λ next. page_from reading eop next there.1)
     ∙ ap (Stops TooLong) there.2
-late_stack reading eop start at bytes level (o ∷ outer) current inside fine =
+late_stack t reading eop start at bytes level (o ∷ outer) current inside fine =
     let outside = value_of_current o.current in
-    late_list (deeper (MAX_DEPTH - suc (depth (stack_of bytes start o outer))) at) (place_in reading outside) at current (commands_of (drop level.pos (text_in outside level.code))) level.advance
+    late_list t (deeper (MAX_DEPTH - suc (depth (stack_of bytes start o outer))) at) (place_in reading outside) at current (commands_of (drop level.pos (text_in outside level.code))) level.advance
     (stack_left reading eop at outside (stack_of bytes start o outer))
 
 -- ---- as a page begins
 
-pub new_left : (reading : Reading) (i start : ℕ) (bytes : List ℕ) → placed_from start bytes ≡ page_commands i reading → eop_at i reading ≡ Some (start + length bytes)
-    → course_left reading (start + length bytes) start 16777216 None NoFont (Page (placed_from (start + 0) (drop 0 bytes))) ≡ course_of reading i
+pub new_left : (t : Bool) (reading : Reading) (i start : ℕ) (bytes : List ℕ) → placed_from start bytes ≡ page_commands i reading → eop_at i reading ≡ Some (start + length bytes)
+    → course_left t reading (start + length bytes) start 16777216 None NoFont (Page (placed_from (start + 0) (drop 0 bytes))) ≡ course_of t reading i
 unfolding course_left
-new_left reading i start bytes commands ends =
+new_left t reading i start bytes commands ends =
     let sum : start + 0 ≡ start = omega arith in
-    ap (λ (n : ℕ). cut MAX_FLAT_COMMANDS (page_from reading (start + length bytes) NoFont (placed_from n bytes))) sum
-    ∙ ap (λ (placed : List Placed). cut MAX_FLAT_COMMANDS (page_from reading (start + length bytes) NoFont placed)) commands
-    ∙ sym (ap (λ (o : Option ℕ). cut MAX_FLAT_COMMANDS (page_from reading (unwrap_or o 0) NoFont (page_commands i reading))) ends)
+    ap (λ (n : ℕ). cut t MAX_FLAT_COMMANDS (page_from reading (start + length bytes) NoFont (placed_from n bytes))) sum
+    ∙ ap (λ (placed : List Placed). cut t MAX_FLAT_COMMANDS (page_from reading (start + length bytes) NoFont placed)) commands
+    ∙ sym (ap (λ (o : Option ℕ). cut t MAX_FLAT_COMMANDS (page_from reading (unwrap_or o 0) NoFont (page_commands i reading))) ends)
 
 -- the place of what stands next
-place_cut : (n : ℕ) (x : Course) → place_of (cut n x) ≡ place_of x
-place_cut zero (Gives f g at rest) = refl
-place_cut zero (Asks k at rest) = refl
-place_cut zero (Ends at) = refl
-place_cut zero (Stops fault at) = refl
-place_cut (suc n) (Gives f g at rest) = refl
-place_cut (suc n) (Asks k at rest) = refl
-place_cut (suc n) (Ends at) = refl
-place_cut (suc n) (Stops fault at) = refl
+place_lack : (t : Bool) (f : PageFaultValue) (at : ℕ) (rest : Course) → place_of (lack_or_stop t f at rest) ≡ at
+place_lack true f at rest = refl
+place_lack false f at rest = refl
 
-place_left : (reading : Reading) (eop at b : ℕ) (current : Current) (p : Placed) (commands : List Placed) → place_of (course_left reading eop at b None current (Page (p ∷ commands))) ≡ p.at
+place_cut : (t : Bool) (n : ℕ) (x : Course) → place_of (cut t n x) ≡ place_of x
+place_cut t zero (Gives f g at rest) = refl
+place_cut t zero (Asks k at rest) = refl
+place_cut t zero (Lacks f at rest) = refl
+place_cut t zero (Ends at) = refl
+place_cut t zero (Stops fault at) = refl
+place_cut t (suc n) (Gives f g at rest) = refl
+place_cut t (suc n) (Asks k at rest) = refl
+place_cut t (suc n) (Lacks f at rest) = place_lack t f at (cut t (suc n) rest)
+place_cut t (suc n) (Ends at) = refl
+place_cut t (suc n) (Stops fault at) = refl
+
+place_left : (t : Bool) (reading : Reading) (eop at b : ℕ) (current : Current) (p : Placed) (commands : List Placed) → place_of (course_left t reading eop at b None current (Page (p ∷ commands))) ≡ p.at
 unfolding course_left
-place_left reading eop at b current p commands =
+place_left t reading eop at b current p commands =
     let x = page_from reading eop current (p ∷ commands) in
-    place_cut b x ∙ sym (place_cut 0 x) ∙ ap place_of (late_one (deeper MAX_DEPTH p.at) (OnPage reading) p.at current p.command (λ next. page_from reading eop next commands))
+    place_cut t b x ∙ sym (place_cut t 0 x) ∙ ap place_of (late_one t (deeper MAX_DEPTH p.at) (OnPage reading) p.at current p.command (λ next. page_from reading eop next commands))
 
-end_place : (reading : Reading) (eop at b : ℕ) (current : Current) → place_of (course_left reading eop at b None current (Page [])) ≡ eop
+end_place : (t : Bool) (reading : Reading) (eop at b : ℕ) (current : Current) → place_of (course_left t reading eop at b None current (Page [])) ≡ eop
 unfolding course_left
-end_place reading eop at b current = place_cut b (Ends eop)
+end_place t reading eop at b current = place_cut t b (Ends eop)
 
-pub new_place : (reading : Reading) (b start : ℕ) (current : Current) (bytes : List ℕ) → Reads context.Page bytes
-    → start ≡ place_of (course_left reading (start + length bytes) start b None current (Page (placed_from (start + 0) (drop 0 bytes))))
-new_place reading b start current [] reads =
+pub new_place : (t : Bool) (reading : Reading) (b start : ℕ) (current : Current) (bytes : List ℕ) → Reads context.Page bytes
+    → start ≡ place_of (course_left t reading (start + length bytes) start b None current (Page (placed_from (start + 0) (drop 0 bytes))))
+new_place t reading b start current [] reads =
     let sum : start ≡ start + 0 = omega arith in
-    sum ∙ sym (end_place reading (start + 0) start b current)
-    ∙ ap (λ (commands : List Placed). place_of (course_left reading (start + 0) start b None current (Page commands))) (sym (placed_none (start + 0)))
-new_place reading b start current (byte ∷ bytes) reads =
+    sum ∙ sym (end_place t reading (start + 0) start b current)
+    ∙ ap (λ (commands : List Placed). place_of (course_left t reading (start + 0) start b None current (Page commands))) (sym (placed_none (start + 0)))
+new_place t reading b start current (byte ∷ bytes) reads =
     let all = byte ∷ bytes in
     let there = some_placed context.Page reads.commands all (start + 0) (omega arith) reads.are in
     let sum : start ≡ start + 0 = omega arith in
-    sum ∙ sym there.2 ∙ sym (ap (λ (placed : List Placed). place_of (course_left reading (start + length all) start b None current (Page placed))) there.3
-    ∙ place_left reading (start + length all) start b current there.0 there.1)
+    sum ∙ sym there.2 ∙ sym (ap (λ (placed : List Placed). place_of (course_left t reading (start + length all) start b None current (Page placed))) there.3
+    ∙ place_left t reading (start + length all) start b current there.0 there.1)
+
+-- without the option nothing is lacking
+no_lack_cut : (n : ℕ) (x : Course) → HasNoLack (cut false n x)
+no_lack_cut zero (Gives f g at rest) = tt
+no_lack_cut zero (Asks k at rest) = tt
+no_lack_cut zero (Lacks f at rest) = tt
+no_lack_cut zero (Ends at) = tt
+no_lack_cut zero (Stops f at) = tt
+no_lack_cut (suc n) (Gives f g at rest) = no_lack_cut n rest
+no_lack_cut (suc n) (Asks k at rest) = λ d. no_lack_cut (suc n) (rest d)
+no_lack_cut (suc n) (Lacks f at rest) = tt
+no_lack_cut (suc n) (Ends at) = tt
+no_lack_cut (suc n) (Stops f at) = tt
+
+pub strict_page : (reading : Reading) (i : ℕ) → HasNoLack (course_of false reading i)
+strict_page reading i = no_lack_cut MAX_FLAT_COMMANDS (page_from reading (unwrap_or (eop_at i reading) 0) NoFont (page_commands i reading))

@@ -9,11 +9,13 @@ use Rattle.pk_runs.specs.declared.glyph.Glyph.{Glyph}
 use Rattle.font_decode.specs.Fonts.{FontValue, scaled_width_of, glyph_at, is_virtual_of, packet_of, local_of, first_local_of}
 use Rattle.font_decode.specs.declared.font_or_fault.Decoded.{Decoded}
 use Rattle.font_decode.specs.declared.font_or_fault.Decoded.TheVariants as decoded
-use Rattle.vf_expand.specs.Faults.{PageFaultValue}
+use Rattle.font_decode.specs.declared.faults.FontFault.{FontFault}
+use Rattle.vf_expand.specs.Faults.{PageFaultValue, is_missing}
 use Rattle.vf_expand.specs.Faults as fault
-use Rattle.vf_expand.specs.Course.{Course, Gives, Asks, Ends, Stops, Place, OnPage, InPacket, Current, NoFont, Chosen, Known, Deeper, deeper, expand_one, expand_list, page_from, cut, character, char_of_decoded, with_width, by_kind, with_glyph, virtual, packet, leave, advance_of, changed_to, font_change, no_local, number_of}
+use Rattle.vf_expand.specs.Course.{Course, Gives, Asks, Lacks, Ends, Stops, by_fault, lack_or_stop, Place, OnPage, InPacket, Current, NoFont, Chosen, Known, Deeper, deeper, expand_one, expand_list, page_from, cut, character, char_of_decoded, with_width, by_kind, with_glyph, virtual, packet, leave, advance_of, changed_to, font_change, no_local, number_of}
 use Rattle.vf_expand.specs.Limits.{MAX_DEPTH}
-use Rattle.vf_expand.specs.Expansion.{Expansion, IsAtLook, OpenPacket, Stack, after_answer, asks_from, asks_left, course_left, after_pending_advance, font_of, rest_of, marked_font, packets_left, place_in, stack_left}
+use Rattle.vf_expand.specs.declared.pending.Pending.{Pending}
+use Rattle.vf_expand.specs.Expansion.{Expansion, IsAtLook, OpenPacket, Stack, after_answer, asks_from, asks_left, course_left, after_pending, lacks_left, font_of, rest_of, marked_font, packets_left, place_in, stack_left}
 
 abbrev Waits : Current → (Current → Course) → Type 0
 Waits current part = (k : FontKey) × (current ≡ Chosen k) × ((d : Decoded) → part (Known k d) ≡ after_answer (part current) d)
@@ -39,8 +41,13 @@ no_look_in_width : (deep : Deeper) (at : ℕ) (k : FontKey) (f : FontValue) (c :
 no_look_in_width deep at k f c put None rest look = look
 no_look_in_width deep at k f c put (Some width) rest look = no_look_in_kind deep at k f c width put (is_virtual_of f) rest look
 
+no_look_in_fault : (at : ℕ) (k : FontKey) (f : FontFault) (b : Bool) (rest : Course) → IsAtLook (by_fault at k f b rest) → ⊥
+no_look_in_fault at k f true rest look = look
+no_look_in_fault at k f false rest look = look
+
 no_look_in_found : (deep : Deeper) (at : ℕ) (k : FontKey) (d : Decoded) (c : ℤ) (put : Bool) (rest : Course) → IsAtLook (char_of_decoded deep at k d c put rest) → ⊥
-no_look_in_found deep at k (decoded.Fault fault) c put rest look = look
+no_look_in_found deep at k (decoded.Fault f) c put rest look = no_look_in_fault at k f (is_missing f) rest look
+no_look_in_found deep at k (decoded.Bare f) c put rest look = look
 no_look_in_found deep at k (decoded.Font f) c put rest look = no_look_in_width deep at k f c put (scaled_width_of f c) rest look
 
 no_look_in_changed : (k : Option FontKey) (f : PageFaultValue) (at : ℕ) (others : Current → Course) → IsAtLook (changed_to k f at others) → ⊥
@@ -96,20 +103,26 @@ look_in_packets reading eop at current (p ∷ commands) [] look =
 look_in_packets reading eop at current page (p ∷ outer) look =
     look_in_list (deeper (MAX_DEPTH - suc (length outer)) at) (place_in reading p.outside) at current p.commands p.advance (packets_left reading eop at page p.outside outer) look
 
-look_in_pending : (reading : Reading) (eop at : ℕ) (pending_advance : Option ℤ) (current : Current) (stack : Stack) → IsAtLook (after_pending_advance pending_advance at (stack_left reading eop at current stack))
-    → Waits current (λ now. after_pending_advance pending_advance at (stack_left reading eop at now stack))
+look_in_pending : (reading : Reading) (eop at : ℕ) (pending : Option Pending) (current : Current) (stack : Stack) → IsAtLook (after_pending pending at (stack_left reading eop at current stack))
+    → Waits current (λ now. after_pending pending at (stack_left reading eop at now stack))
 look_in_pending reading eop at None current stack look = look_in_packets reading eop at current stack.page stack.packets look
-look_in_pending reading eop at (Some width) current stack look = absurd look
+look_in_pending reading eop at (Some p) current stack look = absurd look
 
-look_in_cut : (n : ℕ) (x : Course) → IsAtLook (cut n x) → IsAtLook x × (0 < n) × ((d : Decoded) → after_answer (cut n x) d ≡ cut n (after_answer x d))
-look_in_cut zero (Gives f g at rest) look = absurd look
-look_in_cut zero (Asks k at rest) look = absurd look
-look_in_cut zero (Ends at) look = absurd look
-look_in_cut zero (Stops fault at) look = absurd look
-look_in_cut (suc n) (Gives f g at rest) look = absurd look
-look_in_cut (suc n) (Asks k at rest) look = (tt, omega arith, λ d. refl)
-look_in_cut (suc n) (Ends at) look = absurd look
-look_in_cut (suc n) (Stops fault at) look = absurd look
+no_look_in_lack : (t : Bool) (f : PageFaultValue) (at : ℕ) (rest : Course) → IsAtLook (lack_or_stop t f at rest) → ⊥
+no_look_in_lack true f at rest look = look
+no_look_in_lack false f at rest look = look
+
+look_in_cut : (t : Bool) (n : ℕ) (x : Course) → IsAtLook (cut t n x) → IsAtLook x × (0 < n) × ((d : Decoded) → after_answer (cut t n x) d ≡ cut t n (after_answer x d))
+look_in_cut t zero (Gives f g at rest) look = absurd look
+look_in_cut t zero (Asks k at rest) look = absurd look
+look_in_cut t zero (Lacks f at rest) look = absurd look
+look_in_cut t zero (Ends at) look = absurd look
+look_in_cut t zero (Stops fault at) look = absurd look
+look_in_cut t (suc n) (Gives f g at rest) look = absurd look
+look_in_cut t (suc n) (Asks k at rest) look = (tt, omega arith, λ d. refl)
+look_in_cut t (suc n) (Lacks f at rest) look = absurd (no_look_in_lack t f at (cut t (suc n) rest) look)
+look_in_cut t (suc n) (Ends at) look = absurd look
+look_in_cut t (suc n) (Stops fault at) look = absurd look
 
 -- the font that the next look-up is for
 record Wanted (v : Expansion) : Type 0 where
@@ -121,9 +134,9 @@ record Wanted (v : Expansion) : Type 0 where
 wanted : (v : Expansion) → IsAtLook (rest_of v) → Wanted v
 unfolding course_left
 wanted v look =
-    let inside = look_in_cut v.budget (after_pending_advance v.pending_advance v.at (stack_left v.reading v.eop v.at v.current v.stack)) look in
-    let waits = look_in_pending v.reading v.eop v.at v.pending_advance v.current v.stack inside.0 in
-    record { key = waits.0; current_of = waits.1; room = inside.1; rest = λ d. ap (cut v.budget) (waits.2 d) ∙ sym (inside.2 d) }
+    let inside = look_in_cut v.tolerant v.budget (after_pending v.pending v.at (stack_left v.reading v.eop v.at v.current v.stack)) look in
+    let waits = look_in_pending v.reading v.eop v.at v.pending v.current v.stack inside.0 in
+    record { key = waits.0; current_of = waits.1; room = inside.1; rest = λ d. ap (cut v.tolerant v.budget) (waits.2 d) ∙ sym (inside.2 d) }
 
 -- the key that a page waits for
 pub key_wanted : (v : Expansion) → IsAtLook (rest_of v) → (k : FontKey) × (v.current ≡ Chosen k)
@@ -148,11 +161,11 @@ module _ (v : Expansion) (k : FontKey) (current_of : v.current ≡ Chosen k) (lo
       let sum : (v.budget - 1) + 1 ≡ v.budget = omega (arith, room) in
       sum ∙ ap (asks_from v.budget) (sym current_of)
 
-  pub answered_fewer : v.budget + (v.budget - 1) < v.budget + asks_left v
+  pub answered_fewer : v.budget + (v.budget - 1) + lacks_left v < v.budget + asks_left v + lacks_left v
   answered_fewer =
       let room : 0 < v.budget = (wanted v look).room in
-      let less : v.budget + (v.budget - 1) < v.budget + v.budget = omega (arith, room) in
-      subst (λ (x : Current). v.budget + (v.budget - 1) < v.budget + asks_from v.budget x) (sym current_of) less
+      let less : v.budget + (v.budget - 1) + lacks_left v < v.budget + v.budget + lacks_left v = omega (arith, room) in
+      subst (λ (x : Current). v.budget + (v.budget - 1) + lacks_left v < v.budget + asks_from v.budget x + lacks_left v) (sym current_of) less
 
   pub answered_unmarked : (d : Decoded) → (IsTrue v.marked → IsSome (font_of v.current)) → marked_font (record v { current = Known k d }) ≡ None
   answered_unmarked d marks =

@@ -7,73 +7,86 @@ use Rattle.dvi_commands.specs.declared.command.Context.TheVariants as context
 use Rattle.dvi_commands.specs.Spelling.{DviCommand, Set, Put, SetRule, PutRule, Push, Pop, Right, W0, W, X0, X, Down, Y0, Y, Z0, Z, Font}
 use Rattle.dvi_commands.specs.Reading.{AreCommands, Begins, Placed, commands_of, placed, placed_from}
 use Rattle.dvi_commands.proofs.Commands.{commands_first, commands_none, placed_first, placed_none}
-use Rattle.drift_rules.specs.Position.{Advance}
 use Rattle.page_index.specs.Document.{Reading, font_table}
 use Rattle.font_decode.specs.Fonts.{FontValue, local_of, first_local_of, packet_of}
 use Rattle.vf_expand.specs.Faults.{PageFaultValue}
 use Rattle.vf_expand.specs.Faults as fault
-use Rattle.vf_expand.specs.Course.{Asks, Course, Current, Deeper, Ends, Gives, OnPage, InPacket, Place, Stops, changed_to, cut, deeper, expand_list, expand_one, font_change, leave, no_local, number_of, packet, page_from, gives, virtual}
+use Rattle.vf_expand.specs.Course.{Asks, Lacks, lack_or_stop, Course, Current, Deeper, Ends, Gives, OnPage, InPacket, Place, Stops, changed_to, cut, deeper, expand_list, expand_one, font_change, leave, no_local, number_of, packet, page_from, gives, virtual}
 use Rattle.vf_expand.specs.Limits.{MAX_DEPTH}
-use Rattle.vf_expand.specs.Expansion.{Expansion, GivesNoPackedChar, course_left, depth, after_pending_advance, rest_of, place_in, stack_left}
+use Rattle.vf_expand.specs.Expansion.{Expansion, GivesNoPackedChar, course_left, depth, after_pending, flat_of_pending, rest_of, place_in, stack_left}
 use Rattle.vf_expand.specs.Effects.{SetsNoPackedChar, value_of_current}
 use Rattle.vf_expand.specs.Sets.{character_command}
 use Rattle.vf_expand.specs.Levels.{AreLevels, context_of, stack_of, text_in, level_text}
 use Rattle.vf_expand.specs.declared.outer_levels.Level.{Level}
+use Rattle.vf_expand.specs.declared.pending.Pending.{Pending}
+use Rattle.vf_expand.specs.declared.pending.Pending.TheVariants as pending
 use Rattle.vf_expand.proofs.Levels.{rest_reads}
 
 -- ---- by what is left
 
-none_cut : (b : ℕ) (x : Course) → GivesNoPackedChar x → GivesNoPackedChar (cut b x)
-none_cut zero (Gives f g at rest) h = tt
-none_cut zero (Asks k at rest) h = tt
-none_cut zero (Ends at) h = tt
-none_cut zero (Stops f at) h = tt
-none_cut (suc b) (Gives f g at rest) h = h
-none_cut (suc b) (Asks k at rest) h = tt
-none_cut (suc b) (Ends at) h = tt
-none_cut (suc b) (Stops f at) h = tt
+none_lack : (t : Bool) (f : PageFaultValue) (at : ℕ) (rest : Course) → GivesNoPackedChar (lack_or_stop t f at rest)
+none_lack true f at rest = tt
+none_lack false f at rest = tt
 
-none_over : (x : Course) → GivesNoPackedChar (cut 0 x)
-none_over (Gives f g at rest) = tt
-none_over (Asks k at rest) = tt
-none_over (Ends at) = tt
-none_over (Stops f at) = tt
+none_cut : (t : Bool) (b : ℕ) (x : Course) → GivesNoPackedChar x → GivesNoPackedChar (cut t b x)
+none_cut t zero (Gives f g at rest) h = tt
+none_cut t zero (Asks k at rest) h = tt
+none_cut t zero (Lacks f at rest) h = tt
+none_cut t zero (Ends at) h = tt
+none_cut t zero (Stops f at) h = tt
+none_cut t (suc b) (Gives f g at rest) h = h
+none_cut t (suc b) (Asks k at rest) h = tt
+none_cut t (suc b) (Lacks f at rest) h = none_lack t f at (cut t (suc b) rest)
+none_cut t (suc b) (Ends at) h = tt
+none_cut t (suc b) (Stops f at) h = tt
+
+none_over : (t : Bool) (x : Course) → GivesNoPackedChar (cut t 0 x)
+none_over t (Gives f g at rest) = tt
+none_over t (Asks k at rest) = tt
+none_over t (Lacks f at rest) = tt
+none_over t (Ends at) = tt
+none_over t (Stops f at) = tt
 
 none_leave : (advance : Option ℤ) (at : ℕ) (x : Course) → GivesNoPackedChar (leave advance at x)
 none_leave None at x = tt
 none_leave (Some width) at x = tt
 
-is_pending : (o : Option ℤ) → is_some o ≡ true → (width : ℤ) × (o ≡ Some width)
+is_pending : (o : Option Pending) → is_some o ≡ true → (p : Pending) × (o ≡ Some p)
 is_pending None e = absurd cc
-is_pending (Some width) e = (width, refl)
+is_pending (Some p) e = (p, refl)
 
-pub has_nothing_pending : (o : Option ℤ) → is_some o ≡ false → o ≡ None
+pub has_nothing_pending : (o : Option Pending) → is_some o ≡ false → o ≡ None
 has_nothing_pending None e = refl
-has_nothing_pending (Some width) e = absurd cc
+has_nothing_pending (Some p) e = absurd cc
+
+none_of_pending : (p : Pending) (at : ℕ) (x : Course) → GivesNoPackedChar (gives (flat_of_pending p) at x)
+none_of_pending pending.Skip at x = tt
+none_of_pending (pending.Advance width) at x = tt
 
 module _ (v : Expansion) where
-  -- the motion after a packet is pending
-  advance_first : (width : ℤ) → v.pending_advance ≡ Some width → GivesNoPackedChar (rest_of v)
+  -- what comes after a packet or a lack is pending
+  pending_first : (p : Pending) → v.pending ≡ Some p → GivesNoPackedChar (rest_of v)
   unfolding course_left
-  advance_first width pending_advance =
+  pending_first p there =
       let x = stack_left v.reading v.eop v.at v.current v.stack in
-      subst (λ (o : Option ℤ). GivesNoPackedChar (cut v.budget (after_pending_advance o v.at x))) (sym pending_advance) (none_cut v.budget (gives (Advance width) v.at x) tt)
+      subst (λ (o : Option Pending). GivesNoPackedChar (cut v.tolerant v.budget (after_pending o v.at x))) (sym there)
+      (none_cut v.tolerant v.budget (gives (flat_of_pending p) v.at x) (none_of_pending p v.at x))
 
-  pub none_advance : is_some v.pending_advance ≡ true → GivesNoPackedChar (rest_of v)
-  none_advance is = let pending_advance = is_pending v.pending_advance is in advance_first pending_advance.0 pending_advance.1
+  pub none_advance : is_some v.pending ≡ true → GivesNoPackedChar (rest_of v)
+  none_advance is = let found = is_pending v.pending is in pending_first found.0 found.1
 
   -- no flat command may be given
   pub none_late : v.budget ≡ 0 → GivesNoPackedChar (rest_of v)
   unfolding course_left
   none_late none =
-      let x = after_pending_advance v.pending_advance v.at (stack_left v.reading v.eop v.at v.current v.stack) in
-      subst (λ (b : ℕ). GivesNoPackedChar (cut b x)) (sym none) (none_over x)
+      let x = after_pending v.pending v.at (stack_left v.reading v.eop v.at v.current v.stack) in
+      subst (λ (b : ℕ). GivesNoPackedChar (cut v.tolerant b x)) (sym none) (none_over v.tolerant x)
 
-  pub none_pending : v.pending_advance ≡ None → GivesNoPackedChar (stack_left v.reading v.eop v.at v.current v.stack) → GivesNoPackedChar (rest_of v)
+  pub none_pending : v.pending ≡ None → GivesNoPackedChar (stack_left v.reading v.eop v.at v.current v.stack) → GivesNoPackedChar (rest_of v)
   unfolding course_left
   none_pending nothing_pending h =
       let x = stack_left v.reading v.eop v.at v.current v.stack in
-      subst (λ (o : Option ℤ). GivesNoPackedChar (cut v.budget (after_pending_advance o v.at x))) (sym nothing_pending) (none_cut v.budget x h)
+      subst (λ (o : Option Pending). GivesNoPackedChar (cut v.tolerant v.budget (after_pending o v.at x))) (sym nothing_pending) (none_cut v.tolerant v.budget x h)
 
 -- ---- a character of a virtual font
 

@@ -18,12 +18,15 @@ use Rattle.font_decode.specs.Decoding.{IsFontOf}
 use Rattle.font_decode.specs.Fonts.{FontValue, IsProgram, scaled_width_of, glyph_at, is_virtual_of, packet_of, local_of, first_local_of}
 use Rattle.font_decode.specs.declared.font_or_fault.Decoded.{Decoded}
 use Rattle.font_decode.specs.declared.font_or_fault.Decoded.TheVariants as decoded
+use Rattle.font_decode.specs.declared.faults.FileKind.TheVariants.{Pk}
+use Rattle.font_decode.specs.declared.faults.FontFault.{FontFault}
+use Rattle.font_decode.specs.declared.faults.FontFault.TheVariants.{Missing}
 use Rattle.font_decode.proofs.Programs.{HasPrograms, decoded_programs}
-use Rattle.vf_expand.specs.Faults.{PageFaultValue}
+use Rattle.vf_expand.specs.Faults.{PageFaultValue, is_missing}
 use Rattle.vf_expand.specs.Faults as fault
-use Rattle.vf_expand.specs.Course.{Place, OnPage, InPacket, Current, NoFont, Chosen, Known, advance_of, current_of, first_font, local_key, no_local, number_of}
-use Rattle.vf_expand.specs.Members.{Member, Flat, LookUp}
-use Rattle.vf_expand.specs.PageLists.{Fonts, Outcome, Goes, Faults, Packets, go_on, in_packet_level, leave_members, of_change, of_character, of_command, of_decoded, of_font, of_glyph, of_kind, of_list, of_packet, of_virtual, of_width, outcome_after, packets_in}
+use Rattle.vf_expand.specs.Course.{Place, OnPage, InPacket, Current, NoFont, Chosen, Known, advance_of, bare_advance, current_of, first_font, local_key, no_local, number_of}
+use Rattle.vf_expand.specs.Members.{Member, Flat, LookUp, Lack}
+use Rattle.vf_expand.specs.PageLists.{Fonts, Outcome, Goes, Faults, Packets, go_on, in_packet_level, leave_members, of_change, of_character, of_command, of_decoded, of_fault, of_font, of_glyph, of_kind, of_lack, of_list, of_packet, of_virtual, of_width, outcome_after, packets_in}
 use Rattle.vf_expand.specs.Packets.{CharactersMoveAsPacked, PacketsAreBalanced, flats_of}
 
 -- ---- how many pushes are open along flat commands
@@ -90,6 +93,7 @@ flats_append : (a b : List Member) → flats_of (a ++ b) ≡ flats_of a ++ flats
 flats_append [] b = refl
 flats_append (Flat f g at ∷ a) b = ap (λ (flats : List FlatCommand). f ∷ flats) (flats_append a b)
 flats_append (LookUp k at ∷ a) b = flats_append a b
+flats_append (Lack f at ∷ a) b = flats_append a b
 
 members_both : (n k m : ℕ) (a b : List Member) → Opens n (flats_of a) k → Opens k (flats_of b) m → Opens n (flats_of (a ++ b)) m
 members_both n k m a b first second = subst (λ (flats : List FlatCommand). Opens n flats m) (sym (flats_append a b)) (opens_both n k m (flats_of a) (flats_of b) first second)
@@ -125,37 +129,49 @@ packet_leaves n at current advance (Goes members last) right o = (
 )
 packet_leaves n at current advance (Faults members f) right o = tt
 
-module _ (fonts : Fonts) (found : (k : FontKey) → HasPrograms (fonts k)) where
+-- what comes in place of a character saves and restores nothing
+lack_leaves : (t : Bool) (n at : ℕ) (f : PageFaultValue) (advance : Option ℤ) (current : Current) → IsRight current → Leaves n n (of_lack t at f advance current)
+lack_leaves true n at f None current right = (neither n, right)
+lack_leaves true n at f (Some width) current right = (neither n, right)
+lack_leaves false n at f advance current right = tt
+
+module _ (t : Bool) (fonts : Fonts) (found : (k : FontKey) → HasPrograms (fonts k)) where
   module _ (packets : Packets) (deep : AreBalanced packets) (n at : ℕ) where
     text_leaves : (inner : FontKey → FontValue → List DviCommand → Outcome) → AreBalanced (Some inner) → (k : FontKey) (f : FontValue) (c : ℤ) (advance : Option ℤ) (text : Option (List ℕ)) → HasPrograms (decoded.Font f)
-        → IfSome text (IsProgram (number_of c)) → Leaves n n (of_packet inner at k f c advance text)
-    text_leaves inner balanced k f c advance None right is = tt
+        → IfSome text (IsProgram (number_of c)) → Leaves n n (of_packet t inner at k f c advance text)
+    text_leaves inner balanced k f c advance None right is = lack_leaves t n at (fault.NoPacket k c) advance (Known k (decoded.Font f)) right
     text_leaves inner balanced k f c advance (Some text) right is =
         packet_leaves n at (Known k (decoded.Font f)) advance (inner k f (commands_of text)) right (balanced k f (number_of c) text right is)
 
-    virtual_leaves : (p : Packets) → AreBalanced p → (k : FontKey) (f : FontValue) (c : ℤ) (advance : Option ℤ) → HasPrograms (decoded.Font f) → Leaves n n (of_virtual p at k f c advance)
+    virtual_leaves : (p : Packets) → AreBalanced p → (k : FontKey) (f : FontValue) (c : ℤ) (advance : Option ℤ) → HasPrograms (decoded.Font f) → Leaves n n (of_virtual t p at k f c advance)
     virtual_leaves None balanced k f c advance right = tt
     virtual_leaves (Some inner) balanced k f c advance right = text_leaves inner balanced k f c advance (packet_of f (number_of c)) right (right (number_of c))
 
-    glyph_leaves : (k : FontKey) (d : Decoded) (c width : ℤ) (put : Bool) (glyph : Option Glyph) → HasPrograms d → Leaves n n (of_glyph at k d c width put glyph)
-    glyph_leaves k d c width put None right = tt
+    glyph_leaves : (k : FontKey) (d : Decoded) (c width : ℤ) (put : Bool) (glyph : Option Glyph) → HasPrograms d → Leaves n n (of_glyph t at k d c width put glyph)
+    glyph_leaves k d c width put None right = lack_leaves t n at (fault.NoGlyph k c) (advance_of width put) (Known k d) right
     glyph_leaves k d c width put (Some g) right = (neither n, right)
 
-    kind_leaves : (k : FontKey) (f : FontValue) (c width : ℤ) (put virtual : Bool) → HasPrograms (decoded.Font f) → Leaves n n (of_kind packets at k f c width put virtual)
+    kind_leaves : (k : FontKey) (f : FontValue) (c width : ℤ) (put virtual : Bool) → HasPrograms (decoded.Font f) → Leaves n n (of_kind t packets at k f c width put virtual)
     kind_leaves k f c width put false right = glyph_leaves k (decoded.Font f) c width put (glyph_at f (number_of c)) right
     kind_leaves k f c width put true right = virtual_leaves packets deep k f c (advance_of width put) right
 
-    width_leaves : (k : FontKey) (f : FontValue) (c : ℤ) (put : Bool) (width : Option ℤ) → HasPrograms (decoded.Font f) → Leaves n n (of_width packets at k f c put width)
-    width_leaves k f c put None right = tt
+    width_leaves : (k : FontKey) (f : FontValue) (c : ℤ) (put : Bool) (width : Option ℤ) → HasPrograms (decoded.Font f) → Leaves n n (of_width t packets at k f c put width)
+    width_leaves k f c put None right = lack_leaves t n at (fault.NoCharacter k c) None (Known k (decoded.Font f)) right
     width_leaves k f c put (Some width) right = kind_leaves k f c width put (is_virtual_of f) right
 
-    decoded_leaves : (k : FontKey) (d : Decoded) (c : ℤ) (put : Bool) → HasPrograms d → Leaves n n (of_decoded packets at k d c put)
-    decoded_leaves k (decoded.Fault f) c put right = tt
+    fault_leaves : (k : FontKey) (f : FontFault) (b : Bool) → Leaves n n (of_fault t at k f b)
+    fault_leaves k f true = lack_leaves t n at (fault.Font k f) None (Known k (decoded.Fault f)) tt
+    fault_leaves k f false = tt
+
+    decoded_leaves : (k : FontKey) (d : Decoded) (c : ℤ) (put : Bool) → HasPrograms d → Leaves n n (of_decoded t packets at k d c put)
+    decoded_leaves k (decoded.Fault f) c put right = fault_leaves k f (is_missing f)
+    decoded_leaves k (decoded.Bare f) c put right =
+        lack_leaves t n at (fault.Font k (Missing Pk)) (bare_advance (scaled_width_of f c) put) (Known k (decoded.Bare f)) right
     decoded_leaves k (decoded.Font f) c put right = width_leaves k f c put (scaled_width_of f c) right
 
-    character_leaves : (place : Place) (current : Current) (c : ℤ) (put : Bool) → IsRight current → Leaves n n (of_character fonts packets place at current c put)
+    character_leaves : (place : Place) (current : Current) (c : ℤ) (put : Bool) → IsRight current → Leaves n n (of_character t fonts packets place at current c put)
     character_leaves place NoFont c put right = tt
-    character_leaves place (Chosen k) c put right = leaves_after n n n (LookUp k at ∷ []) (of_decoded packets at k (fonts k) c put) refl (decoded_leaves k (fonts k) c put (found k))
+    character_leaves place (Chosen k) c put right = leaves_after n n n (LookUp k at ∷ []) (of_decoded t packets at k (fonts k) c put) refl (decoded_leaves k (fonts k) c put (found k))
     character_leaves place (Known k d) c put right = decoded_leaves k d c put right
 
     change_leaves : (f : PageFaultValue) (k : Option FontKey) → Leaves n n (of_change at f k)
@@ -167,7 +183,7 @@ module _ (fonts : Fonts) (found : (k : FontKey) → HasPrograms (fonts k)) where
     font_leaves (InPacket k f) number = change_leaves (no_local k (first_local_of f) number) (local_of f number)
 
   command_leaves : (packets : Packets) → AreBalanced packets → (code n at : ℕ) (place : Place) (current : Current) (c : DviCommand) → IsRight current → command_fault code n c ≡ None
-      → Leaves n (open_after n c) (of_command fonts packets place at current c)
+      → Leaves n (open_after n c) (of_command t fonts packets place at current c)
   command_leaves packets deep code n at place current (Set c) right sound = character_leaves packets deep n at place current c false right
   command_leaves packets deep code n at place current (Put c) right sound = character_leaves packets deep n at place current c true right
   command_leaves packets deep code n at place current (Font number) right sound = font_leaves packets deep n at place number
@@ -189,10 +205,10 @@ module _ (fonts : Fonts) (found : (k : FontKey) → HasPrograms (fonts k)) where
   command_leaves packets deep code n at place current _ right sound = (neither n, right)
 
   list_leaves : (packets : Packets) → AreBalanced packets → (code n at : ℕ) (place : Place) (commands : List DviCommand) (text : List ℕ) (current : Current) → AreSoundFrom code n commands text → IsRight current
-      → Leaves n 0 (of_list (of_command fonts packets place at) current commands)
+      → Leaves n 0 (of_list (of_command t fonts packets place at) current commands)
   list_leaves packets deep code n at place [] text current sound right = (sound.1, right)
   list_leaves packets deep code n at place (c ∷ commands) text current sound right =
-      leaves_on n (open_after n c) 0 (of_command fonts packets place at current c) (λ next. of_list (of_command fonts packets place at) next commands)
+      leaves_on n (open_after n c) 0 (of_command t fonts packets place at current c) (λ next. of_list (of_command t fonts packets place at) next commands)
       (command_leaves packets deep code n at place current c right sound.3)
       (λ next known. list_leaves packets deep code (open_after n c) at place commands sound.1 next sound.4 known)
 
@@ -204,15 +220,15 @@ module _ (fonts : Fonts) (found : (k : FontKey) → HasPrograms (fonts k)) where
       by (Some k) = tt
 
   one_packet : (packets : Packets) → AreBalanced packets → (at : ℕ) (k : FontKey) (f : FontValue) (c : ℕ) (text : List ℕ) → IsProgram c text
-      → Leaves 0 0 (of_list (of_command fonts packets (InPacket k f) at) (first_font f) (commands_of text))
+      → Leaves 0 0 (of_list (of_command t fonts packets (InPacket k f) at) (first_font f) (commands_of text))
   one_packet packets deep at k f c text is =
-      subst (λ (commands : List DviCommand). Leaves 0 0 (of_list (of_command fonts packets (InPacket k f) at) (first_font f) commands)) (sym (commands_are c 0 is.0 text is.1))
+      subst (λ (commands : List DviCommand). Leaves 0 0 (of_list (of_command t fonts packets (InPacket k f) at) (first_font f) commands)) (sym (commands_are c 0 is.0 text is.1))
       (list_leaves packets deep c 0 at (InPacket k f) is.0 text (first_font f) is.1 (right_first f))
 
-  all_balanced : (n at : ℕ) → AreBalanced (packets_in fonts n at)
+  all_balanced : (n at : ℕ) → AreBalanced (packets_in t fonts n at)
   unfolding packets_in
   all_balanced zero at = tt
-  all_balanced (suc n) at = λ k f c text right is. one_packet (packets_in fonts n at) (all_balanced n at) at k f c text is
+  all_balanced (suc n) at = λ k f c text right is. one_packet (packets_in t fonts n at) (all_balanced n at) at k f c text is
 
 -- ---- the laws
 
@@ -224,7 +240,7 @@ pub packets_are_balanced : PacketsAreBalanced
 packets_are_balanced fonts members h =
     let found = λ (k : FontKey). programs_of h.known h.units k (fonts k) (h.found k) in
     let program : IsProgram h.code h.packet = subst (λ (o : Option (List ℕ)). IfSome o (IsProgram h.code)) h.here (programs_of h.known h.units h.key (decoded.Font h.font) h.is_font h.code) in
-    let leaves = one_packet fonts found (packets_in fonts h.inside h.at) (all_balanced fonts found h.inside h.at) h.at h.key h.font h.code h.packet program in
+    let leaves = one_packet h.tolerant fonts found (packets_in h.tolerant fonts h.inside h.at) (all_balanced h.tolerant fonts found h.inside h.at) h.at h.key h.font h.code h.packet program in
     let gone : Leaves 0 0 (Goes members h.last) = subst (Leaves 0 0) h.gives leaves in
     is_balanced (flats_of members) gone.0
 

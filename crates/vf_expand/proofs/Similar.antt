@@ -14,9 +14,12 @@ use Rattle.font_decode.specs.Fonts.{FontValue, scaled_width_of, glyph_at, is_vir
 use Rattle.font_decode.specs.Decoding.{AreAlike, AreAlikeFonts}
 use Rattle.font_decode.specs.declared.font_or_fault.Decoded.{Decoded}
 use Rattle.font_decode.specs.declared.font_or_fault.Decoded.TheVariants as decoded
-use Rattle.vf_expand.specs.Faults.{PageFaultValue}
+use Rattle.font_decode.specs.declared.faults.FileKind.TheVariants.{Pk}
+use Rattle.font_decode.specs.declared.faults.FontFault.{FontFault}
+use Rattle.font_decode.specs.declared.faults.FontFault.TheVariants.{Missing}
+use Rattle.vf_expand.specs.Faults.{PageFaultValue, is_missing}
 use Rattle.vf_expand.specs.Faults as fault
-use Rattle.vf_expand.specs.Course.{Course, Gives, Asks, Ends, Stops, Place, Current, Deeper, dimension, space, changed_to, no_local, font_change, local_key, current_of, first_font, leave, packet, number_of, virtual, with_glyph, by_kind, with_width, char_of_decoded, no_font, character, expand_one, expand_list, deeper, page_from, cut, course_of, advance_of}
+use Rattle.vf_expand.specs.Course.{Course, Gives, Asks, Lacks, Ends, Stops, bare_advance, by_fault, lack_or_stop, lacking, Place, Current, Deeper, dimension, space, changed_to, no_local, font_change, local_key, current_of, first_font, leave, packet, number_of, virtual, with_glyph, by_kind, with_width, char_of_decoded, no_font, character, expand_one, expand_list, deeper, page_from, cut, course_of, advance_of}
 use Rattle.vf_expand.specs.Limits.{MAX_FLAT_COMMANDS}
 use Rattle.vf_expand.specs.Limits.{MAX_DEPTH}
 use Rattle.vf_expand.specs.Course as course
@@ -25,6 +28,7 @@ use Rattle.vf_expand.specs.Course as course
 abbrev pub Similar : Course → Course → Type 0
 Similar (Gives f g at x) (Gives f2 g2 at2 y) = (f ≡ f2) × (g ≡ g2) × (at ≡ at2) × Similar x y
 Similar (Asks k at x) (Asks k2 at2 y) = (k ≡ k2) × (at ≡ at2) × ((d e : Decoded) → AreAlike d e → Similar (x d) (y e))
+Similar (Lacks f at x) (Lacks f2 at2 y) = (f ≡ f2) × (at ≡ at2) × Similar x y
 Similar (Ends at) (Ends at2) = at ≡ at2
 Similar (Stops f at) (Stops f2 at2) = (f ≡ f2) × (at ≡ at2)
 Similar _ _ = ⊥
@@ -67,6 +71,11 @@ AreDeeper None None = Unit {0}
 AreDeeper (Some i) (Some j) = (k : FontKey) (f g : FontValue) (commands : List DviCommand) (x y : Course) → AreAlikeFonts f g → Similar x y → Similar (i k f commands x) (j k g commands y)
 AreDeeper _ _ = ⊥
 
+-- ---- lacks
+
+similar_lacking : (at : ℕ) (f : PageFaultValue) (advance : Option ℤ) (x y : Course) → Similar x y → Similar (lacking at f advance x) (lacking at f advance y)
+similar_lacking at f advance x y h = (refl, refl, (refl, refl, refl, h))
+
 -- ---- virtual characters
 
 similar_leave : (advance : Option ℤ) (at : ℕ) (x y : Course) → Similar x y → Similar (leave advance at x) (leave advance at y)
@@ -76,7 +85,7 @@ similar_leave (Some width) at x y h = (refl, refl, refl, (refl, refl, refl, h))
 module _ (at : ℕ) (k : FontKey) (f g : FontValue) (alike : AreAlikeFonts f g) where
   similar_packet : (i j : FontKey → FontValue → List DviCommand → Course → Course) → AreDeeper (Some i) (Some j) → (c : ℤ) (advance : Option ℤ) (text : Option (List ℕ)) (x y : Course) → Similar x y
       → Similar (packet i at k f c advance text x) (packet j at k g c advance text y)
-  similar_packet i j deep c advance None x y h = (refl, refl)
+  similar_packet i j deep c advance None x y h = similar_lacking at (fault.NoPacket k c) advance x y h
   similar_packet i j deep c advance (Some text) x y h =
       (refl, refl, refl, deep k f g (commands_of text) (leave advance at x) (leave advance at y) alike (similar_leave advance at x y h))
 
@@ -91,7 +100,7 @@ module _ (at : ℕ) (k : FontKey) (f g : FontValue) (alike : AreAlikeFonts f g) 
   -- ---- characters
 
   similar_glyph : (c width : ℤ) (put : Bool) (glyph : Option Glyph) (x y : Course) → Similar x y → Similar (with_glyph at k c width put glyph x) (with_glyph at k c width put glyph y)
-  similar_glyph c width put None x y h = (refl, refl)
+  similar_glyph c width put None x y h = similar_lacking at (fault.NoGlyph k c) (advance_of width put) x y h
   similar_glyph c width put (Some glyph) x y h = (refl, refl, refl, h)
 
   module _ (i j : Deeper) (deep : AreDeeper i j) (c : ℤ) (put : Bool) (x y : Course) (h : Similar x y) where
@@ -102,7 +111,7 @@ module _ (at : ℕ) (k : FontKey) (f g : FontValue) (alike : AreAlikeFonts f g) 
     similar_kind width true = similar_virtual i j deep c (advance_of width put) x y h
 
     similar_width : (width : Option ℤ) → Similar (with_width i at k f c put width x) (with_width j at k g c put width y)
-    similar_width None = (refl, refl)
+    similar_width None = similar_lacking at (fault.NoCharacter k c) None x y h
     similar_width (Some width) =
         subst (λ (b : Bool). Similar (by_kind i at k f c width put (is_virtual_of f) x) (by_kind j at k g c width put b y)) alike.virtual
         (similar_kind width (is_virtual_of f))
@@ -112,12 +121,28 @@ module _ (at : ℕ) (k : FontKey) (f g : FontValue) (alike : AreAlikeFonts f g) 
         subst (λ (width : Option ℤ). Similar (with_width i at k f c put (scaled_width_of f c) x) (with_width j at k g c put width y)) (alike.widths c)
         (similar_width (scaled_width_of f c))
 
+similar_fault : (at : ℕ) (k : FontKey) (f : FontFault) (b : Bool) (x y : Course) → Similar x y → Similar (by_fault at k f b x) (by_fault at k f b y)
+similar_fault at k f true x y h = similar_lacking at (fault.Font k f) None x y h
+similar_fault at k f false x y h = (refl, refl)
+
+similar_bare : (at : ℕ) (k : FontKey) (f g : FontValue) → AreAlikeFonts f g → (c : ℤ) (put : Bool) (x y : Course) → Similar x y
+    → Similar (lacking at (fault.Font k (Missing Pk)) (bare_advance (scaled_width_of f c) put) x) (lacking at (fault.Font k (Missing Pk)) (bare_advance (scaled_width_of g c) put) y)
+similar_bare at k f g alike c put x y h =
+    subst (λ (width : Option ℤ). Similar (lacking at (fault.Font k (Missing Pk)) (bare_advance (scaled_width_of f c) put) x) (lacking at (fault.Font k (Missing Pk)) (bare_advance width put) y)) (alike.widths c)
+    (similar_lacking at (fault.Font k (Missing Pk)) (bare_advance (scaled_width_of f c) put) x y h)
+
 similar_found : (i j : Deeper) → AreDeeper i j → (at : ℕ) (k : FontKey) (d e : Decoded) → AreAlike d e → (c : ℤ) (put : Bool) (x y : Course) → Similar x y
     → Similar (char_of_decoded i at k d c put x) (char_of_decoded j at k e c put y)
 similar_found i j deep at k (decoded.Font f) (decoded.Font g) alike c put x y h = similar_font at k f g alike i j deep c put x y h
+similar_found i j deep at k (decoded.Font f) (decoded.Bare g) alike c put x y h = absurd alike
 similar_found i j deep at k (decoded.Font f) (decoded.Fault g) alike c put x y h = absurd alike
+similar_found i j deep at k (decoded.Bare f) (decoded.Font g) alike c put x y h = absurd alike
+similar_found i j deep at k (decoded.Bare f) (decoded.Bare g) alike c put x y h = similar_bare at k f g alike c put x y h
+similar_found i j deep at k (decoded.Bare f) (decoded.Fault g) alike c put x y h = absurd alike
 similar_found i j deep at k (decoded.Fault f) (decoded.Font g) alike c put x y h = absurd alike
-similar_found i j deep at k (decoded.Fault f) (decoded.Fault g) alike c put x y h = (ap (fault.Font k) alike, refl)
+similar_found i j deep at k (decoded.Fault f) (decoded.Bare g) alike c put x y h = absurd alike
+similar_found i j deep at k (decoded.Fault f) (decoded.Fault g) alike c put x y h =
+    subst (λ (e : FontFault). Similar (by_fault at k f (is_missing f) x) (by_fault at k e (is_missing e) y)) alike (similar_fault at k f (is_missing f) x y h)
 
 same_no_font : (p : Places) → no_font (here p) ≡ no_font (there p)
 same_no_font (OnPage reading) = refl
@@ -221,17 +246,23 @@ similar_page reading eop (p ∷ commands) b =
     similar_one (deeper MAX_DEPTH p.at) (deeper MAX_DEPTH p.at) (similar_deeper MAX_DEPTH p.at) (OnPage reading) p.at
     (λ now. page_from reading eop now commands) (λ now. page_from reading eop now commands) (similar_page reading eop commands) b p.command
 
-similar_cut : (n : ℕ) (x y : Course) → Similar x y → Similar (cut n x) (cut n y)
-similar_cut n (Ends at) (Ends at2) h = h
-similar_cut zero (Gives f g at x) (Gives f2 g2 at2 y) h = (refl, h.2)
-similar_cut zero (Asks k at x) (Asks k2 at2 y) h = (refl, h.1)
-similar_cut zero (Stops f at) (Stops f2 at2) h = (refl, h.1)
-similar_cut (suc n) (Gives f g at x) (Gives f2 g2 at2 y) h = (h.0, h.1, h.2, similar_cut n x y h.3)
-similar_cut (suc n) (Asks k at x) (Asks k2 at2 y) h = (h.0, h.1, λ d e alike. similar_cut (suc n) (x d) (y e) (h.2 d e alike))
-similar_cut (suc n) (Stops f at) (Stops f2 at2) h = h
-similar_cut n _ _ h = absurd h
+similar_lack : (t : Bool) (f f2 : PageFaultValue) (at at2 : ℕ) (x y : Course) → f ≡ f2 → at ≡ at2 → Similar x y → Similar (lack_or_stop t f at x) (lack_or_stop t f2 at2 y)
+similar_lack true f f2 at at2 x y same place h = (same, place, h)
+similar_lack false f f2 at at2 x y same place h = (same, place)
 
-pub course_similar : (reading : Reading) (i : ℕ) → Similar (course_of reading i) (course_of reading i)
-course_similar reading i =
+similar_cut : (t : Bool) (n : ℕ) (x y : Course) → Similar x y → Similar (cut t n x) (cut t n y)
+similar_cut t n (Ends at) (Ends at2) h = h
+similar_cut t zero (Gives f g at x) (Gives f2 g2 at2 y) h = (refl, h.2)
+similar_cut t zero (Asks k at x) (Asks k2 at2 y) h = (refl, h.1)
+similar_cut t zero (Lacks f at x) (Lacks f2 at2 y) h = (refl, h.1)
+similar_cut t zero (Stops f at) (Stops f2 at2) h = (refl, h.1)
+similar_cut t (suc n) (Gives f g at x) (Gives f2 g2 at2 y) h = (h.0, h.1, h.2, similar_cut t n x y h.3)
+similar_cut t (suc n) (Asks k at x) (Asks k2 at2 y) h = (h.0, h.1, λ d e alike. similar_cut t (suc n) (x d) (y e) (h.2 d e alike))
+similar_cut t (suc n) (Lacks f at x) (Lacks f2 at2 y) h = similar_lack t f f2 at at2 (cut t (suc n) x) (cut t (suc n) y) h.0 h.1 (similar_cut t (suc n) x y h.2)
+similar_cut t (suc n) (Stops f at) (Stops f2 at2) h = h
+similar_cut t n _ _ h = absurd h
+
+pub course_similar : (t : Bool) (reading : Reading) (i : ℕ) → Similar (course_of t reading i) (course_of t reading i)
+course_similar t reading i =
     let page = page_from reading (unwrap_or (eop_at i reading) 0) course.NoFont (page_commands i reading) in
-    similar_cut MAX_FLAT_COMMANDS page page (similar_page reading (unwrap_or (eop_at i reading) 0) (page_commands i reading) NoFont)
+    similar_cut t MAX_FLAT_COMMANDS page page (similar_page reading (unwrap_or (eop_at i reading) 0) (page_commands i reading) NoFont)

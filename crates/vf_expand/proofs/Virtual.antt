@@ -7,7 +7,7 @@ use Rattle.dvi_commands.specs.Reading.{commands_of}
 use Rattle.drift_rules.specs.Position as flat
 use Rattle.font_decode.specs.Fonts.{FontValue, packet_of}
 use Rattle.vf_expand.specs.Faults.{Depth, NoPacket}
-use Rattle.vf_expand.specs.Course.{Course, Stops, InPacket, deeper, expand_list, expand_one, first_font, leave, number_of, packet, gives, virtual}
+use Rattle.vf_expand.specs.Course.{Course, Stops, lacking, InPacket, deeper, expand_list, expand_one, first_font, leave, number_of, packet, gives, virtual}
 
 module _ (at : ℕ) (k : FontKey) (f : FontValue) (c : ℤ) (advance : Option ℤ) (after : Course) where
   none_deeper : virtual (deeper zero at) at k f c advance after ≡ Stops (Depth k c) at
@@ -24,7 +24,7 @@ module _ (at : ℕ) (k : FontKey) (f : FontValue) (c : ℤ) (advance : Option �
   unfolding deeper
   one_deeper n = refl
 
-  pub no_packet : (n : ℕ) → 0 < n → packet_of f (number_of c) ≡ None → virtual (deeper n at) at k f c advance after ≡ Stops (NoPacket k c) at
+  pub no_packet : (n : ℕ) → 0 < n → packet_of f (number_of c) ≡ None → virtual (deeper n at) at k f c advance after ≡ lacking at (NoPacket k c) advance after
   no_packet zero some none = absurd (omega arith)
   no_packet (suc n) some none = one_deeper n ∙ ap (λ (o : Option (List ℕ)). packet (inner n) at k f c advance o after) none
 

@@ -17,17 +17,22 @@ use Rattle.pk_runs.specs.declared.glyph.Glyph.{Glyph}
 use Rattle.font_decode.specs.Fonts.{FontValue, scaled_width_of, glyph_at, is_virtual_of, packet_of, local_of, first_local_of}
 use Rattle.font_decode.specs.declared.font_or_fault.Decoded.{Decoded}
 use Rattle.font_decode.specs.declared.font_or_fault.Decoded.TheVariants as decoded
-use Rattle.vf_expand.specs.Faults.{PageFaultValue}
+use Rattle.font_decode.specs.declared.faults.FileKind.TheVariants.{Pk}
+use Rattle.font_decode.specs.declared.faults.FontFault.{FontFault}
+use Rattle.font_decode.specs.declared.faults.FontFault.TheVariants.{Missing}
+use Rattle.vf_expand.specs.Faults.{PageFaultValue, is_missing}
 use Rattle.vf_expand.specs.Faults as fault
 use Rattle.vf_expand.specs.Limits.{MAX_DEPTH}
 use Rattle.vf_expand.specs.Limits.{MAX_FLAT_COMMANDS}
 
 -- what comes: a flat command, that of a character with its glyph; a look-up of a key, with what
--- each font makes of the rest; or the end. Each has the position of the page's own command that it
--- comes from; a page's end has that of its Eop
+-- each font makes of the rest; a lack, which is a fault that a tolerant run goes past, with what
+-- comes where it does; or the end. Each has the position of the page's own command that it comes
+-- from; a page's end has that of its Eop
 pub data Course : Type 0 where
   Gives : FlatCommand → Option Glyph → ℕ → Course → Course
   Asks : FontKey → ℕ → (Decoded → Course) → Course
+  Lacks : PageFaultValue → ℕ → Course → Course
   Ends : ℕ → Course
   Stops : PageFaultValue → ℕ → Course
 
@@ -87,6 +92,16 @@ current_of (Some k) = Chosen k
 abbrev pub first_font : FontValue → Current
 first_font f = current_of (local_key f (first_local_of f))
 
+-- ---- lacks
+
+-- in place of a character that is lacking comes a motion as far as the character's, or nothing
+abbrev pub in_place : Option ℤ → FlatCommand
+in_place None = flat.Skip
+in_place (Some width) = flat.Advance width
+
+abbrev pub lacking : ℕ → PageFaultValue → Option ℤ → Course → Course
+lacking at f advance after = Lacks f at (gives (in_place advance) at after)
+
 -- ---- virtual characters
 
 -- what the commands of a packet of a font become, before what comes after them; None where no
@@ -94,7 +109,7 @@ first_font f = current_of (local_key f (first_local_of f))
 abbrev pub Deeper : Type 0
 Deeper = Option (FontKey → FontValue → List DviCommand → Course → Course)
 
--- how far a character moves after its packet: not at all where it is put
+-- how far a character moves after its packet, or in its place: not at all where it is put
 abbrev pub advance_of : ℤ → Bool → Option ℤ
 advance_of width true = None
 advance_of width false = Some width
@@ -106,7 +121,7 @@ leave (Some width) at after = gives flat.Leave at (gives (flat.Advance width) at
 
 abbrev pub packet : (FontKey → FontValue → List DviCommand → Course → Course) → ℕ → FontKey
     → FontValue → ℤ → Option ℤ → Option (List ℕ) → Course → Course
-packet inner at k f c advance None after = Stops (fault.NoPacket k c) at
+packet inner at k f c advance None after = lacking at (fault.NoPacket k c) advance after
 packet inner at k f c advance (Some text) after =
     gives flat.Enter at (inner k f (commands_of text) (leave advance at after))
 
@@ -124,7 +139,8 @@ virtual (Some inner) at k f c advance after =
 -- ---- characters
 
 abbrev pub with_glyph : ℕ → FontKey → ℤ → ℤ → Bool → Option Glyph → Course → Course
-with_glyph at k c width put None after = Stops (fault.NoGlyph k c) at
+with_glyph at k c width put None after =
+    lacking at (fault.NoGlyph k c) (advance_of width put) after
 with_glyph at k c width put (Some g) after =
     Gives (flat.Char k (number_of c) width put) (Some g) at after
 
@@ -135,13 +151,25 @@ by_kind deeper at k f c width put false after =
 by_kind deeper at k f c width put true after = virtual deeper at k f c (advance_of width put) after
 
 abbrev pub with_width : Deeper → ℕ → FontKey → FontValue → ℤ → Bool → Option ℤ → Course → Course
-with_width deeper at k f c put None after = Stops (fault.NoCharacter k c) at
+with_width deeper at k f c put None after = lacking at (fault.NoCharacter k c) None after
 with_width deeper at k f c put (Some width) after =
     by_kind deeper at k f c width put (is_virtual_of f) after
 
--- a character of the font that was found
+-- a font with a fault
+abbrev pub by_fault : ℕ → FontKey → FontFault → Bool → Course → Course
+by_fault at k f true after = lacking at (fault.Font k f) None after
+by_fault at k f false after = Stops (fault.Font k f) at
+
+-- how far a character of a bare font moves: not at all where it is put or has no width
+abbrev pub bare_advance : Option ℤ → Bool → Option ℤ
+bare_advance None put = None
+bare_advance (Some width) put = advance_of width put
+
+-- a character of the font that was found; a bare font's glyphs are missing, whatever the code
 abbrev pub char_of_decoded : Deeper → ℕ → FontKey → Decoded → ℤ → Bool → Course → Course
-char_of_decoded deeper at k (decoded.Fault f) c put after = Stops (fault.Font k f) at
+char_of_decoded deeper at k (decoded.Fault f) c put after = by_fault at k f (is_missing f) after
+char_of_decoded deeper at k (decoded.Bare f) c put after =
+    lacking at (fault.Font k (Missing Pk)) (bare_advance (scaled_width_of f c) put) after
 char_of_decoded deeper at k (decoded.Font f) c put after =
     with_width deeper at k f c put (scaled_width_of f c) after
 
@@ -212,20 +240,27 @@ page_from reading eop current (p ∷ commands) =
     expand_one (deeper MAX_DEPTH p.at) (OnPage reading) p.at current p.command (λ next.
     page_from reading eop next commands)
 
--- ---- at most n flat commands: where no more may be given, only the end may stand
+-- ---- at most n flat commands: where no more may be given, only the end may stand. Where lacks are
+-- not tolerated, the first one ends the page
 
-abbrev pub cut : ℕ → Course → Course
-cut n (Ends at) = Ends at
-cut zero (Gives f g at rest) = Stops fault.TooLong at
-cut zero (Asks k at rest) = Stops fault.TooLong at
-cut zero (Stops f at) = Stops fault.TooLong at
-cut (suc n) (Gives f g at rest) = Gives f g at (cut n rest)
-cut (suc n) (Asks k at rest) = Asks k at (λ d. cut (suc n) (rest d))
-cut (suc n) (Stops f at) = Stops f at
+abbrev pub lack_or_stop : Bool → PageFaultValue → ℕ → Course → Course
+lack_or_stop true f at rest = Lacks f at rest
+lack_or_stop false f at rest = Stops f at
 
--- ---- the page of a document with a number, from 0
+abbrev pub cut : Bool → ℕ → Course → Course
+cut tolerant n (Ends at) = Ends at
+cut tolerant zero (Gives f g at rest) = Stops fault.TooLong at
+cut tolerant zero (Asks k at rest) = Stops fault.TooLong at
+cut tolerant zero (Lacks f at rest) = Stops fault.TooLong at
+cut tolerant zero (Stops f at) = Stops fault.TooLong at
+cut tolerant (suc n) (Gives f g at rest) = Gives f g at (cut tolerant n rest)
+cut tolerant (suc n) (Asks k at rest) = Asks k at (λ d. cut tolerant (suc n) (rest d))
+cut tolerant (suc n) (Lacks f at rest) = lack_or_stop tolerant f at (cut tolerant (suc n) rest)
+cut tolerant (suc n) (Stops f at) = Stops f at
 
-abbrev pub course_of : Reading → ℕ → Course
-course_of reading i =
-    cut MAX_FLAT_COMMANDS
+-- ---- the page of a document with a number, from 0, where lacks are tolerated or aren't
+
+abbrev pub course_of : Bool → Reading → ℕ → Course
+course_of tolerant reading i =
+    cut tolerant MAX_FLAT_COMMANDS
     (page_from reading (unwrap_or (eop_at i reading) 0) NoFont (page_commands i reading))

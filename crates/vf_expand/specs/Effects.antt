@@ -1,5 +1,5 @@
 -- What one command gives, by the definition.
-use Rattle.std.specs.Prelude.{◌≡◌, ◌<◌, ℕ, ◌-◌, ℤ, unsigned_abs, Bool, List, Option, Some, IfSome}
+use Rattle.std.specs.Prelude.{◌≡◌, ◌<◌, ℕ, ◌-◌, ℤ, unsigned_abs, Bool, List, Option, Some, IfSome, IsTrue}
 use Rattle.std.specs.Arc.{arc_value}
 use Rattle.outside.specs.declared.keys.FontKey.{FontKey}
 use Rattle.dvi_commands.specs.Spelling.{DviCommand, SetRule, PutRule, Right, W, X, Down, Y, Z}
@@ -13,8 +13,8 @@ use Rattle.font_decode.specs.Fonts.{FontValue, packet_of, IsProgram}
 use Rattle.font_decode.specs.declared.font_or_fault.Decoded.{Decoded}
 use Rattle.font_decode.specs.declared.font_or_fault.Decoded.TheVariants as decoded
 use Rattle.fix_word.specs.FixWords.{IsFixWord}
-use Rattle.vf_expand.specs.Faults.{value_of_fault}
-use Rattle.vf_expand.specs.Course.{Course, Gives, Asks, Stops, gives, OnPage, InPacket, deeper, expand_one, expand_list, character, first_font, font_change, leave, virtual}
+use Rattle.vf_expand.specs.Faults.{is_lack, value_of_fault}
+use Rattle.vf_expand.specs.Course.{Course, Gives, Asks, Stops, gives, lacking, OnPage, InPacket, deeper, expand_one, expand_list, character, first_font, font_change, leave, virtual}
 use Rattle.vf_expand.specs.Course as course
 use Rattle.vf_expand.specs.Expansion.{GivesNoPackedChar, glyph_in}
 use Rattle.vf_expand.specs.declared.current.Current.{Current}
@@ -23,7 +23,7 @@ use Rattle.vf_expand.specs.declared.outer_levels.Level.{Level}
 use Rattle.vf_expand.specs.declared.effect.Place.{Place}
 use Rattle.vf_expand.specs.declared.effect.Place.TheVariants.{Page, Packet}
 use Rattle.vf_expand.specs.declared.effect.Effect.{Effect}
-use Rattle.vf_expand.specs.declared.effect.Effect.TheVariants.{Flat, Char as CharEffect, Change, Ask, Enter, Stop}
+use Rattle.vf_expand.specs.declared.effect.Effect.TheVariants.{Flat, Char as CharEffect, Change, Ask, Enter, Lack, Stop}
 
 abbrev pub value_of_current : Current → course.Current
 value_of_current code.NoFont = course.NoFont
@@ -111,6 +111,9 @@ IsMeaning n meaning current (Ask key) = (current ≡ course.Chosen (arc_value ke
     → meaning current at others ≡ Asks (arc_value key) at
     (λ d. meaning (course.Known (arc_value key) d) at others))
 IsMeaning n meaning current (Enter level) = IsEntry n meaning current level
+IsMeaning n meaning current (Lack fault advance) =
+    (at : ℕ) (others : course.Current → Course) → meaning current at others
+    ≡ lacking at (value_of_fault fault) advance (others current)
 IsMeaning n meaning current (Stop fault) =
     (at : ℕ) (others : course.Current → Course) → meaning current at others
     ≡ Stops (value_of_fault fault) at
@@ -153,11 +156,13 @@ abbrev pub ChangeHasEffect : course.Place → ℕ → course.Current → ℤ →
 ChangeHasEffect place n current number effect =
     IsMeaning n (λ now at others. font_change place at number others) current effect
 
--- a flat command may be handed to a pen, and a key to a decoder
+-- a flat command may be handed to a pen, a key to a decoder, and a lack tolerated
 abbrev pub EffectFits : Effect → Type 0
 EffectFits (Flat f) = IsInReach (value_of_flat f) × IsNoCharacter (value_of_flat f)
 EffectFits (CharEffect f) = IsInReach (value_of_flat f)
 EffectFits (Change key) = IsFontKey (arc_value key)
 EffectFits (Ask key) = IsFontKey (arc_value key)
 EffectFits (Enter level) = HasKey (value_of_current level.current) × IfSome level.advance IsNumber
+EffectFits (Lack fault advance) =
+    IfSome advance IsNumber × IsTrue (is_lack (value_of_fault fault))
 EffectFits (Stop fault) = Unit {0}

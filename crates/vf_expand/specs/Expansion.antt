@@ -3,14 +3,16 @@
 use Rattle.std.specs.Prelude.{◌≡◌, ℕ, suc, ◌+◌, ◌-◌, ℤ, Bool, List, [], ◌∷◌, length, Option, Some, None, if◌then◌else◌}
 use Rattle.dvi_commands.specs.Spelling.{DviCommand}
 use Rattle.dvi_commands.specs.Reading.{Placed}
-use Rattle.drift_rules.specs.Position.{FlatCommand, Char, Advance}
+use Rattle.drift_rules.specs.Position.{FlatCommand, Char, Advance, Skip}
 use Rattle.page_index.specs.Document.{Reading}
 use Rattle.pk_runs.specs.declared.glyph.Glyph.{Glyph}
 use Rattle.font_decode.specs.Fonts.{glyph_at}
 use Rattle.font_decode.specs.declared.font_or_fault.Decoded.{Decoded}
 use Rattle.font_decode.specs.declared.font_or_fault.Decoded.TheVariants as decoded
-use Rattle.vf_expand.specs.Course.{Course, Gives, Asks, Ends, Stops, gives, Place, OnPage, InPacket, Current, NoFont, Chosen, Known, deeper, expand_one, expand_list, leave, page_from, cut}
+use Rattle.vf_expand.specs.Course.{Course, Gives, Asks, Lacks, Ends, Stops, gives, Place, OnPage, InPacket, Current, NoFont, Chosen, Known, deeper, expand_one, expand_list, leave, page_from, cut}
 use Rattle.vf_expand.specs.Limits.{MAX_DEPTH}
+use Rattle.vf_expand.specs.declared.pending.Pending.{Pending}
+use Rattle.vf_expand.specs.declared.pending.Pending.TheVariants as pending
 
 -- a packet that is read: the font that is current outside it, which is its own, how far its
 -- character moves after it, and the commands that are left
@@ -63,37 +65,57 @@ abbrev pub stack_left : Reading → ℕ → ℕ → Current → Stack → Course
 stack_left reading eop at current stack =
     packets_left reading eop at stack.page current stack.packets
 
--- a motion that is still to come after a packet's end
-abbrev pub after_pending_advance : Option ℤ → ℕ → Course → Course
-after_pending_advance None at rest = rest
-after_pending_advance (Some width) at rest = gives (Advance width) at rest
+-- a flat command that is still to come after a packet's end or a lack
+abbrev pub flat_of_pending : Pending → FlatCommand
+flat_of_pending pending.Skip = Skip
+flat_of_pending (pending.Advance width) = Advance width
+
+abbrev pub after_pending : Option Pending → ℕ → Course → Course
+after_pending None at rest = rest
+after_pending (Some p) at rest = gives (flat_of_pending p) at rest
+
+-- after a packet's end
+abbrev pub pending_advance : Option ℤ → Option Pending
+pending_advance None = None
+pending_advance (Some width) = Some (pending.Advance width)
 
 -- `at` is the position of the last step, and `budget` how many flat commands may still be given.
 -- The last step gave a character where it is marked
 pub record Expansion : Type 0 where
+  pub tolerant : Bool
   pub reading : Reading
   pub eop : ℕ
   pub at : ℕ
   pub budget : ℕ
   pub marked : Bool
-  pub pending_advance : Option ℤ
+  pub pending : Option Pending
   pub current : Current
   pub stack : Stack
 
 -- what is still to come
-unfoldable pub course_left : Reading → ℕ → ℕ → ℕ → Option ℤ → Current → Stack → Course
-course_left reading eop at budget pending_advance current stack =
-    cut budget (after_pending_advance pending_advance at (stack_left reading eop at current stack))
+unfoldable pub course_left : Bool → Reading → ℕ → ℕ → ℕ → Option Pending → Current → Stack
+    → Course
+course_left tolerant reading eop at budget pending current stack =
+    cut tolerant budget (after_pending pending at (stack_left reading eop at current stack))
 
 abbrev pub rest_of : Expansion → Course
-rest_of v = course_left v.reading v.eop v.at v.budget v.pending_advance v.current v.stack
+rest_of v = course_left v.tolerant v.reading v.eop v.at v.budget v.pending v.current v.stack
 
 -- a look-up stands next
 abbrev pub IsAtLook : Course → Type 0
 IsAtLook (Gives f g at rest) = ⊥
 IsAtLook (Asks k at rest) = Unit {0}
+IsAtLook (Lacks fault at rest) = ⊥
 IsAtLook (Ends at) = ⊥
 IsAtLook (Stops fault at) = ⊥
+
+-- no lack comes, whatever fonts are found
+abbrev pub HasNoLack : Course → Type 0
+HasNoLack (Gives f g at rest) = HasNoLack rest
+HasNoLack (Asks k at rest) = (d : Decoded) → HasNoLack (rest d)
+HasNoLack (Lacks fault at rest) = ⊥
+HasNoLack (Ends at) = Unit {0}
+HasNoLack (Stops fault at) = Unit {0}
 
 -- the flat command sets and puts no character
 abbrev pub SetsNoCharacter : FlatCommand → Type 0
@@ -104,6 +126,7 @@ SetsNoCharacter f = Unit {0}
 abbrev pub GivesNoPackedChar : Course → Type 0
 GivesNoPackedChar (Gives f g at rest) = SetsNoCharacter f
 GivesNoPackedChar (Asks k at rest) = Unit {0}
+GivesNoPackedChar (Lacks fault at rest) = Unit {0}
 GivesNoPackedChar (Ends at) = Unit {0}
 GivesNoPackedChar (Stops fault at) = Unit {0}
 
@@ -116,6 +139,7 @@ after_answer other d = other
 abbrev pub place_of : Course → ℕ
 place_of (Gives f g at rest) = at
 place_of (Asks k at rest) = at
+place_of (Lacks fault at rest) = at
 place_of (Ends at) = at
 place_of (Stops fault at) = at
 
@@ -132,6 +156,7 @@ marked_font v = if v.marked then font_of v.current else None
 abbrev pub glyph_in : Option Decoded → ℕ → Option Glyph
 glyph_in None c = None
 glyph_in (Some (decoded.Fault f)) c = None
+glyph_in (Some (decoded.Bare f)) c = None
 glyph_in (Some (decoded.Font f)) c = glyph_at f c
 
 -- how many look-ups may still come: after one, a flat command changes the font before the next
@@ -143,6 +168,14 @@ asks_from budget (Known k d) = budget - 1
 abbrev pub asks_left : Expansion → ℕ
 asks_left v = asks_from v.budget v.current
 
+-- how many lacks may still come: after one, a flat command is given before the next
+abbrev pub lacks_from : ℕ → Option Pending → ℕ
+lacks_from budget None = budget
+lacks_from budget (Some p) = budget - 1
+
+abbrev pub lacks_left : Expansion → ℕ
+lacks_left v = lacks_from v.budget v.pending
+
 -- more than the steps that may come before the end
 abbrev pub steps_left : Expansion → ℕ
-steps_left v = v.budget + asks_left v
+steps_left v = v.budget + asks_left v + lacks_left v

@@ -1,5 +1,5 @@
--- What is true of a page's course and its list.
-use Rattle.std.specs.Prelude.{◌≡◌, ℕ, zero, suc, ◌/◌, ℤ, pos, negsuc, true, false, List, [], ◌∷◌, ◌++◌, Some, None}
+-- What is true of a page's course and its list, whether lacks are tolerated or aren't.
+use Rattle.std.specs.Prelude.{◌≡◌, ℕ, zero, suc, ◌/◌, ℤ, pos, negsuc, Bool, true, false, List, [], ◌∷◌, ◌++◌, Some, None}
 use Rattle.outside.specs.Library as library
 use Rattle.outside.specs.declared.keys.FontKey.{FontKey}
 use Rattle.pixel_round.specs.declared.units.Units.{Units}
@@ -20,8 +20,8 @@ use Rattle.vf_expand.specs.PageLists.{AtEnd, AtFault, Fonts, list_after, full_li
 -- whatever the fonts are, the course of a page comes to its list
 abbrev pub CoursesAreLists : Type 0
 CoursesAreLists =
-    (fonts : Fonts) (reading : Reading) (i : ℕ) → list_from fonts (course_of reading i)
-    ≡ list_of fonts reading i
+    (tolerant : Bool) (fonts : Fonts) (reading : Reading) (i : ℕ)
+    → list_from fonts (course_of tolerant reading i) ≡ list_of tolerant fonts reading i
 
 -- the fonts of a library
 abbrev pub AreFontsIn : library.FileTable → Units → Fonts → Type 0
@@ -35,28 +35,29 @@ LibrariesHaveFonts =
 -- the course is the rest of it
 abbrev pub MembersAreTheList : Type 0
 MembersAreTheList =
-    (l : library.FileTable) (u : Units) (fonts : Fonts) (reading : Reading) (i : ℕ)
-    (members : List Member) (to : Course) → AreFontsIn l u fonts
-    → Unfolds (IsFontIn l u) (course_of reading i) members to
-    → list_of fonts reading i ≡ list_after members (list_from fonts to)
+    (l : library.FileTable) (u : Units) (tolerant : Bool) (fonts : Fonts) (reading : Reading)
+    (i : ℕ) (members : List Member) (to : Course) → AreFontsIn l u fonts
+    → Unfolds (IsFontIn l u) (course_of tolerant reading i) members to
+    → list_of tolerant fonts reading i ≡ list_after members (list_from fonts to)
 
 -- so the look-ups of a page that was broken off are the first of the page's look-ups
 abbrev pub LooksAreThePages : Type 0
 LooksAreThePages =
-    (l : library.FileTable) (u : Units) (fonts : Fonts) (reading : Reading) (i : ℕ)
-    (members : List Member) (to : Course) → AreFontsIn l u fonts
-    → Unfolds (IsFontIn l u) (course_of reading i) members to
-    → looks_of (list_of fonts reading i).members ≡ looks_of members ++ looks_of
+    (l : library.FileTable) (u : Units) (tolerant : Bool) (fonts : Fonts) (reading : Reading)
+    (i : ℕ) (members : List Member) (to : Course) → AreFontsIn l u fonts
+    → Unfolds (IsFontIn l u) (course_of tolerant reading i) members to
+    → looks_of (list_of tolerant fonts reading i).members ≡ looks_of members ++ looks_of
     (list_from fonts to).members
 
 -- and a page can be followed to the end of its list
 abbrev pub ListsAreFollowed : Type 0
 ListsAreFollowed =
-    (l : library.FileTable) (u : Units) (fonts : Fonts) (reading : Reading) (i : ℕ)
+    (l : library.FileTable) (u : Units) (tolerant : Bool) (fonts : Fonts) (reading : Reading)
+    (i : ℕ)
     → AreFontsIn l u fonts
-    → (to : Course) × Unfolds (IsFontIn l u) (course_of reading i)
-    (list_of fonts reading i).members to
-    × (list_from fonts to ≡ no_more (list_of fonts reading i).ending)
+    → (to : Course) × Unfolds (IsFontIn l u) (course_of tolerant reading i)
+    (list_of tolerant fonts reading i).members to
+    × (list_from fonts to ≡ no_more (list_of tolerant fonts reading i).ending)
 
 -- ---- worked pages
 
@@ -71,8 +72,9 @@ worked =
 
 -- it looks its font up twice, and gives a flat command for each command; where five may be given it
 -- is too long at the second look-up
-pub record IsWorked (fonts : Fonts) (reading : Reading) (k : FontKey) (g : Glyph) : Type 0 where
-  pub whole : full_list fonts reading 68 NoFont worked ≡ record {
+pub record IsWorked (tolerant : Bool) (fonts : Fonts) (reading : Reading) (k : FontKey) (g : Glyph)
+    : Type 0 where
+  pub whole : full_list tolerant fonts reading 68 NoFont worked ≡ record {
     members = Flat flat.Skip None 60 ∷ LookUp k 61 ∷ Flat (flat.Char k 65 (pos 8) false)
         (Some g) 61 ∷ Flat (flat.Char k 65 (pos 8) true) (Some g) 62
         ∷ Flat (flat.Right (pos 9) (pos (k.size / 6))) None 64 ∷ Flat flat.Skip None 66
@@ -80,8 +82,8 @@ pub record IsWorked (fonts : Fonts) (reading : Reading) (k : FontKey) (g : Glyph
         ∷ Flat (flat.Char k 65 (pos 8) false) (Some g) 67 ∷ [];
     ending = AtEnd 68;
   }
-  pub cut : up_to_limit 5 (full_list fonts reading 68 NoFont worked).members
-      (full_list fonts reading 68 NoFont worked).ending ≡ record {
+  pub cut : up_to_limit 5 (full_list tolerant fonts reading 68 NoFont worked).members
+      (full_list tolerant fonts reading 68 NoFont worked).ending ≡ record {
         members = Flat flat.Skip None 60 ∷ LookUp k 61 ∷ Flat (flat.Char k 65 (pos 8) false)
             (Some g) 61 ∷ Flat (flat.Char k 65 (pos 8) true) (Some g) 62
             ∷ Flat (flat.Right (pos 9) (pos (k.size / 6))) None 64 ∷ Flat flat.Skip None 66 ∷ [];
@@ -91,10 +93,10 @@ pub record IsWorked (fonts : Fonts) (reading : Reading) (k : FontKey) (g : Glyph
 -- where font 7 has the key k, whose font has a width of 8 and a glyph for 65
 abbrev pub ThePageIsWorked : Type 0
 ThePageIsWorked =
-    (fonts : Fonts) (reading : Reading) (k : FontKey) (f : FontValue) (g : Glyph)
+    (tolerant : Bool) (fonts : Fonts) (reading : Reading) (k : FontKey) (f : FontValue) (g : Glyph)
     → font_table reading (pos 7) ≡ Some k → fonts k ≡ decoded.Font f
     → scaled_width_of f (pos 65) ≡ Some (pos 8) → glyph_at f 65 ≡ Some g
-    → IsWorked fonts reading k g
+    → IsWorked tolerant fonts reading k g
 
 -- ---- virtual characters
 
@@ -143,12 +145,13 @@ packet_members local g other h at =
 -- set moves by its own width after it
 abbrev pub ThePacketIsWorked : Type 0
 ThePacketIsWorked =
-    (fonts : Fonts) (reading : Reading) (k local other : FontKey) (f l m : FontValue) (g h : Glyph)
+    (tolerant : Bool) (fonts : Fonts) (reading : Reading) (k local other : FontKey)
+    (f l m : FontValue) (g h : Glyph)
     → font_table reading (pos 0) ≡ Some k → f.size ≡ 128
     → fonts k ≡ decoded.Font f → HasPacket f (pos 6) a_packet local
     → local_of f (pos 1) ≡ Some other → HasGlyph fonts local l (pos 3) g
     → HasGlyph fonts other m (pos 5) h
-    → full_list fonts reading 85 NoFont characters ≡ record {
+    → full_list tolerant fonts reading 85 NoFont characters ≡ record {
       members = (Flat flat.Skip None 80 ∷ LookUp k 81 ∷ packet_members local g other h 81)
           ++ (Flat (flat.Advance (pos 6)) None 81 ∷ packet_members local g other h 82)
           ++ (Flat (flat.Right (pos 9) (pos (k.size / 6))) None 83 ∷ []);
@@ -163,10 +166,10 @@ nested_entries k at (suc n) = LookUp k at ∷ Flat flat.Enter None at ∷ nested
 -- a font whose character sets itself: ten packets are nested, and the next one is too deep
 abbrev pub LoopsAreTooDeep : Type 0
 LoopsAreTooDeep =
-    (fonts : Fonts) (reading : Reading) (k : FontKey) (f : FontValue)
+    (tolerant : Bool) (fonts : Fonts) (reading : Reading) (k : FontKey) (f : FontValue)
     → font_table reading (pos 0) ≡ Some k
     → fonts k ≡ decoded.Font f → HasPacket f (pos 8) (65 ∷ []) k
-    → full_list fonts reading 85 NoFont characters ≡ record {
+    → full_list tolerant fonts reading 85 NoFont characters ≡ record {
       members = Flat flat.Skip None 80 ∷ nested_entries k 81 10 ++ (LookUp k 81 ∷ []);
       ending = AtFault (Depth k (pos 65)) 81;
     }

@@ -11,5 +11,6 @@ pub mod PageLists
 pub mod Packets
 pub mod Laws
 pub mod WorkedFaults
+pub mod Lacks
 pub mod Sets
 pub mod Lending

@@ -1,5 +1,5 @@
 -- A step is what the course has next, and leaves what stands after it.
-use Rattle.std.specs.Prelude.{◌≡◌, ◌<◌, ◌≤◌, IsSome, Option, None, Some}
+use Rattle.std.specs.Prelude.{◌≡◌, ◌<◌, ◌≤◌, IsSome, IsTrue, Option, None, Some}
 use Rattle.std.specs.Arc.{arc_value}
 use Rattle.outside.specs.declared.keys.FontKey.{FontKey}
 use Rattle.drift_rules.specs.Position.{FlatCommand, Char, value_of_flat}
@@ -7,12 +7,12 @@ use Rattle.drift_rules.specs.Bounds.{IsInReach}
 use Rattle.outside.specs.FontKeys.{IsFontKey}
 use Rattle.pk_runs.specs.declared.glyph.Glyph.{Glyph}
 use Rattle.font_decode.specs.declared.font_or_fault.Decoded.{Decoded}
-use Rattle.vf_expand.specs.Faults.{value_of_fault}
-use Rattle.vf_expand.specs.Course.{Gives, Asks, Ends, Stops}
+use Rattle.vf_expand.specs.Faults.{PageFaultValue, is_lack, value_of_fault}
+use Rattle.vf_expand.specs.Course.{Gives, Asks, Lacks, Ends, Stops}
 use Rattle.vf_expand.specs.Expansion.{Expansion, IsAtLook, rest_of, after_answer, glyph_in, marked_font, asks_left, steps_left}
 use Rattle.vf_expand.specs.declared.step.PackedChar.{PackedChar}
 use Rattle.vf_expand.specs.declared.step.Step.{Step}
-use Rattle.vf_expand.specs.declared.step.Step.TheVariants.{Flat, Ask, End, Stop}
+use Rattle.vf_expand.specs.declared.step.Step.TheVariants.{Flat, Ask, Lack, End, Stop}
 
 -- the same comes again
 pub record Stays (old new : Expansion) : Type 0 where
@@ -42,9 +42,17 @@ pub record AsksOne (old new : Expansion) (k : FontKey) : Type 0 where
   pub asks : asks_left new ≡ asks_left old
   pub steps : steps_left new ≡ steps_left old
 
+-- a lack, before what comes in the character's place, and fewer steps than before
+pub record LacksOne (old new : Expansion) (fault : PageFaultValue) : Type 0 where
+  pub lacked : rest_of old ≡ Lacks fault new.at (rest_of new)
+  pub unmarked : marked_font new ≡ None
+  pub asks : asks_left new ≡ asks_left old
+  pub fewer : steps_left new < steps_left old
+
 abbrev pub Steps : Expansion → Step → Expansion → Type 0
 Steps old (Flat f) new = (glyph : Option Glyph) × GivesOne old new (value_of_flat f) glyph
 Steps old (Ask key) new = AsksOne old new (arc_value key)
+Steps old (Lack lack) new = LacksOne old new (value_of_fault lack.fault) × (lack.at ≡ new.at)
 Steps old End new = (rest_of old ≡ Ends new.at) × Stays old new
 Steps old (Stop fault) new = (rest_of old ≡ Stops (value_of_fault fault) new.at) × Stays old new
 
@@ -54,9 +62,11 @@ pub record GivesPackedChar (old : Expansion) (packed : PackedChar) (new : Expans
   pub one : GivesOne old new (Char key packed.code packed.width packed.put) (Some packed.glyph.now)
   pub place : packed.at ≡ new.at
 
--- a flat command may be handed to a pen, and a key to a decoder
+-- a flat command may be handed to a pen, and a key to a decoder; a lack is a missing font,
+-- character, glyph or packet
 abbrev pub StepFits : Step → Type 0
 StepFits (Flat f) = IsInReach (value_of_flat f)
 StepFits (Ask key) = IsFontKey (arc_value key)
+StepFits (Lack lack) = IsTrue (is_lack (value_of_fault lack.fault))
 StepFits End = Unit {0}
 StepFits (Stop fault) = Unit {0}

@@ -1,10 +1,10 @@
 //! What a character gives, by the font that is current.
-ghost use Rattle.std.specs.Prelude.{◌≡◌, ◌<◌, ℕ, pos, IfOk, IfSome, IsNone, Some, unsigned_abs};
+ghost use Rattle.std.specs.Prelude.{◌≡◌, ◌<◌, ℕ, ℤ, Bool, pos, IfOk, IfSome, IsNone, Some, unsigned_abs};
 ghost use Rattle.std.specs.Arc.{arc_value};
 ghost use Rattle.drift_rules.specs.Bounds.{IsNumber};
 ghost use Rattle.font_decode.specs.declared.font_or_fault.Decoded.TheVariants as decoded;
-ghost use Rattle.vf_expand.specs.Course.{first_font, no_font};
-ghost use Rattle.vf_expand.specs.Faults.{value_of_fault};
+ghost use Rattle.vf_expand.specs.Course.{advance_of, first_font, no_font};
+ghost use Rattle.vf_expand.specs.Faults.{is_missing, value_of_fault};
 ghost use Rattle.vf_expand.specs.Course as course;
 ghost use Rattle.vf_expand.specs.Expansion.{font_of, glyph_in};
 ghost use Rattle.vf_expand.specs.Effects.{CharacterHasEffect, EffectFits, DecodedHasEffect, HasKey, SetsNoPackedChar, SetsPackedChar, VirtualHasEffect, value_of_current, value_of_place};
@@ -15,7 +15,7 @@ use crate::faults::PageFault;
 use crate::keys::PageKeys;
 use crate::outer_levels::Level;
 use drift_rules::Flat;
-use font_decode::{Decoded, Font};
+use font_decode::{Decoded, FileKind, Font, FontFault};
 use outside::FontKey;
 use pk_runs::Glyph;
 use std::alloc::AllocError as NoMemory;
@@ -55,7 +55,7 @@ fn virtual_character(
         return Ok(Effect::Stop(PageFault::Depth(Arc::try_clone(key)?, code)));
     }
     if font.packet(code as u32).is_none() {
-        return Ok(Effect::Stop(PageFault::NoPacket(Arc::try_clone(key)?, code)));
+        return Ok(Effect::Lack(PageFault::NoPacket(Arc::try_clone(key)?, code), advance));
     }
     Ok(Effect::Enter(Level {
         code: code as u8,
@@ -63,6 +63,53 @@ fn virtual_character(
         advance,
         current: first_current(keys, font)?,
     }))
+}
+
+// How far a character moves after its packet, or in its place: not at all where it is put.
+#[inline(always)]
+fn advance_of(width: i64, put: bool) -> Option<i64>
+    requires { IsNumber width }
+    ensures advance { result ≡ advance_of width put }
+    ensures fits { IfSome result IsNumber }
+{
+    if put { None } else { Some(width) }
+}
+
+// A character of a bare font, whose glyphs are missing.
+#[inline(never)]
+fn char_of_bare(key: &Arc<FontKey>, font: &Font, code: i32, put: bool) -> Result<Effect, NoMemory>
+    ensures has_effect { IfOk result (λ effect. (n : ℕ)
+        → DecodedHasEffect n (arc_value key.now) (decoded.Bare font.now) code put effect) }
+    ensures fits { IfOk result EffectFits }
+{
+    let fault = PageFault::Font(Arc::try_clone(key)?, FontFault::Missing(FileKind::Pk));
+    let advance = match font.width(code) {
+        Some(width) => advance_of(width, put),
+        None => None,
+    };
+    Ok(Effect::Lack(fault, advance))
+}
+
+// Whether a font's fault is that files of it aren't there.
+#[inline(always)]
+fn is_missing(fault: &FontFault) -> bool
+    ensures { result ≡ is_missing fault.now }
+{
+    matches!(fault, FontFault::Missing(FileKind::Tfm | FileKind::Pk))
+}
+
+// A character of a font with a fault.
+#[inline(never)]
+fn char_of_fault(key: &Arc<FontKey>, fault: &FontFault) -> Result<Effect, NoMemory>
+    ensures has_effect { IfOk result (λ effect. (n : ℕ) (code : ℤ) (put : Bool)
+        → DecodedHasEffect n (arc_value key.now) (decoded.Fault fault.now) code put effect) }
+    ensures fits { IfOk result EffectFits }
+{
+    let found = PageFault::Font(Arc::try_clone(key)?, *fault);
+    if is_missing(fault) {
+        return Ok(Effect::Lack(found, None));
+    }
+    Ok(Effect::Stop(found))
 }
 
 // A character of a font that has files.
@@ -80,14 +127,14 @@ fn char_of_font(
     ensures fits { IfOk result EffectFits }
 {
     let Some(width) = font.width(code) else {
-        return Ok(Effect::Stop(PageFault::NoCharacter(Arc::try_clone(key)?, code)));
+        return Ok(Effect::Lack(PageFault::NoCharacter(Arc::try_clone(key)?, code), None));
     };
     if font.is_virtual() {
-        let advance = if put { None } else { Some(width) };
-        return virtual_character(keys, room, key, font, code, advance);
+        return virtual_character(keys, room, key, font, code, advance_of(width, put));
     }
     if font.glyph(code as u32).is_none() {
-        return Ok(Effect::Stop(PageFault::NoGlyph(Arc::try_clone(key)?, code)));
+        let fault = PageFault::NoGlyph(Arc::try_clone(key)?, code);
+        return Ok(Effect::Lack(fault, advance_of(width, put)));
     }
     Ok(Effect::Char(Flat::Char {
         key: Arc::try_clone(key)?,
@@ -112,7 +159,8 @@ fn char_of_decoded(
     ensures fits { IfOk result EffectFits }
 {
     match decoded {
-        Decoded::Fault(fault) => Ok(Effect::Stop(PageFault::Font(Arc::try_clone(key)?, *fault))),
+        Decoded::Fault(fault) => char_of_fault(key, fault),
+        Decoded::Bare(font) => char_of_bare(key, font, code, put),
         Decoded::Font(font) => char_of_font(keys, room, key, font, code, put),
     }
 }
@@ -137,7 +185,8 @@ pub struct CharInFont<'a> {
 }
 
 /// A character that is set or put in a packed font that was found. `None` where no font was found
-/// or it has a fault, in a virtual font, and where the font has no width or no glyph for the code.
+/// or it has a fault or is bare, in a virtual font, and where the font has no width or no glyph for
+/// the code.
 #[inline(always)]
 pub fn packed_char(current: &Current, code: i32) -> Option<CharInFont>
     ensures sets { IfSome result (λ found.

@@ -55,7 +55,7 @@ fn packet_of(outside: &Level, code: u8, at: usize) -> CurrentLevel
             place: Place::Packet(key, font),
             at,
         },
-        Decoded::Fault(_) => unreachable!(),
+        Decoded::Bare(_) | Decoded::Fault(_) => unreachable!(),
     }
 }
 

@@ -30,7 +30,7 @@ pub enum Place<'a> {
 }
 
 /// What a command gives: a flat command, that of a character, a new current font, a look-up, the
-/// beginning of a packet, or a stop.
+/// beginning of a packet, a lack with how far its character moves, or a stop.
 #[derive(Drop)]
 pub enum Effect {
     Flat(Flat),
@@ -38,6 +38,7 @@ pub enum Effect {
     Change(Arc<FontKey>),
     Ask(Arc<FontKey>),
     Enter(Level),
+    Lack(PageFault, Option<i64>),
     Stop(PageFault),
 }
 

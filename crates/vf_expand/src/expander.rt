@@ -1,25 +1,22 @@
 //! The page that is being expanded.
-ghost use Rattle.std.specs.Prelude.{◌≡◌, ◌<◌, ◌+◌, Some, None, IfOk, IfSome, IsNone, OnErr, MatchOption};
+ghost use Rattle.std.specs.Prelude.{◌≡◌, ◌<◌, ◌+◌, Some, None, IfOk, IfSome, IsFalse, IsNone, OnErr, MatchOption};
 ghost use Rattle.std.specs.Arc.{arc_value};
 ghost use Rattle.page_index.specs.Document.{pages_begun};
 ghost use Rattle.vf_expand.specs.Course.{course_of};
 ghost use Rattle.vf_expand.specs.Limits as limits;
-ghost use Rattle.vf_expand.specs.Expansion.{GivesNoPackedChar, IsAtLook, IsEnded, after_answer, asks_left, rest_of, marked_font, place_of, steps_left};
+ghost use Rattle.vf_expand.specs.Expansion.{GivesNoPackedChar, HasNoLack, IsAtLook, after_answer, asks_left, rest_of, marked_font, place_of, steps_left};
 ghost use Rattle.vf_expand.specs.Steps.{StepFits, Steps};
 ghost use Rattle.drift_rules.specs.Bounds.{IsNumber};
 
 use crate::character::packed_char;
 use crate::current::Current;
 use crate::current_level::current_level;
-use crate::effect::{Effect, effect_of};
-use crate::faults::PageFault;
 use crate::keys::PageKeys;
-use crate::outer_levels::{Level, MAX_DEPTH, OuterLevels};
+use crate::outer_levels::{Level, OuterLevels};
+use crate::pending::Pending;
 use crate::progress::Progress;
 use crate::sets::character_at;
 use crate::step::{PackedChar, Step};
-use drift_rules::Flat;
-use dvi_commands::command_at;
 use font_decode::Decoded;
 use page_index::Index;
 use std::alloc::{AllocError as NoMemory, Global};
@@ -27,15 +24,18 @@ use std::marker::Model;
 use std::mem;
 use std::sync::Arc;
 
+mod steps;
+
 /// A page that is being expanded. The level that is read is the page or a packet; after the packet
-/// of a character that was set, a motion is still to be made.
+/// of a character that was set, or after a lack, a flat command is still to come.
 #[derive(Drop)]
 pub struct Expander<'a> {
+    tolerant: bool,
     index: &'a Index<'a>,
     bytes: &'a [u8],
     start: usize,
     progress: Progress,
-    pending_advance: Option<i64>,
+    pending: Option<Pending>,
     level: Level,
     outer: OuterLevels,
     keys: PageKeys,
@@ -57,21 +57,29 @@ impl<'a> Expander<'a> {
     ghost use Rattle.std.specs.Borrow.{sem};
     ghost use Rattle.vf_expand.specs.Lending.{PassesPackedChar};
 
-    /// The page with a number, from 0, at its first command, with no current font.
-    pub fn new(alloc: Global, index: &'a Index<'a>, i: usize) -> Result<Expander<'a>, NoMemory>
+    /// The page with a number, from 0, at its first command, with no current font. Where it is
+    /// tolerant, a missing font, character, glyph or packet is a lack, and else it stops the page.
+    pub fn new(
+        alloc: Global,
+        index: &'a Index<'a>,
+        i: usize,
+        tolerant: bool,
+    ) -> Result<Expander<'a>, NoMemory>
         requires { i < pages_begun index.now.reading }
-        ensures page { IfOk result (λ e. rest_of e ≡ course_of index.now.reading i) }
+        ensures page { IfOk result (λ e. rest_of e ≡ course_of tolerant index.now.reading i) }
+        ensures strict { IsFalse tolerant → IfOk result (λ e. HasNoLack (rest_of e)) }
         ensures place { IfOk result (λ e. e.at ≡ place_of (rest_of e)) }
         ensures unmarked { IfOk result (λ e. marked_font e ≡ None) }
         ensures asks { IfOk result (λ e. asks_left e ≡ limits.MAX_FLAT_COMMANDS) }
     {
         let page = index.page(i);
         Ok(Expander {
+            tolerant,
             index,
             bytes: page.bytes,
             start: page.at,
             progress: Progress::at_first(page.at),
-            pending_advance: None,
+            pending: None,
             level: Level {
                 code: 0,
                 pos: 0,
@@ -81,112 +89,6 @@ impl<'a> Expander<'a> {
             outer: OuterLevels::new(alloc),
             keys: PageKeys::new(alloc),
         })
-    }
-
-    // The motion after the packet of a character that was set.
-    #[inline(never)]
-    fn advance(&mut self, width: i64) -> Step
-        requires { self.old.pending_advance ≡ Some width }
-        ensures step { Steps self.old result self.new }
-        ensures fits { StepFits result }
-    {
-        if self.progress.budget == 0 {
-            self.progress = self.progress.halted_at(self.progress.at);
-            return Step::Stop(PageFault::TooLong);
-        }
-        self.pending_advance = None;
-        self.progress = self.progress.after_flat(self.progress.at, false);
-        Step::Flat(Flat::Advance { width })
-    }
-
-    // The page's end, or the end of a packet.
-    #[inline(never)]
-    fn ended(&mut self) -> Step
-        requires nothing_pending { self.old.pending_advance ≡ None }
-        requires ended { IsEnded self.old.stack }
-        ensures step { Steps self.old result self.new }
-        ensures fits { StepFits result }
-    {
-        if self.outer.top().is_none() {
-            self.progress = self.progress.halted_at(self.start + self.bytes.len());
-            return Step::End;
-        }
-        if self.progress.budget == 0 {
-            self.progress = self.progress.halted_at(self.progress.at);
-            return Step::Stop(PageFault::TooLong);
-        }
-        let Some(outside) = self.outer.pop() else {
-            unreachable!();
-        };
-        self.pending_advance = self.level.advance;
-        self.level = outside;
-        self.progress = self.progress.after_flat(self.progress.at, false);
-        Step::Flat(Flat::Leave)
-    }
-
-    // The next command, whatever it is, or the end.
-    #[inline(never)]
-    fn expand(&mut self) -> Result<Step, NoMemory>
-        requires nothing_pending { self.old.pending_advance ≡ None }
-        ensures step { IfOk result (λ step. Steps self.old step self.new) }
-        ensures fits { IfOk result StepFits }
-        ensures err { OnErr result (self.new ≡ self.old) }
-    {
-        let reading = current_level(
-            self.index,
-            self.bytes,
-            self.start,
-            &self.level,
-            &self.outer,
-            self.progress.at,
-        );
-        let at = reading.at;
-        if self.level.pos == reading.text.len() {
-            return Ok(self.ended());
-        }
-        if self.progress.budget == 0 {
-            self.progress = self.progress.halted_at(at);
-            return Ok(Step::Stop(PageFault::TooLong));
-        }
-        let room = MAX_DEPTH - self.outer.len();
-        let (command, end) = command_at(reading.text, self.level.pos, reading.context);
-        match effect_of(
-            &mut self.keys,
-            reading.place,
-            room,
-            &self.level.current,
-            &command,
-        )? {
-            Effect::Flat(flat) => {
-                self.level.pos = end;
-                self.progress = self.progress.after_flat(at, false);
-                Ok(Step::Flat(flat))
-            }
-            Effect::Char(flat) => {
-                self.level.pos = end;
-                self.progress = self.progress.after_flat(at, true);
-                Ok(Step::Flat(flat))
-            }
-            Effect::Change(key) => {
-                self.level.pos = end;
-                self.level.current = Current::Chosen(key);
-                self.progress = self.progress.after_flat(at, false);
-                Ok(Step::Flat(Flat::Skip))
-            }
-            Effect::Ask(key) => {
-                self.progress = self.progress.halted_at(at);
-                Ok(Step::Ask(key))
-            }
-            Effect::Enter(level) => {
-                self.outer.enter(&mut self.level, level, end)?;
-                self.progress = self.progress.after_flat(at, false);
-                Ok(Step::Flat(Flat::Enter))
-            }
-            Effect::Stop(fault) => {
-                self.progress = self.progress.halted_at(at);
-                Ok(Step::Stop(fault))
-            }
-        }
     }
 
     /// The next step of the page.
@@ -202,8 +104,11 @@ impl<'a> Expander<'a> {
     /// The page stops at a change to a font that isn't defined; at a character where no font is
     /// current; at one whose font has a fault, no width, no glyph or no packet for it, or whose
     /// packet would be nested eleven deep; and, where 2^24 flat commands were given, before
-    /// anything but its end. `End` and `Stop` are given again at each further call. Where memory
-    /// runs out nothing has changed.
+    /// anything but its end. A tolerant page goes past a character of a font whose TFM file or
+    /// whose PK and GF files are missing, and past one that its font has no width, no glyph or no
+    /// packet for: each is a `Lack`, and then comes `Advance` by the character's width where it was
+    /// set and the font has that width, and else a command that does nothing. `End` and `Stop` are
+    /// given again at each further call. Where memory runs out nothing has changed.
     ///
     /// Knuth, DVItype, "Translation to symbolic form"; VFtoVP, "Virtual fonts"; Breitenlohner,
     /// DVIcopy, "Interpreting VF packets".
@@ -213,8 +118,8 @@ impl<'a> Expander<'a> {
         ensures fits { IfOk result StepFits }
         ensures err { OnErr result (self.new ≡ self.old) }
     {
-        match self.pending_advance {
-            Some(width) => Ok(self.advance(width)),
+        match self.pending {
+            Some(pending) => Ok(self.give_pending(pending)),
             None => self.expand(),
         }
     }
@@ -227,7 +132,7 @@ impl<'a> Expander<'a> {
         ensures fits { IfSome result (λ packed. IsNumber packed.width) }
         ensures none { IsNone result → GivesNoPackedChar (rest_of self.old) }
     {
-        if self.pending_advance.is_some() || self.progress.budget == 0 {
+        if self.pending.is_some() || self.progress.budget == 0 {
             return None;
         }
         let level = current_level(

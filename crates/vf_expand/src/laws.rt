@@ -1,5 +1,6 @@
 //! Laws of a page's course and its list.
 ghost use Rattle.vf_expand.specs.Laws.{CoursesAreLists, LibrariesHaveFonts, MembersAreTheList, LooksAreThePages, ListsAreFollowed, LoopsAreTooDeep, ThePacketIsWorked, ThePageIsWorked};
+ghost use Rattle.vf_expand.specs.Lacks.{LacksAreCut, LacksAreWorked, StrictPagesStopAtALack, TolerantPagesGoOn};
 ghost use Rattle.vf_expand.specs.Packets.{CharactersMoveAsPacked, PacketsAreBalanced};
 ghost use Rattle.vf_expand.specs.WorkedFaults.{FontsOfPacketsAreWorked, FontsOfPagesAreWorked};
 
@@ -22,6 +23,16 @@ pub fn lists()
 pub fn packets()
     ensures balanced { PacketsAreBalanced }
     ensures moved { CharactersMoveAsPacked }
+{}
+
+/// Each lack of a tolerant page is a missing font, character, glyph or packet, and no such fault
+/// ends it. Any other page is the same up to its first lack, which is its fault. Worked pages with
+/// a lack of each kind.
+pub fn lacks()
+    ensures tolerant { TolerantPagesGoOn }
+    ensures strict { StrictPagesStopAtALack }
+    ensures worked { LacksAreWorked }
+    ensures cut { LacksAreCut }
 {}
 
 /// Worked pages without a font: the space is 0 before the first font, a character there is a fault,

@@ -1,5 +1,6 @@
 //! What the expander gives.
 use crate::faults::PageFault;
+use crate::lack::Lack;
 use drift_rules::Flat;
 use outside::FontKey;
 use pk_runs::Glyph;
@@ -12,6 +13,8 @@ pub enum Step {
     Flat(Flat),
     /// The key of a font that is needed before the page goes on.
     Ask(Arc<FontKey>),
+    /// A character that the page lacks. What comes in its place is the next flat command.
+    Lack(Lack),
     /// The page is at its end.
     End,
     /// The page stops here.

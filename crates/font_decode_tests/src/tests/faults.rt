@@ -180,10 +180,11 @@ static FAULTS: [(Named, &'static [File; 3], Option<FontFault>); 32] = [
     ),
 ];
 
-// What is wrong with a font's files first.
+// What is wrong with a font's files first; a bare font has no PK file.
 fn fault(alloc: Global, font: &Named, files: &[File; 3]) -> Result<Option<FontFault>, Fail> {
     match decoded(alloc, font, files)? {
         Decoded::Font(_) => Ok(None),
+        Decoded::Bare(_) => Ok(Some(FontFault::Missing(FileKind::Pk))),
         Decoded::Fault(fault) => Ok(Some(fault)),
     }
 }

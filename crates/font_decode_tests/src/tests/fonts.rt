@@ -27,6 +27,9 @@ const GENERIC: [File; 4] = [TFM, NONE, NONE, GF];
 
 const WIDE: [File; 4] = [TFM, NONE, NONE, (&DOT_GF, 15, 5, &[2, 2])];
 
+// `dot` without a file of glyphs.
+const BARE: [File; 4] = [TFM, NONE, NONE, NONE];
+
 // A character: its width, how many pixels of its glyph are black, with the glyph's sides, the
 // glyph's offsets, and the packet or `none`.
 type Character<'a> = (Option<i64>, (u32, u32, u32), Option<(i32, i32)>, &'a [u8]);
@@ -35,11 +38,20 @@ const GLYPH: (u32, u32, u32) = (4, 2, 2);
 
 const BLANK: (u32, u32, u32) = (0, 0, 0);
 
-static CHARACTERS: [(Named, &'static [File; 4], i32, Character<'static>); 16] = [
+static CHARACTERS: [(Named, &'static [File; 4], i32, Character<'static>); 20] = [
     (DOT, &DOTS, 65, (Some(8), GLYPH, Some((0, 1)), b"none")),
     (DOT, &GENERIC, 65, (Some(8), GLYPH, Some((0, 1)), b"none")),
     (DOT, &WIDE, 65, (Some(8), (4, 3, 2), Some((0, 1)), b"none")),
     (DOT, &GENERIC, 66, (None, BLANK, None, b"none")),
+    (DOT, &BARE, 65, (Some(8), BLANK, None, b"none")),
+    (DOT, &BARE, 66, (None, BLANK, None, b"none")),
+    (DOT, &BARE, 321, (None, BLANK, None, b"none")),
+    (
+        (b"dot", 256, 128),
+        &BARE,
+        65,
+        (Some(16), BLANK, None, b"none"),
+    ),
     (DOT, &DOTS, 64, (None, BLANK, None, b"none")),
     (DOT, &DOTS, 66, (None, BLANK, None, b"none")),
     (DOT, &DOTS, -1, (None, BLANK, None, b"none")),
@@ -75,10 +87,11 @@ static CHARACTERS: [(Named, &'static [File; 4], i32, Character<'static>); 16] = 
     ),
 ];
 
-// The font of these files.
+// The font of these files, or the bare font.
 fn font(alloc: Global, named: &Named, files: &[File; 4]) -> Result<Font, Fail> {
     match decoded_of_four(alloc, named, files)? {
         Decoded::Font(font) => Ok(font),
+        Decoded::Bare(font) => Ok(font),
         Decoded::Fault(_) => Err("a fault")?,
     }
 }
@@ -128,7 +141,7 @@ type Shape = (bool, u32, Option<i32>);
 // A local font: its name, its area's length, its size and its design size.
 type Local<'a> = Option<(&'a [u8], u8, u32, u32)>;
 
-static LOCALS: [(Named, &'static [File; 4], i32, Shape, Local<'static>); 7] = [
+static LOCALS: [(Named, &'static [File; 4], i32, Shape, Local<'static>); 8] = [
     (
         DUO,
         &DUOS,
@@ -154,6 +167,7 @@ static LOCALS: [(Named, &'static [File; 4], i32, Shape, Local<'static>); 7] = [
     (BOX, &RULES, 0, (true, 128, None), None),
     (DOT, &DOTS, 0, (false, 128, None), None),
     (DOT, &GENERIC, 0, (false, 128, None), None),
+    (DOT, &BARE, 0, (false, 128, None), None),
 ];
 
 fn fields(key: Option<&Arc<FontKey>>) -> Local<'_> {

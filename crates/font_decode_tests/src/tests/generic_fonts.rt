@@ -79,7 +79,7 @@ static FAULTS: [(Named, &'static [File; 4], Option<FontFault>); 15] = [
         &[NONE, NONE, NONE, GF],
         Some(FontFault::Missing(FileKind::Tfm)),
     ),
-    // Of two files that are missing, the PK file is the one that is named.
+    // Without both, it is the PK file that is missing.
     (
         DOT,
         &[TFM, NONE, NONE, NONE],
@@ -87,10 +87,11 @@ static FAULTS: [(Named, &'static [File; 4], Option<FontFault>); 15] = [
     ),
 ];
 
-// What is wrong with a font's files first.
+// What is wrong with a font's files first; a bare font has no PK file.
 fn fault(alloc: Global, font: &Named, files: &[File; 4]) -> Result<Option<FontFault>, Fail> {
     match decoded_of_four(alloc, font, files)? {
         Decoded::Font(_) => Ok(None),
+        Decoded::Bare(_) => Ok(Some(FontFault::Missing(FileKind::Pk))),
         Decoded::Fault(fault) => Ok(Some(fault)),
     }
 }

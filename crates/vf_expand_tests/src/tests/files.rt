@@ -89,11 +89,17 @@ const NO: [u8; 0] = [];
 // A width of 1/16 of the size.
 const WIDE: [u8; 4] = [0, 1, 0, 0];
 
+// The packet of 65, 1/16 of the size wide, which puts 65, sets 65 and a rule of 1/16 by 1/16 of the
+// size; and the end of the file.
+const RULED: [u8; 18] = [
+    12, 65, 1, 0, 0, 0x85, 65, 65, 0x84, 0, 1, 0, 0, 0, 1, 0, 0, 0xf8,
+];
+
 // The packet of 65, 1/16 of the size wide, which sets 65, and the end of the file.
 const SET: [u8; 7] = [1, 65, 1, 0, 0, 65, 0xf8];
 
 // The files of all fonts, in three parts.
-static FILES: [(&str, [&'static [u8]; 3]); 51] = [
+static FILES: [(&str, [&'static [u8]; 3]); 59] = [
     ("dot.tfm", [&TFM, &WIDE, &TFM_END]),
     ("bar.tfm", [&TFM, &[0, 1, 0x80, 0], &TFM_END]),
     ("thin.tfm", [&TFM, &[0, 0, 0x60, 0], &TFM_END]),
@@ -161,6 +167,17 @@ static FILES: [(&str, [&'static [u8]; 3]); 51] = [
     // The last of the chain has a packet of 66 alone.
     ("hole.tfm", [&TFM_OF_TWO, &NO, &NO]),
     ("hole.vf", [&VF, &[0, 66, 1, 0, 0], &[0xf8]]),
+    // A font without a file of glyphs.
+    ("flat.tfm", [&TFM, &WIDE, &TFM_END]),
+    // In these fonts 65 is 65 of the local font put and set, and a rule.
+    ("flats.tfm", [&TFM, &WIDE, &TFM_END]),
+    ("flats.vf", [&OVER, b"\x04flat", &RULED]),
+    ("gaps.tfm", [&TFM, &WIDE, &TFM_END]),
+    ("gaps.vf", [&OVER, b"\x03gap", &RULED]),
+    ("holes.tfm", [&TFM, &WIDE, &TFM_END]),
+    ("holes.vf", [&OVER, b"\x04hole", &RULED]),
+    // A TFM file that is cut off.
+    ("bad.tfm", [&[0], &NO, &NO]),
 ];
 
 // These bytes, one part after another.

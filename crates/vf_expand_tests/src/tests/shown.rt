@@ -24,8 +24,8 @@ pub struct Named(pub &'static str, pub u32, pub u32);
 ///
 /// A character that is set or put has its code, its width, and the sides of its glyph; a rule its
 /// height and its width; a motion, which is named by its register, how far it goes and a sixth of
-/// the font's size; one by what the register holds that sixth alone; and a stop the number that it
-/// names.
+/// the font's size; one by what the register holds that sixth alone; and a lack, which isn't the
+/// last step, or a stop the number that it names.
 #[derive(Clone, Copy, Debug, PartialEq, Eq)]
 pub struct Shown(pub usize, pub &'static str, pub Named, pub [i64; 4]);
 
@@ -35,9 +35,10 @@ pub const NO_FONT: Named = Named("", 0, 0);
 /// The numbers of a step that has none.
 pub const NOTHING: [i64; 4] = [0; 4];
 
-static NAMES: [&str; 26] = [
+static NAMES: [&str; 31] = [
     "dot", "bar", "thin", "gap", "duo", "twin", "over", "loop", "box", "bare", "nest", "far",
-    "miss", "lost", "none", "hole", "a", "b", "c", "d", "e", "f", "g", "h", "i", "j",
+    "miss", "lost", "none", "hole", "flat", "flats", "gaps", "holes", "bad", "a", "b", "c", "d",
+    "e", "f", "g", "h", "i", "j",
 ];
 
 fn font_named(key: &FontKey) -> Named {
@@ -122,6 +123,11 @@ fn fault_shown(fault: &PageFault) -> (&'static str, Named, [i64; 4]) {
             font_named(key),
             0,
         ),
+        PageFault::Font(key, FontFault::Missing(FileKind::Pk)) => (
+            "missing pk",
+            font_named(key),
+            0,
+        ),
         PageFault::Font(key, _) => ("another fault", font_named(key), 0),
         PageFault::Pen(_) => ("a fault of the pen", NO_FONT, 0),
     };
@@ -133,6 +139,7 @@ fn step_shown(expander: &Expander, step: &Step) -> Shown {
     let (what, font, numbers) = match step {
         Step::Flat(flat) => flat_shown(flat, expander.font()),
         Step::Ask(key) => ("ask", font_named(key), NOTHING),
+        Step::Lack(lack) => fault_shown(&lack.fault),
         Step::End => ("end", NO_FONT, NOTHING),
         Step::Stop(fault) => fault_shown(fault),
     };
@@ -169,11 +176,16 @@ fn ended(expander: &mut Expander, steps: Vec<Shown>) -> Result<Vec<Shown>, Fail>
 }
 
 // Each step of a document's first page.
-fn walked(alloc: Global, library: &Arc<Library>, index: &Index) -> Result<Vec<Shown>, Fail>
+fn walked(
+    alloc: Global,
+    library: &Arc<Library>,
+    index: &Index,
+    tolerant: bool,
+) -> Result<Vec<Shown>, Fail>
     requires page { 0 < pages_begun index.now.reading }
 {
     let units = index.units();
-    let mut expander = Expander::new(alloc, index, 0)?;
+    let mut expander = Expander::new(alloc, index, 0, tolerant)?;
     let mut steps = Vec::new(alloc);
     for _ in 0..100u32 {
         match expander.next()? {
@@ -184,6 +196,10 @@ fn walked(alloc: Global, library: &Arc<Library>, index: &Index) -> Result<Vec<Sh
             Step::Ask(key) => {
                 steps.push(Shown(expander.at(), "ask", font_named(&key), NOTHING))?;
                 expander.answer(found(alloc, library, &key, &units)?);
+            }
+            Step::Lack(lack) => {
+                let (what, font, numbers) = fault_shown(&lack.fault);
+                steps.push(Shown(lack.at, what, font, numbers))?;
             }
             Step::End => {
                 steps.push(Shown(expander.at(), "end", NO_FONT, NOTHING))?;
@@ -199,8 +215,14 @@ fn walked(alloc: Global, library: &Arc<Library>, index: &Index) -> Result<Vec<Sh
     Err(Fail::from("no end after 100 steps"))
 }
 
-/// The steps of a document's page that has this font as its font 0.
-pub fn steps(alloc: Global, font: &str, page: &[u8]) -> Result<Vec<Shown>, Fail> {
+/// The steps of a document's page that has this font as its font 0, where lacks are tolerated or
+/// aren't.
+pub fn steps_of(
+    alloc: Global,
+    font: &str,
+    page: &[u8],
+    tolerant: bool,
+) -> Result<Vec<Shown>, Fail> {
     let bytes = document(alloc, font, page)?;
     let Ok(index) = Index::read(alloc, &bytes, 300) else {
         return Err(Fail::from("no document"));
@@ -208,5 +230,10 @@ pub fn steps(alloc: Global, font: &str, page: &[u8]) -> Result<Vec<Shown>, Fail>
     if index.pages() == 0 {
         return Err(Fail::from("no page"));
     }
-    walked(alloc, &library(alloc)?, &index)
+    walked(alloc, &library(alloc)?, &index, tolerant)
+}
+
+/// The same where they aren't tolerated.
+pub fn steps(alloc: Global, font: &str, page: &[u8]) -> Result<Vec<Shown>, Fail> {
+    steps_of(alloc, font, page, false)
 }

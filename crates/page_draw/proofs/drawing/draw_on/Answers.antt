@@ -1,16 +1,16 @@
-use Rattle.std.proofs.Common.{◌≡◌, IfOk, IfErr, Ok, refl, sym, ap, subst, ◌∙◌, arith}
+use Rattle.std.proofs.Common.{◌≡◌, false, IfOk, IfErr, Ok, refl, sym, ap, subst, ◌∙◌, arith}
 use Rattle.std.proofs.lemmas.Result.{err_from_is_err_and}
 use Rattle.pixel_round.specs.Pixels.{Fraction}
 use Rattle.page_index.specs.Pages.{IsConversionOf, document_units}
 use Rattle.font_decode.specs.Decoding.{IsFontOf}
 use Rattle.font_decode.proofs.Trails.{trail_none, trail_more, trail_as}
 use Rattle.vf_expand.specs.Course.{course_of}
-use Rattle.vf_expand.specs.Expansion.{rest_of}
+use Rattle.vf_expand.specs.Expansion.{HasNoLack, rest_of}
 use Rattle.page_draw.proofs.Lists.{IsDrawnUpTo, so_far_look, so_far_none, so_far_same}
 use Rattle.page_draw.specs.Drawn.{IsFaultOf, IsWhole}
 use Rattle.page_draw.specs.Values.{EndsIn}
 use Rattle.page_draw.proofs.Ends.{broken_at_first, broken_at_look, broken_stop, ended_drawn, ended_stop, rose_on}
-use Rattle.page_draw.proofs.Other.{handed_on}
+use Rattle.page_draw.proofs.Other.{handed_on, no_lack_after}
 use Rattle.page_draw.proofs.drawing.draw_on.Goals as goal
 
 pub returns-in_err-expander-clause-stop : goal.returns-in_err-expander-clause-stop
@@ -24,13 +24,14 @@ steps-init g c =
     let conv : c.new-pen.result.conv ≡ c.conv.result = ap (λ p. p.conv) c.new-pen.ensures in
     record {
       conv = subst (λ (x : Fraction). IsConversionOf (document_units c.args.wanted.index.now.res c.args.wanted.index.now.reading) x) (sym conv) c.conv.ensures;
+      no_lack = c.in_ok-expander.ensures.strict refl;
       fits = c.requires.fits;
       room = omega (arith, c.in_ok-expander.ensures.asks);
       library = refl;
       units = refl;
       faults = omega arith;
       trail = trail_none (Unit {0}) (desk.asked c.args.desk.now) (desk.trail c.args.desk.now);
-      so_far = so_far_none _ c.new-pen.result.conv c.args.sheet.now (course_of c.args.wanted.index.now.reading c.args.wanted.number) (rest_of c.in_ok-expander.expander) c.new-pen.result.state
+      so_far = so_far_none _ c.new-pen.result.conv c.args.sheet.now (course_of false c.args.wanted.index.now.reading c.args.wanted.number) (rest_of c.in_ok-expander.expander) c.new-pen.result.state
           c.args.page (desk.asked c.args.desk.now) c.in_ok-expander.ensures.page (ap (λ p. p.state) c.new-pen.ensures) c.requires.blank;
     }
 
@@ -68,6 +69,7 @@ steps-preserved g c =
     let found = rw (i.library, i.units) at answer.1 in
     record {
       conv = subst (λ (x : Fraction). IsConversionOf (document_units c.args.wanted.index.now.res c.args.wanted.index.now.reading) x) (sym conv) i.conv;
+      no_lack = subst HasNoLack (sym answer.2) (no_lack_after (rest_of new.expander) answer.0 c.in_ok-step.ensures.no_lack);
       fits = font.fits;
       room = omega (arith, i.room, font.room, font.asks, c.in_ok-step.ensures.asks);
       library = font.library ∙ i.library;
@@ -77,7 +79,7 @@ steps-preserved g c =
           (desk.trail c.args.desk.now) (desk.trail c.steps.desk) (desk.trail c.look_up.new.desk) i.trail
           (trail_as (Unit {0}) _ (desk.asked c.steps.desk) (desk.asked c.look_up.new.desk) (desk.trail c.steps.desk) (desk.trail c.look_up.new.desk) (λ w. refl) font.trail);
       so_far = subst (λ (x : Fraction). IsDrawnUpTo (IsFontOf (desk.library c.args.desk.now) (desk.units c.args.desk.now)) x c.args.sheet.now
-          (course_of c.args.wanted.index.now.reading c.args.wanted.number) (rest_of c.look_up.new.expander) new.pen.state new.page (desk.asked c.args.desk.now) (desk.asked c.look_up.new.desk)) (sym conv)
+          (course_of false c.args.wanted.index.now.reading c.args.wanted.number) (rest_of c.look_up.new.expander) new.pen.state new.page (desk.asked c.args.desk.now) (desk.asked c.look_up.new.desk)) (sym conv)
           (so_far_same _ _ _ _ _ _ _ _ _
           (so_far_look _ c.steps.pen.conv c.args.sheet.now _ (rest_of new.expander) new.pen.state new.page _ _ far _ _ _ answer.0 _ step.asked found font.asked)
           (rest_of c.look_up.new.expander) answer.2);

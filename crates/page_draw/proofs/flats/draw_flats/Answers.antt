@@ -1,14 +1,14 @@
-use Rattle.std.proofs.Common.{◌≡◌, ◌∙◌, arith, refl, subst, None, Some, Ok}
+use Rattle.std.proofs.Common.{◌≡◌, ◌∙◌, arith, false, refl, sym, subst, None, Some, Ok}
 use Rattle.std.proofs.lemmas.Result.{err_from_is_err_and}
 use Rattle.drift_rules.specs.Position.{state_after, value_of_flat}
 use Rattle.pixel_round.specs.Pixels.{Fraction}
 use Rattle.font_decode.specs.Decoding.{IsFontOf}
 use Rattle.vf_expand.specs.Course.{course_of}
-use Rattle.vf_expand.specs.Expansion.{rest_of}
+use Rattle.vf_expand.specs.Expansion.{HasNoLack, rest_of}
 use Rattle.page_draw.specs.Inking.{set_in}
 use Rattle.page_draw.proofs.Lists.{so_far_flat, so_far_same}
 use Rattle.page_draw.proofs.Ends.{broken_so_far, pen_stop}
-use Rattle.page_draw.proofs.Other.{comes_alone, fewer_still, no_source, other_stays, stop_as}
+use Rattle.page_draw.proofs.Other.{comes_alone, fewer_still, no_lack_here, no_source, other_stays, stop_as}
 use Rattle.page_draw.proofs.flats.draw_flats.Goals as goal
 
 pub returns-in_err-draw_packed_char-clause-stop : goal.returns-in_err-draw_packed_char-clause-stop
@@ -22,7 +22,7 @@ returns-in_err-draw_packed_char-clause-stop c =
     rw (p.1, p.2)
     (λ known units indexed i old now conv so_far.
     pen_stop (IsFontOf known units) c.args.pen.now.conv c.args.sheet.now indexed i (rest_of c.flats.expander) c.flats.pen.state c.flats.page old now
-    (c.flats.invariant.drawn known units (course_of indexed.reading i) old now so_far) conv
+    (c.flats.invariant.drawn known units (course_of false indexed.reading i) old now so_far) conv
     flat (Some packed.glyph.now) new.at (rest_of new) given.one.given _
     (stop_as c.flats.pen.conv c.args.pen.now.conv c.flats.pen.state flat packed.at new.at _ c.flats.invariant.conv given.place stop))
 
@@ -43,6 +43,7 @@ flats-preserved-in-Some c =
     let inked = c.in_ok-draw_packed_char.ensures.inked given.key in
     record {
       conv = c.draw_packed_char.ensures.conv ∙ i.conv;
+      no_lack = subst HasNoLack given.one.given i.no_lack;
       asks = omega (arith, i.asks, given.one.asks);
       steps = omega (arith, i.steps, given.one.fewer);
       drawn = λ known units from old new so_far.
@@ -57,7 +58,7 @@ returns-in_err-other-clause-stop c =
     let p = err_from_is_err_and r.result r.ensures.1 in
     rw (p.1, p.2) (λ known units indexed i old new conv so_far.
     broken_so_far (IsFontOf known units) c.args.pen.now.conv c.args.sheet.now indexed i (rest_of c.flats.expander) c.flats.pen.state c.flats.page old new
-    (c.flats.invariant.drawn known units (course_of indexed.reading i) old new so_far) conv)
+    (c.flats.invariant.drawn known units (course_of false indexed.reading i) old new so_far) conv)
 
 pub returns-in_err-draw_one-in-Flat-clause-stop : goal.returns-in_err-draw_one-in-Flat-clause-stop
 returns-in_err-draw_one-in-Flat-clause-stop c =
@@ -71,7 +72,7 @@ returns-in_err-draw_one-in-Flat-clause-stop c =
     rw (p.1, p.2)
     (λ known units indexed i old new conv so_far.
     pen_stop (IsFontOf known units) c.args.pen.now.conv c.args.sheet.now indexed i (rest_of c.flats.expander) c.flats.pen.state c.flats.page old new
-    (c.flats.invariant.drawn known units (course_of indexed.reading i) old new so_far) conv
+    (c.flats.invariant.drawn known units (course_of false indexed.reading i) old new so_far) conv
     flat None c.next.new.self.at (rest_of c.next.new.self) step.given _ stops)
 
 pub returns-in_err-draw_one-in-Flat-clause-source : goal.returns-in_err-draw_one-in-Flat-clause-source
@@ -91,6 +92,7 @@ flats-preserved-in_ok-draw_one-in-Flat c =
     let inked = rw i.conv at c.in_ok-draw_one-in-Flat.ensures.inked in
     record {
       conv = c.draw_one.ensures.conv ∙ i.conv;
+      no_lack = subst HasNoLack step.given i.no_lack;
       asks = omega (arith, i.asks, step.asks);
       steps = omega (arith, i.steps, step.fewer);
       drawn = λ known units from old new so_far.
@@ -110,6 +112,7 @@ flats-preserved c =
     let inked = rw i.conv at c.in_ok-draw_one-in-Flat.ensures.inked in
     record {
       conv = c.draw_one.ensures.conv ∙ i.conv;
+      no_lack = subst HasNoLack step.given i.no_lack;
       asks = omega (arith, i.asks, step.asks);
       steps = omega (arith, i.steps, step.fewer);
       drawn = λ known units from old new so_far.
@@ -123,12 +126,13 @@ returns-in_default-2 c =
     let i = c.flats.invariant in
     let none = rw c.in_default.is at c.next_packed_char.follows.holds-at-none in
     let step = rw none at c.in_ok-other.ensures.step in
-    let same = other_stays c.flats.expander c.next.new.self c.in_ok-other.other c.in_default-2.not-Flat step in
+    let same = other_stays c.flats.expander c.next.new.self c.in_ok-other.other c.in_default-2.not-Flat c.in_default-2.not-Lack step in
     record {
       drawn = λ known units from old new so_far.
           so_far_same (IsFontOf known units) c.args.pen.now.conv c.args.sheet.now from (rest_of c.flats.expander) c.flats.pen.state c.flats.page old new
           (i.drawn known units from old new so_far) (rest_of c.next.new.self) same.left;
       conv = i.conv;
+      no_lack = subst HasNoLack (sym same.left) i.no_lack;
       asks = omega (arith, i.asks, same.asks);
       steps = fewer_still c.args.expander.now c.flats.expander c.next.new.self c.in_ok-other.other i.steps same.fewer;
       next = same.next;
@@ -136,3 +140,9 @@ returns-in_default-2 c =
       source = λ h. absurd cc;
       stop = tt;
     }
+
+pub unreachable-requires : goal.unreachable-requires
+unreachable-requires c =
+    let same = rw c.in_default.is at c.next_packed_char.follows.holds-at-none in
+    let step = rw (c.in-Lack.is, same) at c.in_ok-other.ensures.step in
+    no_lack_here (rest_of c.flats.expander) _ _ _ step.0.lacked c.flats.invariant.no_lack

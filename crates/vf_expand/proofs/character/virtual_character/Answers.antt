@@ -5,7 +5,8 @@ use Rattle.std.specs.Arc.{arc_value}
 use Rattle.outside.specs.declared.keys.FontKey.{FontKey}
 use Rattle.vf_expand.specs.Faults.{Depth, NoPacket}
 use Rattle.font_decode.specs.Fonts.{packet_of, IsProgram}
-use Rattle.vf_expand.specs.Course.{Stops, number_of}
+use Rattle.font_decode.specs.declared.font_or_fault.Decoded.TheVariants as decoded
+use Rattle.vf_expand.specs.Course.{Known, Stops, lacking, number_of}
 use Rattle.vf_expand.proofs.Virtual.{at_none, at_some, has_packet, no_packet, too_deep}
 use Rattle.vf_expand.proofs.character.virtual_character.Goals as goal
 
@@ -23,8 +24,8 @@ returns-then-is_none-clause-has_effect c = λ at others.
     let none = at_none c.packet.result _ _ c.if-is_none.ensures c.packet.ensures.packet in
     no_packet at _ _ _ _ _ c.args.room (omega (arith, c.if-room-eq0.false))
     (subst (λ (n : ℕ). packet_of c.args.font.now n ≡ None) (number ∙ sym (ap number_of c.requires.byte.1)) none)
-    ∙ ap (λ (k : FontKey). Stops (NoPacket k c.args.code) at) (sym c.in_ok-try_clone-2.ensures)
-    ∙ ap (λ (z : ℤ). Stops (NoPacket (arc_value c.in_ok-try_clone-2.field-0) z) at) same
+    ∙ ap (λ (k : FontKey). lacking at (NoPacket k c.args.code) c.args.advance (others (Known (arc_value c.args.key.now) (decoded.Font c.args.font.now)))) (sym c.in_ok-try_clone-2.ensures)
+    ∙ ap (λ (z : ℤ). lacking at (NoPacket (arc_value c.in_ok-try_clone-2.field-0) z) c.args.advance (others (Known (arc_value c.args.key.now) (decoded.Font c.args.font.now)))) same
 
 pub returns-clause-has_effect : goal.returns-clause-has_effect
 returns-clause-has_effect c =

@@ -6,7 +6,7 @@ use Rattle.vf_expand.proofs.laws.lists.Goals as goal
 
 pub returns : goal.returns
 returns c = record {
-  courses = λ fonts reading i. course_is_list fonts reading i;
+  courses = λ tolerant fonts reading i. course_is_list tolerant fonts reading i;
   fonts = libraries_have_fonts;
   members = members_are_the_list;
   looks = looks_are_the_pages;

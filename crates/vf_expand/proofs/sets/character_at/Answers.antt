@@ -1,5 +1,5 @@
 use Rattle.dvi_commands.specs.Spelling.{value_of_command}
-use Rattle.vf_expand.proofs.SetNext.{no_character, nothing_above, nothing_at_the_end, nothing_else}
+use Rattle.vf_expand.proofs.SetNext.{no_character, nothing_else}
 use Rattle.vf_expand.proofs.sets.character_at.Goals as goal
 
 pub returns-in_default : goal.returns-in_default

@@ -32,7 +32,7 @@ invariant_of-self c =
       room = c.self.invariant.room;
       deep = c.self.invariant.deep;
       levels = same_levels x.bytes.now x.level (code.Known c.in-Chosen.key c.args.font) x.outer key c.self.invariant.levels;
-      pending_advance = c.self.invariant.pending_advance;
+      pending = c.self.invariant.pending;
       marked = λ h. refl;
     }
 

@@ -42,5 +42,5 @@ returns-clause-step c =
     let stack = ap (λ (outer : List Level). stack_of x.bytes.now x.start x.level outer) parts in
     let none = subst IsEnded stack ended in
     let room : 0 < x.progress.budget = omega (arith, c.if-self-eq0.false) in
-    rw c.after_flat-self-inside.ensures (rw (← c.self.view_is)
+    rw (c.after_flat-self-inside.ensures, c.after_packet-self-inside.ensures.value) (rw (← c.self.view_is)
     (None, leave_step (value_of_expander x) nothing_pending (value_of_packet (value_of_current c.in-Some.outside.current) x.level) (stack_of x.bytes.now x.start c.in-Some.outside c.pop.new.self) stack room none))

@@ -38,7 +38,7 @@ returns-in_default c =
     let x = c.self.inside in
     let e = c.current_level-level.ensures in
     let v = value_of_expander x in
-    let nothing_pending = has_nothing_pending x.pending_advance (sym c.is_some.ensures ∙ c.if-is_some.false) in
+    let nothing_pending = has_nothing_pending x.pending (sym c.is_some.ensures ∙ c.if-is_some.false) in
     let nothing : SetsNothing c.current_level-level.result.context (drop x.level.pos c.current_level-level.result.text.now) = c.in_default.ensures.none refl in
     let head : AtHead (context_of x.outer) (value_of_current x.level.current) (drop x.level.pos (level_text x.bytes.now x.level x.outer)) = λ code put first rest begins.
     absurd (rw (e.context, e.text) at nothing code put first rest begins) in
@@ -50,7 +50,7 @@ returns-in_default-packed_char c =
     let x = c.self.inside in
     let e = c.current_level-level.ensures in
     let v = value_of_expander x in
-    let nothing_pending = has_nothing_pending x.pending_advance (sym c.is_some.ensures ∙ c.if-is_some.false) in
+    let nothing_pending = has_nothing_pending x.pending (sym c.is_some.ensures ∙ c.if-is_some.false) in
     let same_code : to_z w32 (of_z w32 c.in-Some.code) ≡ c.in-Some.code = omega (arith, ints) in
     let here = subst (SetsNoPackedChar (value_of_current x.level.current)) same_code (c.in_default-packed_char.ensures.none refl) in
     let there = set_alone c.current_level-level.result.context c.current_level-level.result.text.now x.level.pos c.in-Some.code c.in-Some.put c.in-Some.end c.in-Some.ensures.set in
@@ -71,7 +71,7 @@ invariant_of-self-2 c =
       deep = c.self.invariant.deep;
       levels = read_on_at x.bytes.now x.level x.outer c.in-Some.end (character_command c.in-Some.code c.in-Some.put) c.current_level-level.result.text.now e.text set.after set.inside
           set.spelled c.self.invariant.levels x.level.current c.current_level-level.result.context e.context c.in-Some.ensures.readable (has_key x.bytes.now x.level x.outer c.self.invariant.levels);
-      pending_advance = c.self.invariant.pending_advance;
+      pending = c.self.invariant.pending;
       marked = λ h. subst (λ (x : Current). IsSome (font_of x)) (sym has_effect.known) refl;
     }
 
@@ -89,7 +89,7 @@ returns c =
     let place = value_of_place c.current_level-level.result.place in
     let current = value_of_current x.level.current in
     let room_left = MAX_DEPTH - length x.outer in
-    let nothing_pending = has_nothing_pending x.pending_advance (sym c.is_some.ensures ∙ c.if-is_some.false) in
+    let nothing_pending = has_nothing_pending x.pending (sym c.is_some.ensures ∙ c.if-is_some.false) in
     let room : 0 < x.progress.budget = omega (arith, c.if-self-eq0.false) in
     let next = head_at x.index.now.reading eop x.start x.progress.at x.bytes.now x.level x.outer c.in-Some.end (character_command c.in-Some.code c.in-Some.put) c.current_level-level.result.text.now place here
     room_left e.text e.place e.at refl set.after set.inside set.spelled in
