@@ -1,5 +1,6 @@
 pub mod HexDigits
 pub mod Spelled
+pub mod InTwoParts
 pub mod Groups
 pub mod Expanded
 pub mod FirstOther
@@ -10,6 +11,7 @@ pub mod PlainLaws
 pub mod Pixels
 pub mod Placed
 pub mod HeldBytes
+pub mod KeptRuns
 pub mod Lengthened
 pub mod Begun
 pub mod Chosen

@@ -1,6 +1,7 @@
 -- The pixels of the rows of a raster.
 use Rattle.std.proofs.Common.{◌≡◌, ◌∙◌, ◌⊎◌, inl, inr, ℕ, zero, suc, ◌+◌, ◌-◌, ◌<◌, ◌≤◌, Bool, true, false, not, List, [], ◌∷◌, length, get_or, refl, sym, ap, arith}
 use Rattle.std.specs.List.{list_any}
+use Rattle.std.proofs.Math.Bool.{beq}
 use Rattle.std.proofs.lemmas.Bool.{and_from, cases_lt, and_left, and_right, or_from, or_left, or_right}
 use Rattle.packed_rows.specs.Bitmap.{Bitmap, from_fn, is_black}
 use Rattle.packed_rows.specs.Packing.{pixel, pixels_of, row_text}
@@ -63,17 +64,12 @@ unfolding pixel_rows
 dot_seen r y x inside in_row =
     ap (λ row. get_or row x false) (get_or-from_fn r.height (λ v. from_fn r.width (λ u. is_black r u v)) y [] inside) ∙ get_or-from_fn r.width (λ u. is_black r u y) x false in_row
 
-not_itself : (b : Bool) → b ≡ not b → ⊥
+pub not_itself : (b : Bool) → b ≡ not b → ⊥
 not_itself true e = cc
 not_itself false e = cc
 
--- a run has a pixel
-pub some_passed : (r : Bitmap) (y x end len : ℕ) (bytes : List ℕ) (black : Bool) → y < r.height → x < r.width → x ≤ end → pixels_of r.width bytes ≡ get_or r.rows y []
-    → (len ≡ 0 → get_or (get_or (pixel_rows r) y []) x false ≡ black) → (end < r.width → pixel bytes end ≡ not black) → 1 ≤ len + (end - x)
-some_passed r y x end len bytes black inside in_row ordered dots begun other = by (cases_lt 0 (len + (end - x)))
-  where
-    by : (0 < len + (end - x)) ⊎ (len + (end - x) ≤ 0) → 1 ≤ len + (end - x)
-    by (inl some) = some
-    by (inr none) =
-        let at : end ≡ x = omega (arith, none, ordered) in
-        absurd (not_itself black (sym (begun (omega (arith, none))) ∙ pixel_seen r y x bytes inside in_row dots ∙ ap (pixel bytes) (sym at) ∙ other (omega (arith, at, in_row))))
+pub same_black : (a b : Bool) → beq a b ≡ true → a ≡ b
+same_black true true e = refl
+same_black true false e = sym e
+same_black false true e = e
+same_black false false e = refl

@@ -1,5 +1,5 @@
 -- A place in a raster from which its written runs go on.
-use Rattle.std.specs.Prelude.{◌≡◌, ℕ, ◌+◌, ◌-◌, ◌*◌, ◌<◌, ◌≤◌, Bool, false, List, [], ◌∷◌, drop, slice_index_or}
+use Rattle.std.specs.Prelude.{◌≡◌, ℕ, ◌+◌, ◌-◌, ◌*◌, ◌<◌, ◌≤◌, Bool, false, not, List, [], ◌∷◌, drop, slice_index_or}
 use Rattle.packed_rows.specs.Bitmap.{Bitmap}
 use Rattle.pk_runs.specs.Numbers.{Item}
 use Rattle.pk_runs.specs.Raster.{colour_after}
@@ -23,12 +23,19 @@ AreCopies rows y n =
     written_rows (drop y rows)
     ≡ record { row = row_of rows y; below = n } ∷ written_rows (drop (y + 1 + n) rows)
 
--- a place within the raster or behind its last row
+-- a place within the raster, with where the colour that begins there ends, or one behind the last
+-- row
 pub record IsPlace (r : Bitmap) (p : Place) : Type 0 where
   pub low : p.row ≤ r.height
   pub inside : p.row < r.height → p.column < r.width
   pub fit : p.row < r.height → p.row + 1 + p.copies ≤ r.height
   pub small : p.due ≤ r.height
+  pub some : p.row < r.height → p.column < p.end
+  pub most : p.row < r.height → p.end ≤ r.width
+  pub same : p.row < r.height → (x : ℕ) → p.column ≤ x → x < p.end
+      → slice_index_or (row_of (pixel_rows r) p.row) x false ≡ p.black
+  pub other : p.row < r.height → p.end < r.width
+      → slice_index_or (row_of (pixel_rows r) p.row) p.end false ≡ not p.black
 
 -- how many pixels of the raster are not passed
 abbrev pub pixels_after : Bitmap → Place → ℕ

@@ -2,7 +2,9 @@
 //! takes fewer bytes.
 #![tactic(auto)]
 
+mod counted;
 mod digits;
+mod kept;
 mod laws;
 mod lengths;
 mod measure;

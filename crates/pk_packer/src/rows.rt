@@ -4,18 +4,17 @@ ghost use Rattle.std.specs.Prelude.{◌≡◌, ◌+◌, ◌<◌, ◌≤◌, ◌�
 ghost use Rattle.pk_packer.specs.Places.{AreCopies, row_of};
 ghost use Rattle.pk_packer.specs.Written.{has_both_colours, pixel_rows};
 
-use crate::row::run_end;
-use packed_rows::{PackedBitmap, is_black};
+use packed_rows::PackedBitmap;
 
 /// How many rows below a row are copies of it that are not written: none where the row has one
 /// colour.
-pub fn copies_below(bits: &PackedBitmap, y: u32) -> u32
-    requires some { 1 ≤ bits.now.width }
+pub fn copies_below(bits: &PackedBitmap, y: u32, both_colours: bool) -> u32
     requires inside { y < bits.now.height }
+    requires colours { both_colours ≡ has_both_colours (row_of (pixel_rows bits.now) y) }
     ensures fit { y + 1 + result ≤ bits.now.height }
     ensures copies { AreCopies (pixel_rows bits.now) y result }
 {
-    if !has_both_colours(bits, y) {
+    if !both_colours {
         return 0;
     }
     equal_below(bits, y)
@@ -45,15 +44,4 @@ fn are_equal(bits: &PackedBitmap, y: u32, z: u32) -> bool
     ensures { IsTrue result ↔ (row_of (pixel_rows bits.now) y ≡ row_of (pixel_rows bits.now) z) }
 {
     bits.row(y) == bits.row(z)
-}
-
-// Whether a row has black and white pixels.
-fn has_both_colours(bits: &PackedBitmap, y: u32) -> bool
-    requires some { 1 ≤ bits.now.width }
-    requires inside { y < bits.now.height }
-    ensures { result ≡ has_both_colours (row_of (pixel_rows bits.now) y) }
-{
-    let row = bits.row(y);
-    let width = bits.width() as usize;
-    run_end(row, 0, width, is_black(row, 0)) < width
 }

@@ -6,8 +6,7 @@ ghost use Rattle.pk_runs.specs.Limits.{MAX_GLYPH_SIDE};
 ghost use Rattle.pk_packer.specs.Written.{pixel_rows, with_count, written_runs};
 ghost use Rattle.pk_packer.specs.Places.{IsPlace, IsReached, pixels_after, row_of};
 
-use crate::places::{Place, row_begin};
-use crate::row::run_end_or_none;
+use crate::places::{Place, next_colour, row_begin};
 use crate::rows::equal_below;
 use packed_rows::PackedBitmap;
 
@@ -37,25 +36,18 @@ pub fn next_run(bits: &PackedBitmap, place: Place) -> Option<Step>
     if place.row == bits.height() {
         return None;
     }
-    let black = bits.is_black(place.column, place.row);
-    let width = bits.width() as usize;
     let mut len = 0;
     let mut after = Place { due: 0, ..place };
-    while after.row < bits.height() {
-        let row = bits.row(after.row);
-        let end = run_end_or_none(row, after.column as usize, width, black) as u32;
-        len += end - after.column;
-        if end < bits.width() {
+    while after.row < bits.height() && after.black == place.black {
+        len += after.end - after.column;
+        if after.end < bits.width() {
             return Some(Step {
                 count: place.due,
                 len,
-                after: Place {
-                    column: end,
-                    ..after
-                },
+                after: next_colour(bits, after),
             });
         }
-        let below = same_below(bits, after, black);
+        let below = same_below(bits, after);
         len += below.pixels;
         after = row_begin(bits, after.row + 1 + after.copies + below.rows);
     }
@@ -75,7 +67,7 @@ struct Below {
 
 // The rows that equal a row of one colour, below it; none where the place isn't at the beginning of
 // a row. Most often the next row's first pixel tells already that there is none.
-fn same_below(bits: &PackedBitmap, place: Place, black: bool) -> Below
+fn same_below(bits: &PackedBitmap, place: Place) -> Below
     requires some { 1 ≤ bits.now.width }
     requires narrow { bits.now.width ≤ MAX_GLYPH_SIDE }
     requires short { bits.now.height ≤ MAX_GLYPH_SIDE }
@@ -92,7 +84,7 @@ fn same_below(bits: &PackedBitmap, place: Place, black: bool) -> Below
     if place.column > 0 || place.copies > 0 {
         return Below { rows: 0, pixels: 0 };
     }
-    if next < bits.height() && bits.is_black(0, next) != black {
+    if next < bits.height() && bits.is_black(0, next) != place.black {
         return Below { rows: 0, pixels: 0 };
     }
     let rows = equal_below(bits, place.row);

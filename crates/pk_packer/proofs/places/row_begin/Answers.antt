@@ -1,5 +1,8 @@
-use Rattle.std.proofs.Common.{arith}
-use Rattle.pk_packer.proofs.Pixels.{rows_high}
+use Rattle.std.proofs.Common.{◌≡◌, ◌∙◌, ◌<◌, inl, inr, ℕ, List, Bool, false, get_or, length, sym, arith}
+use Rattle.std.proofs.lemmas.Bool.{cases_lt, le-ltb, lt-ltb}
+use Rattle.packed_rows.specs.Bitmap.{Bitmap}
+use Rattle.pk_packer.specs.Places.{row_of}
+use Rattle.pk_packer.proofs.Pixels.{dot_seen, one_colour, row_long, rows_high, two_colours}
 use Rattle.pk_packer.proofs.Placed.{begins_behind, begins_row}
 use Rattle.pk_packer.specs.Written.{pixel_rows}
 use Rattle.pk_packer.proofs.places.row_begin.Goals as goal
@@ -9,3 +12,25 @@ returns-then-row-height-clause-more c = λ items. begins_behind (pixel_rows c.ar
 
 pub returns-clause-more : goal.returns-clause-more
 returns-clause-more c = λ items. begins_row (pixel_rows c.args.bits.now) c.args.row c.copies_below-copies.result items c.copies_below-copies.ensures.copies
+
+pub colour_end-end-requires-clause-begins : goal.colour_end-end-requires-clause-begins
+colour_end-end-requires-clause-begins c =
+    dot_seen c.args.bits.now c.args.row 0 (omega (arith, c.requires.low, c.if-row-height.false, c.height.ensures.value)) (omega (arith, c.requires.some)) ∙ sym c.is_black-black.ensures
+
+pub copies_below-copies-requires-clause-colours : goal.copies_below-copies-requires-clause-colours
+copies_below-copies-requires-clause-colours c =
+    let r : Bitmap = c.args.bits.now in
+    let row : List Bool = row_of (pixel_rows r) c.args.row in
+    let low : c.args.row < r.height = omega (arith, c.requires.low, c.if-row-height.false, c.height.ensures.value) in
+    let long : length row ≡ r.width = row_long r c.args.row low in
+    let black : Bool = c.is_black-black.result in
+    let end : ℕ = c.colour_end-end.result in
+    elim (cases_lt c.colour_end-end.result c.width.result) [
+      | inl within ↦
+          lt-ltb c.colour_end-end.result c.width.result within
+          ∙ sym (two_colours row black r.width end long (omega (arith, within, c.width.ensures.value)) (c.colour_end-end.ensures.same 0 (omega arith) (omega (arith, c.colour_end-end.ensures.some)))
+          (c.colour_end-end.ensures.other (omega (arith, within, c.width.ensures.value))))
+      | inr all ↦
+          le-ltb c.colour_end-end.result c.width.result all
+          ∙ sym (one_colour row black (λ k below. c.colour_end-end.ensures.same k (omega arith) (omega (arith, below, long, all, c.width.ensures.value))))
+    ]

@@ -1,6 +1,6 @@
-use Rattle.std.proofs.Common.{◌≡◌, ◌+◌, ◌-◌, ◌<◌, ◌≤◌, false, List, ◌∷◌, get_or}
+use Rattle.std.proofs.Common.{◌≡◌, ◌+◌, ◌-◌, ◌<◌, ◌≤◌, List, ◌∷◌}
 use Rattle.pk_runs.specs.Numbers.{Item, Run}
-use Rattle.pk_packer.specs.Places.{IsPlace, IsReached, items_from, pixels_after, row_of}
+use Rattle.pk_packer.specs.Places.{IsPlace, IsReached, items_from, pixels_after}
 use Rattle.pk_packer.specs.Written.{pixel_rows, with_count, written_runs}
 use Rattle.pk_packer.proofs.runs.next_run.Given as goal
 
@@ -9,7 +9,7 @@ invariant-loop-after l = record {
   place : IsPlace l.bits l.after;
   passed : pixels_after l.bits l.after + l.len ≤ pixels_after l.bits l.place;
   more : (items : List Item) → IsReached l.bits l.place items → items_from (pixel_rows l.bits) l.after (Run l.len ∷ with_count l.place.due items) ≡ written_runs (pixel_rows l.bits);
-  begun : l.len ≡ 0 → (l.after.row < l.bits.height) × (get_or (row_of (pixel_rows l.bits) l.after.row) l.after.column false ≡ l.black);
+  begun : l.len ≡ 0 → (l.after.row < l.bits.height) × (l.after.black ≡ l.place.black);
 }
 
 abbrev pub decreases-loop-after : goal.decreases-loop-after

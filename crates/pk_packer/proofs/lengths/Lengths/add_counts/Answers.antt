@@ -1,7 +1,7 @@
 use Rattle.std.proofs.Common.{◌≡◌, ◌∙◌, inl, inr, ℕ, ◌+◌, ◌<◌, List, get_or, length, set, ap, arith, length-set, get_or-set_other, get_or-set_same}
 use Rattle.std.proofs.lemmas.Bool.{cases_eq}
-use Rattle.pk_packer.specs.Spelling.{number_text}
-use Rattle.pk_packer.proofs.lengths.Lengths.add_number.Goals as goal
+use Rattle.pk_packer.specs.Counts.{nybbles_by}
+use Rattle.pk_packer.proofs.lengths.Lengths.add_counts.Goals as goal
 
 pub loop-f-preserved : goal.loop-f-preserved
 loop-f-preserved c =
@@ -11,20 +11,14 @@ loop-f-preserved c =
     let v : ℕ = get_or counts i 0 + c.from.result in
     let within : i < length counts = omega (arith, c.loop-f.invariant.all, c.loop-f-test.true) in
     let more : get_or counts i 0 ≡ get_or old i 0 = c.loop-f.invariant.later i (omega arith) (omega (arith, c.loop-f-test.true)) in
-    let sum : c.number_len.result ≡ length (number_text i c.args.n) = c.number_len.ensures.len in
+    let sum : c.by.result ≡ nybbles_by c.args.more i = c.by.ensures in
     record {
       all = length-set counts i v ∙ c.loop-f.invariant.all;
       added = λ k below. elim (cases_eq k i) [
         | inl same ↦
             ap (λ j. get_or (set counts i v) j 0) same ∙ get_or-set_same counts i v 0 within
-            ∙ omega (arith, more, sum, c.from.ensures, ap (λ j. get_or old j 0 + length (number_text j c.args.n)) same)
+            ∙ omega (arith, more, sum, c.from.ensures, ap (λ j. get_or old j 0 + nybbles_by c.args.more j) same)
         | inr other ↦ get_or-set_other counts i k v 0 other ∙ c.loop-f.invariant.added k (omega (arith, below, other))
-      ];
-      few = λ k below. elim (cases_eq k i) [
-        | inl same ↦
-            let here : get_or (set counts i v) k 0 ≡ v = ap (λ j. get_or (set counts i v) j 0) same ∙ get_or-set_same counts i v 0 within in
-            omega (arith, here, more, c.from.ensures, c.number_len.ensures.few, ap (λ j. get_or old j 0) same)
-        | inr other ↦ omega (arith, get_or-set_other counts i k v 0 other, c.loop-f.invariant.few k (omega (arith, below, other)))
       ];
       later = λ k low high. let other : k ≡ i → ⊥ = λ e. absurd (omega (arith, e, low)) in get_or-set_other counts i k v 0 other ∙ c.loop-f.invariant.later k (omega (arith, low)) high;
     }
