@@ -1,5 +1,6 @@
 pub mod HexDigits
 pub mod Spelled
+pub mod Sums
 pub mod InTwoParts
 pub mod Groups
 pub mod Expanded

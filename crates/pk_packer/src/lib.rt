@@ -16,6 +16,7 @@ mod plain;
 mod row;
 mod rows;
 mod runs;
+mod tally;
 mod writer;
 
 pub use laws::{plain_bitmaps, runs_written, written_examples};

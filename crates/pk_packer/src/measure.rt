@@ -13,6 +13,7 @@ use crate::lengths::Lengths;
 use crate::nybbles::Nybbles;
 use crate::places::row_begin;
 use crate::runs::next_run;
+use crate::tally::Tally;
 use crate::writer::write_run;
 use packed_rows::PackedBitmap;
 use std::alloc::{AllocError as NoMemory, Global};
@@ -25,20 +26,20 @@ pub fn lengths_of(bits: &PackedBitmap, kept: &mut Kept) -> Lengths
     ensures lengths { (f : ℕ) → f < 14 → slice_index result f ≡ length_of bits.now f }
     ensures kept { AreKept kept.new (written_runs (pixel_rows bits.now)) }
 {
-    let mut lengths = Lengths::none();
+    let mut tally = Tally::none();
     if bits.width() == 0 {
-        return lengths;
+        return tally.lengths();
     }
     let mut place = row_begin(bits, 0);
     while let Some(step) = next_run(bits, place) {
-        lengths.add(step.count, step.len);
+        tally.add(step.count, step.len);
         kept.keep(CountedRun {
             count: step.count,
             len: step.len,
         });
         place = step.after;
     }
-    lengths
+    tally.lengths()
 }
 
 /// Runs in nybbles, joined into bytes; `size` is how many bytes to make room for.
