@@ -48,7 +48,7 @@ pub fn row_begin(bits: &PackedBitmap, row: u32) -> Place
     }
     let black = bits.is_black(0, row);
     let end = colour_end(bits, row, 0, black);
-    let copies = copies_below(bits, row, end < bits.width());
+    let copies = copies_below(bits, row, end);
     Place {
         row,
         column: 0,

@@ -1,28 +1,30 @@
 //! Groups of neighbouring equal rows.
 
-ghost use Rattle.std.specs.Prelude.{◌≡◌, ◌+◌, ◌<◌, ◌≤◌, ◌↔◌, ℕ, IsTrue};
+ghost use Rattle.std.specs.Prelude.{◌≡◌, ◌+◌, ◌<◌, ◌≤◌, ◌↔◌, ℕ, IsTrue, nat_lt};
 ghost use Rattle.pk_packer.specs.Places.{AreCopies, row_of};
 ghost use Rattle.pk_packer.specs.Written.{has_both_colours, pixel_rows};
 
 use packed_rows::PackedBitmap;
 
-/// How many rows below a row are copies of it that are not written: none where the row has one
-/// colour.
-pub fn copies_below(bits: &PackedBitmap, y: u32, both_colours: bool) -> u32
+/// How many rows below a row are copies of it that are not written: none where the colour with which
+/// it begins ends only at the row's end.
+pub fn copies_below(bits: &PackedBitmap, y: u32, end: u32) -> u32
     requires inside { y < bits.now.height }
-    requires colours { both_colours ≡ has_both_colours (row_of (pixel_rows bits.now) y) }
+    requires colours { nat_lt end bits.now.width ≡ has_both_colours (row_of (pixel_rows bits.now) y) }
     ensures fit { y + 1 + result ≤ bits.now.height }
     ensures copies { AreCopies (pixel_rows bits.now) y result }
 {
-    if !both_colours {
+    if end >= bits.width() {
         return 0;
     }
-    equal_below(bits, y)
+    equal_below(bits, y, end)
 }
 
-/// How many rows below a row equal it, up to the first that doesn't.
-pub fn equal_below(bits: &PackedBitmap, y: u32) -> u32
+/// How many rows below a row equal it, up to the first that doesn't. Two rows are compared first at
+/// a column where they are likely to differ.
+pub fn equal_below(bits: &PackedBitmap, y: u32, column: u32) -> u32
     requires inside { y < bits.now.height }
+    requires in_row { column < bits.now.width }
     ensures fit { y + 1 + result ≤ bits.now.height }
     ensures same { (k : ℕ) → k < result → row_of (pixel_rows bits.now) (y + 1 + k)
         ≡ row_of (pixel_rows bits.now) y }
@@ -31,17 +33,23 @@ pub fn equal_below(bits: &PackedBitmap, y: u32) -> u32
 {
     let height = bits.height();
     let mut n = 0;
-    while y + 1 + n < height && are_equal(bits, y, y + 1 + n) {
+    while y + 1 + n < height && are_equal(bits, y, y + 1 + n, column) {
         n += 1;
     }
     n
 }
 
-// Whether two rows have the same pixels.
-fn are_equal(bits: &PackedBitmap, y: u32, z: u32) -> bool
+// Whether two rows have the same pixels. They often differ at a column that is known before.
+fn are_equal(bits: &PackedBitmap, y: u32, z: u32, column: u32) -> bool
+    requires in_row { column < bits.now.width }
     requires upper { y < bits.now.height }
     requires lower { z < bits.now.height }
     ensures { IsTrue result ↔ (row_of (pixel_rows bits.now) y ≡ row_of (pixel_rows bits.now) z) }
 {
-    bits.row(y) == bits.row(z)
+    let (upper, lower) = (bits.row(y), bits.row(z));
+    let at = column as usize / 8;
+    if upper[at] != lower[at] {
+        return false;
+    }
+    upper == lower
 }

@@ -1,6 +1,6 @@
 //! Run lengths and repeat counts, written in nybbles.
 
-ghost use Rattle.std.specs.Prelude.{◌≡◌, ◌<◌, ◌≤◌, ◌++◌, ◌∷◌, ◌^◌, [], OnOk};
+ghost use Rattle.std.specs.Prelude.{◌≡◌, ◌<◌, ◌≤◌, ◌++◌, ◌∷◌, ◌^◌, [], OnOk, length};
 ghost use Rattle.std.specs.Int.Digits.{digits_of};
 ghost use Rattle.pk_runs.specs.Numbers.{Run};
 ghost use Rattle.pk_packer.specs.Held.{nybbles_written};
@@ -12,18 +12,20 @@ use crate::numbers::{greatest_short, long_value};
 use crate::nybbles::Nybbles;
 use std::alloc::AllocError as NoMemory;
 
-// Writes the digits of a number, and nothing for 0.
-fn write_digits(out: &mut Nybbles, value: u32) -> Result<(), NoMemory>
+// Writes the digits of a number.
+fn write_digits(out: &mut Nybbles, value: u32, digits: u32) -> Result<(), NoMemory>
+    requires few { digits ≤ 8 }
+    requires digits { digits ≡ length (digits_of 16 value) }
     requires high { out.old.high < 16 }
     ensures written { OnOk result (nybbles_written out.new
         ≡ nybbles_written out.old ++ digits_of 16 value) }
     ensures high { out.new.high < 16 }
 {
-    if value == 0 {
-        return Ok(());
+    for i in 0..digits {
+        let until = value >> (4 * (digits - 1 - i));
+        out.push((until % 16) as u8)?;
     }
-    write_digits(out, value / 16)?;
-    out.push((value % 16) as u8)
+    Ok(())
 }
 
 // Writes a number of more than two nybbles.
@@ -34,11 +36,12 @@ fn write_long(out: &mut Nybbles, value: u32) -> Result<(), NoMemory>
         ≡ nybbles_written out.old ++ long_text value) }
     ensures high { out.new.high < 16 }
 {
-    let zeros = digit_count(value) - 1;
+    let digits = digit_count(value);
+    let zeros = digits - 1;
     for _ in 0..zeros {
         out.push(0)?;
     }
-    write_digits(out, value)
+    write_digits(out, value, digits)
 }
 
 // Writes a number.

@@ -25,12 +25,12 @@ copies_below-copies-requires-clause-colours c =
     let long : length row ≡ r.width = row_long r c.args.row low in
     let black : Bool = c.is_black-black.result in
     let end : ℕ = c.colour_end-end.result in
-    elim (cases_lt c.colour_end-end.result c.width.result) [
+    elim (cases_lt c.colour_end-end.result r.width) [
       | inl within ↦
-          lt-ltb c.colour_end-end.result c.width.result within
-          ∙ sym (two_colours row black r.width end long (omega (arith, within, c.width.ensures.value)) (c.colour_end-end.ensures.same 0 (omega arith) (omega (arith, c.colour_end-end.ensures.some)))
-          (c.colour_end-end.ensures.other (omega (arith, within, c.width.ensures.value))))
+          lt-ltb c.colour_end-end.result r.width within
+          ∙ sym (two_colours row black r.width end long within (c.colour_end-end.ensures.same 0 (omega arith) (omega (arith, c.colour_end-end.ensures.some)))
+          (c.colour_end-end.ensures.other within))
       | inr all ↦
-          le-ltb c.colour_end-end.result c.width.result all
-          ∙ sym (one_colour row black (λ k below. c.colour_end-end.ensures.same k (omega arith) (omega (arith, below, long, all, c.width.ensures.value))))
+          le-ltb c.colour_end-end.result r.width all
+          ∙ sym (one_colour row black (λ k below. c.colour_end-end.ensures.same k (omega arith) (omega (arith, below, long, all))))
     ]
