@@ -70,8 +70,11 @@ pub long_from : (d w : ℕ) → 2 ≤ d → 256 ≤ 16 ^ d → 16 ^ d ≤ w → 
 long_from d w some large low high =
     let less : d + 1 - 1 ≡ d = omega arith in
     let next : d + 1 ≡ suc d = omega arith in
-    omega (arith, length-long_text w (omega (arith, large, low)),
-    digits_exact (d + 1) w (omega arith) (omega (arith, low, ap (λ (j : ℕ). 16 ^ j) less)) (omega (arith, high, large, ap (λ (j : ℕ). 16 ^ j) next, pow-suc 16 d)))
+    omega (
+      arith,
+      length-long_text w (omega (arith, large, low)),
+      digits_exact (d + 1) w (omega arith) (omega (arith, low, ap (λ (j : ℕ). 16 ^ j) less)) (omega (arith, high, large, ap (λ (j : ℕ). 16 ^ j) next, pow-suc 16 d)),
+    )
 
 -- ---- powers
 

@@ -1,8 +1,8 @@
 -- The pixels of the rows of a raster.
-use Rattle.std.proofs.Common.{◌≡◌, ◌∙◌, ◌⊎◌, inl, inr, ℕ, zero, suc, ◌+◌, ◌-◌, ◌<◌, ◌≤◌, Bool, true, false, not, List, [], ◌∷◌, length, get_or, refl, sym, ap, arith}
+use Rattle.std.proofs.Common.{◌≡◌, ◌∙◌, ℕ, zero, suc, ◌<◌, Bool, true, false, not, List, [], ◌∷◌, length, get_or, refl, sym, ap, arith}
 use Rattle.std.specs.List.{list_any}
 use Rattle.std.proofs.Math.Bool.{beq}
-use Rattle.std.proofs.lemmas.Bool.{and_from, cases_lt, and_left, and_right, or_from, or_left, or_right}
+use Rattle.std.proofs.lemmas.Bool.{and_from, and_left, and_right, or_from, or_left, or_right}
 use Rattle.packed_rows.specs.Bitmap.{Bitmap, from_fn, is_black}
 use Rattle.packed_rows.specs.Packing.{pixel, pixels_of, row_text}
 use Rattle.packed_rows.proofs.Lists.{from_fn_same, get_or-from_fn, length-from_fn}

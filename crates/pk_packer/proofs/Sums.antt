@@ -1,5 +1,5 @@
 -- Sums of what a function gives.
-use Rattle.std.proofs.Common.{◌≡◌, ◌∙◌, inl, inr, ℕ, zero, suc, ◌+◌, ◌<◌, ◌≤◌, ◌*◌, ◌^◌, ◌⊎◌, Bool, List, cond, ltb, get_or, set, length, refl, sym, ap, ap₂, arith, get_or-set_other, get_or-set_same}
+use Rattle.std.proofs.Common.{◌≡◌, ◌∙◌, inl, inr, ℕ, zero, suc, ◌+◌, ◌<◌, ◌≤◌, ◌*◌, ◌^◌, ◌⊎◌, cond, ltb, get_or, set, length, refl, sym, ap, ap₂, arith, get_or-set_other, get_or-set_same}
 use Rattle.std.proofs.lemmas.Bool.{cases_eq, cases_lt, cond-false, cond-true, le-ltb, lt-ltb}
 use Rattle.pk_packer.specs.Counts.{nybbles_past, sum_below, taken}
 use Rattle.pk_packer.specs.declared.tally.Tally.{Tally}

@@ -1,4 +1,4 @@
-use Rattle.std.proofs.Common.{◌+◌, ◌*◌, ◌-◌, ◌^◌, ◌<◌, ◌≤◌, ℕ, length, ap, arith}
+use Rattle.std.proofs.Common.{◌+◌, ◌*◌, ◌-◌, ◌^◌, ℕ, length, ap, arith}
 use Rattle.pk_packer.specs.Spelling.{long_text}
 use Rattle.pk_packer.proofs.InTwoParts.{by_turn, less, long_before, long_from, next_power, power_above}
 use Rattle.pk_packer.proofs.numbers.long_counts.Goals as goal

@@ -1,4 +1,4 @@
-use Rattle.std.proofs.Common.{◌≡◌, ◌+◌, ◌-◌, ◌^◌, ◌<◌, ◌≤◌}
+use Rattle.std.proofs.Common.{◌≡◌, ◌-◌, ◌^◌, ◌≤◌}
 use Rattle.pk_packer.proofs.numbers.long_counts.Given as goal
 
 abbrev pub invariant-loop-beyond : goal.invariant-loop-beyond

@@ -1,4 +1,4 @@
-use Rattle.std.proofs.Common.{◌≡◌, ◌∙◌, ℕ, ◌+◌, ◌*◌, ◌-◌, ◌/◌, ◌<◌, sym, ap, length, arith}
+use Rattle.std.proofs.Common.{◌≡◌, ◌∙◌, ◌+◌, ◌*◌, ◌-◌, ◌/◌, sym, ap, length, arith}
 use Rattle.pk_packer.specs.Spelling.{greatest_short, long_text, number_text}
 use Rattle.pk_packer.proofs.InTwoParts.{by_turn, one_long, three_long, two_long}
 use Rattle.pk_packer.proofs.Spelled.{many_nybbles}

@@ -1,4 +1,4 @@
-use Rattle.std.proofs.Common.{◌∙◌, ◌+◌, length, ap, arith}
+use Rattle.std.proofs.Common.{◌∙◌, arith}
 use Rattle.pk_packer.proofs.InTwoParts.{more_by, repeat_long}
 use Rattle.pk_packer.proofs.numbers.repeat_counts.Goals as goal
 

@@ -1,9 +1,7 @@
-use Rattle.std.proofs.Common.{◌≡◌, ◌∙◌, ◌<◌, ◌≤◌, inl, inr, ℕ, false, get_or, sym, ap, arith}
+use Rattle.std.proofs.Common.{◌≡◌, ◌∙◌, inl, inr, sym, ap, arith}
 use Rattle.std.proofs.lemmas.Bool.{cases_lt}
 use Rattle.packed_rows.specs.Bitmap.{Bitmap}
 use Rattle.packed_rows.specs.Packing.{pixel}
-use Rattle.pk_packer.specs.Places.{row_of}
-use Rattle.pk_packer.specs.Written.{pixel_rows}
 use Rattle.pk_packer.proofs.Pixels.{not_itself, pixel_seen}
 use Rattle.pk_packer.proofs.places.colour_end.Goals as goal
 

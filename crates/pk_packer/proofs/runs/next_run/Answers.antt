@@ -1,12 +1,11 @@
-use Rattle.std.proofs.Common.{◌≡◌, ◌∙◌, inl, inr, ℕ, ◌+◌, ◌-◌, ◌<◌, ◌≤◌, Bool, false, not, List, ◌∷◌, drop, get_or, refl, sym, ap, arith}
-use Rattle.std.proofs.lemmas.Bool.{cases_lt}
+use Rattle.std.proofs.Common.{◌≡◌, ◌∙◌, ℕ, ◌+◌, ◌-◌, ◌<◌, ◌≤◌, Bool, false, not, List, ◌∷◌, drop, get_or, refl, sym, ap, arith}
 use Rattle.packed_rows.specs.Bitmap.{Bitmap}
 use Rattle.pk_runs.specs.Numbers.{Run}
 use Rattle.pk_runs.specs.Raster.{colour_after}
 use Rattle.pk_packer.specs.Places.{row_of}
 use Rattle.pk_packer.specs.Written.{first_colour, pixel_rows, with_count, with_rows, written_rows}
 use Rattle.pk_packer.proofs.Pixels.{row_long, rows_high, same_black}
-use Rattle.pk_packer.proofs.Placed.{at, colour_counted, end_from, items_same, passed_in_row, passed_rows, row_passed, rows_skipped, run_lengthened, run_opened}
+use Rattle.pk_packer.proofs.Placed.{at, colour_counted, end_from, items_same, passed_rows, row_passed, rows_skipped, run_lengthened, run_opened}
 use Rattle.pk_packer.proofs.runs.next_run.Goals as goal
 
 pub returns-then-place-height-clause-step : goal.returns-then-place-height-clause-step

@@ -1,5 +1,4 @@
-use Rattle.std.proofs.Common.{◌∙◌, ap, arith}
-use Rattle.pk_packer.proofs.InTwoParts.{few_by}
+use Rattle.std.proofs.Common.{arith}
 use Rattle.pk_packer.proofs.Lengthened.{added_to}
 use Rattle.pk_packer.proofs.tally.Tally.add.Goals as goal
 

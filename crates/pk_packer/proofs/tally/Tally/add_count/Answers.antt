@@ -1,5 +1,4 @@
 use Rattle.std.proofs.Common.{arith}
-use Rattle.pk_packer.proofs.InTwoParts.{few_by}
 use Rattle.pk_packer.proofs.tally.Tally.add_count.Goals as goal
 
 pub returns-clause-added : goal.returns-clause-added
