@@ -2,7 +2,10 @@
 
 use super::histories::{Call, Done};
 use super::prints::Print;
-use super::texts::{SUMMARY_OF_EACH, SUMMARY_OF_HEAVY, SUMMARY_OF_NONE, SUMMARY_OF_ONE, SUMMARY_OF_PAGES, SUMMARY_OF_THREE, TRACE_OF_HEAVY, TRACE_OF_ITSELF, TRACE_OF_ONE, TRACE_OF_THREE};
+use super::texts::{
+    SUMMARY_OF_EACH, SUMMARY_OF_HEAVY, SUMMARY_OF_NONE, SUMMARY_OF_ONE, SUMMARY_OF_PAGES,
+    SUMMARY_OF_THREE, TRACE_OF_HEAVY, TRACE_OF_ITSELF, TRACE_OF_ONE, TRACE_OF_THREE,
+};
 use run_report::Counts;
 
 // A virtual font and its two fonts, which load two, three and three files.

@@ -96,10 +96,22 @@ fn history(
 }
 
 // One font, the two that it is made of, and these again.
-const PAGE: &[Wanted] = &[(b"duo", 3), (b"dot", 2), (b"bar", 4), (b"dot", 2), (b"bar", 4)];
+const PAGE: &[Wanted] = &[
+    (b"duo", 3),
+    (b"dot", 2),
+    (b"bar", 4),
+    (b"dot", 2),
+    (b"bar", 4),
+];
 
 // The three fonts, one as heavy as all of them, and this one again.
-const HEAVY: &[Wanted] = &[(b"duo", 3), (b"dot", 2), (b"bar", 4), (b"big", 9), (b"big", 9)];
+const HEAVY: &[Wanted] = &[
+    (b"duo", 3),
+    (b"dot", 2),
+    (b"bar", 4),
+    (b"big", 9),
+    (b"big", 9),
+];
 
 // One that weighs nothing between two that do.
 const LIGHT: &[Wanted] = &[(b"duo", 3), (b"dot", 0), (b"bar", 4), (b"dot", 0)];

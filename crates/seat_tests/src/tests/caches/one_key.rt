@@ -7,7 +7,11 @@ fn letter(act: &Act) -> char {
         Act::Hit => 'h',
         Act::Claimed => 'c',
         Act::Busy => 'b',
-        Act::Filled { kept: true, gone, .. } if gone.keys().is_empty() => 'f',
+        Act::Filled {
+            kept: true,
+            gone,
+            ..
+        } if gone.keys().is_empty() => 'f',
         Act::Filled { .. } => 'g',
         Act::Released => 'r',
     }
