@@ -137,8 +137,8 @@ pub record Answered {F : Type 0} (task : Task) (reading : Reading) (history : Li
       task.settings.sheet after.pages.items keys
   pub answered : SeatCalls keys (own (place + 1) history)
   -- each font that was handed in has its key's weight
-  pub weighed : AllWeigh (IsWeightOf (setup_of task).library (document_units (setup_of task).res reading))
-      (own (place + 1) history)
+  pub weighed : AllWeigh (IsWeightOf (setup_of task).library
+      (document_units (setup_of task).res reading)) (own (place + 1) history)
   -- the calls of one worker are one list, given these keys and whatever weights of keys its fills
   -- have, unless the source failed (5) or memory ran out (9)
   pub one : task.settings.workers ≡ 1 → WasNotCutOffBy end.status

@@ -12,8 +12,8 @@ use pixel_round::Units;
 use std::alloc::{AllocError as NoMemory, Global};
 
 /// An empty cache for the fonts of a document with these units, and seat 0 of it. The fonts that it
-/// keeps weigh no more bytes than the budget together. `_units` is there for the proof: the units of
-/// the seat's common part.
+/// keeps weigh no more bytes than the budget together. `_units` is there for the proof: the units
+/// of the seat's common part.
 pub fn open_cache<T: Stands>(
     alloc: Global,
     capacity: usize,

@@ -126,8 +126,8 @@ pub fn draw_with_shared_cache<R: Threads + Wait + Sync, F: FontSource + Send, O:
     requires some { 1 ≤ length workers.old }
     requires few { length workers.old ≤ MAX_WORKERS }
     requires sheet { IsDrawable settings.now.sheet }
-    requires opening { IfSome opening (λ made. IsNewBench (cache_limits settings.now) known index.now made.0
-        made.1) }
+    requires opening { IfSome opening (λ made. IsNewBench (cache_limits settings.now) known
+        index.now made.0 made.1) }
     requires fresh { (k : ℕ) (d : _) → k < length workers.old
         → IsFresh F.library known (slice_index_or workers.old k d) }
     requires seatless { (k : ℕ) (d : _) → k < length workers.old

@@ -1,5 +1,5 @@
--- What a font weighs in the font cache: the bytes of its rasters, each row in whole bytes, or of its
--- packets, those of each code once. It is found from what a font answers for each code.
+-- What a font weighs in the font cache: the bytes of its rasters, each row in whole bytes, or of
+-- its packets, those of each code once. It is found from what a font answers for each code.
 use Rattle.std.specs.Prelude.{◌≡◌, ℕ, ◌+◌}
 use Rattle.code_sums.specs.Sums.{sum_of_codes}
 use Rattle.pk_runs.specs.Weights.{raster_bytes}
