@@ -82,7 +82,8 @@ fn counts_of(history: &[Entry]) -> [u32; 6] {
         };
         counts[kind] = counts[kind].saturating_add(1);
         if let Act::Filled { gone, .. } = &entry.act {
-            counts[5] = counts[5].saturating_add(gone.keys().len() as u32);
+            let evicted = u32::try_from(gone.keys().len()).unwrap_or(u32::MAX);
+            counts[5] = counts[5].saturating_add(evicted);
         }
     }
     counts
