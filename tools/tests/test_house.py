@@ -39,10 +39,9 @@ NEIGHBOURS = {
     'crates/packed_rows/src/packed.rt: copy_down',      # a row, and how often
     'crates/gf_reader/src/drawing.rt: move_to',         # rows down, and a column
     'crates/gf_reader/src/head.rt: raster_side',        # a side and the other one
-    'crates/pk_packer/src/lengths.rt: add',             # how many runs, and of which length
+    'crates/pk_packer/src/tally.rt: add',             # how many runs, and of which length
     'crates/pk_packer/src/writer.rt: write_run',        # the same
     'crates/pk_packer/src/row.rt: run_end',             # a column, and the columns of the row
-    'crates/pk_packer/src/row.rt: run_end_or_none',     # as run_end
     'crates/pk_runs/src/given.rt: paint_given',         # the columns of a row, and a place
     'crates/pk_runs/src/numbers.rt: number',            # dyn_f, and a nybble
     'crates/cache_seats/src/pace.rt: steps_from',       # a number, and how many steps from it

@@ -13,7 +13,8 @@ sum_below g (suc n) = sum_below g n + g n
 
 -- what the numbers of each turn take, where the turns below one have passed
 abbrev pub taken : Tally → ℕ → ℕ → ℕ
-taken t passed turn = if nat_lt turn passed then slice_index t.from turn else slice_index t.before turn
+taken t passed turn =
+    if nat_lt turn passed then slice_index t.from turn else slice_index t.before turn
 
 unfoldable pub nybbles_past : Tally → ℕ → ℕ
 nybbles_past t passed = sum_below (taken t passed) 15

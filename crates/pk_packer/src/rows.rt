@@ -6,11 +6,12 @@ ghost use Rattle.pk_packer.specs.Written.{has_both_colours, pixel_rows};
 
 use packed_rows::PackedBitmap;
 
-/// How many rows below a row are copies of it that are not written: none where the colour with which
-/// it begins ends only at the row's end.
+/// How many rows below a row are copies of it that are not written: none where the colour with
+/// which it begins ends only at the row's end.
 pub fn copies_below(bits: &PackedBitmap, y: u32, end: u32) -> u32
     requires inside { y < bits.now.height }
-    requires colours { nat_lt end bits.now.width ≡ has_both_colours (row_of (pixel_rows bits.now) y) }
+    requires colours { nat_lt end bits.now.width
+        ≡ has_both_colours (row_of (pixel_rows bits.now) y) }
     ensures fit { y + 1 + result ≤ bits.now.height }
     ensures copies { AreCopies (pixel_rows bits.now) y result }
 {
