@@ -42,6 +42,7 @@ impl GfFont {
 
     /// The glyph of a code: that of the last character with it. `None` where no character has the
     /// code.
+    #[inline(always)]
     pub fn glyph(&self, c: u32) -> Option<&Glyph>
         ensures { MatchOption result (glyph_of self.now c ≡ None)
             (λ g. glyph_of self.now c ≡ Some g.now) }

@@ -41,6 +41,7 @@ impl PkFont {
     }
 
     /// The glyph of a code: that of the last packet with it. `None` where no packet has the code.
+    #[inline(always)]
     pub fn glyph(&self, c: u32) -> Option<&Glyph>
         ensures { MatchOption result (glyph_of self.now c ≡ None)
             (λ g. glyph_of self.now c ≡ Some g.now) }

@@ -68,6 +68,7 @@ impl GlyphMap {
     }
 
     /// The glyph of a code, or `None` where it has none.
+    #[inline(always)]
     pub fn get(&self, c: u32) -> Option<&Glyph>
         ensures { MatchOption result (glyph_of self.now c ≡ None)
             (λ g. glyph_of self.now c ≡ Some g.now) }
