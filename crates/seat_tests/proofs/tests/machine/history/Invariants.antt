@@ -1,5 +1,5 @@
 use Rattle.std.proofs.Common.{◌≡◌, []}
 use Rattle.seat_tests.proofs.tests.machine.history.Given as goal
 
-abbrev pub invariant-loop-name : goal.invariant-loop-name
-invariant-loop-name l = record { idle : l.state.claims ≡ [] }
+abbrev pub invariant-loop-wanted : goal.invariant-loop-wanted
+invariant-loop-wanted l = record { idle : l.state.claims ≡ [] }
