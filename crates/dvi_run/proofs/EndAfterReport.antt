@@ -17,7 +17,7 @@ use Rattle.dvi_run.specs.Lines.{line_of}
 use Rattle.dvi_run.specs.Report.{report_text, trace_and_summary}
 use Rattle.dvi_run.specs.Tally.{CountsTo, TallyMatchesRun}
 use Rattle.dvi_run.specs.Sampled.{UsesTheSample}
-use Rattle.dvi_run.specs.Outside.{Drawing, Task}
+use Rattle.dvi_run.specs.Outside.{Drawing, Task, setup_of}
 use Rattle.dvi_run.specs.Looked.{MayBreakOff}
 use Rattle.dvi_run.specs.Together.{Answered, run_end, GaveUpOnlyBroken, WorkersAreDone, PagesMatchHistory, IsOneHistory, WorkerDone}
 use Rattle.dvi_run.specs.declared.ending.Ending.{Ending}
@@ -25,6 +25,7 @@ use Rattle.dvi_run.specs.declared.ending.Ending.TheVariants as code
 use Rattle.command_line.specs.declared.settings.Settings.{Settings}
 use Rattle.dvi_run.specs.declared.tally.Tally.{Tally}
 use Rattle.dvi_run.proofs.Clauses.{AtPage, at_page, of_each}
+use Rattle.dvi_run.proofs.FilesLoaded.{loads_as}
 use Rattle.dvi_run.proofs.Looks.{broken_as}
 
 -- ---- how it ended
@@ -185,6 +186,7 @@ module _ {F : Type 0} (task : Task) (drawing : Drawing F) (tally : Option Tally)
     through = λ is. a.through (inl (inl refl));
     answered = a.answered;
     weighed = a.weighed;
+    loads = loads_as (setup_of task) reading _ _ (own (k + 1) drawing.history) w.loads (λ is. inl (inl refl)) a.loads;
     one = λ single unbroken. a.one single (λ is. cc, λ is. cc);
   }
 

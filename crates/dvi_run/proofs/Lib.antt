@@ -17,6 +17,7 @@ pub mod Pressed
 pub mod RoundsInProgress
 pub mod WorkersAfterRounds
 pub mod RoundPressed
+pub mod FilesLoaded
 pub mod WorkerSeats
 pub mod PromisesKept
 pub mod CountedPages

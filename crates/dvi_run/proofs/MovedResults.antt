@@ -15,10 +15,10 @@ use Rattle.command_line.specs.declared.settings.Settings.{Settings}
 use Rattle.dvi_run.specs.Pages.{finding, setup_with}
 use Rattle.dvi_run.specs.Endings.{EndingValue, status_of}
 use Rattle.dvi_run.specs.Looked.{BrokenLooks, EndsBroken, MayBreakOff, WholeLooks}
-use Rattle.dvi_run.specs.Rounds.{indexed_of}
+use Rattle.dvi_run.specs.Rounds.{LoadsAreOf, indexed_of}
 use Rattle.dvi_run.specs.Sampled.{SourcesAreKept, TookResults}
 use Rattle.dvi_run.specs.Outside.{Drawing, Sources, StreamChange, task_for_sample}
-use Rattle.dvi_run.specs.Together.{Answered, run_end, GaveUpOnlyBroken, WorkersAreDone, PagesMatchHistory, IsReadyWorker, RestIsKept, SomeUsed, SourceRose, WorkerDone}
+use Rattle.dvi_run.specs.Together.{Answered, EveryPageCameToItsEndBy, run_end, GaveUpOnlyBroken, WorkersAreDone, PagesMatchHistory, IsReadyWorker, RestIsKept, SomeUsed, SourceRose, WorkerDone}
 use Rattle.dvi_run.specs.declared.tally.Tally.{Tally}
 use Rattle.dvi_run.specs.Shares.{PartitionPages}
 use Rattle.dvi_run.proofs.Shares.{shared_as}
@@ -73,6 +73,7 @@ module _ {F G : Type 0} (mine : Worker G) (was now : Worker F) (h : TookResults 
         through = λ is. subst (λ (ps : List ℕ). WholeLooks (finding g reading) (indexed_of g reading) g.sheet ps a.keys) (sym h.pages) (a.through is);
         answered = a.answered;
         weighed = a.weighed;
+        loads = subst (λ (n : ℕ). LoadsAreOf (EveryPageCameToItsEndBy settings.workers status) g reading (own (k + 1) history) n) (sym h.loads) a.loads;
         one = a.one;
       }
 

@@ -1,6 +1,6 @@
 -- What runs by one worker have in common.
 use Rattle.std.proofs.Common.{◌≡◌, ◌⊎◌, inl, inr, ℕ, zero, suc, ◌+◌, ◌-◌, ◌<◌, ◌≤◌, Bool, true, false, List, [], ◌∷◌, ◌++◌, length, take, get_or, Option, Some, None, refl, sym, ap, ap₂, subst, ◌∙◌, append-nil, arith}
-use Rattle.std.specs.Prelude.{Contains}
+use Rattle.std.specs.Prelude.{Contains, IfSome, ◌^◌, min}
 use Rattle.std.specs.List.{sum_by}
 use Rattle.std.specs.List.Sorted.{IsStrictlyIncreasing}
 use Rattle.std.proofs.lemmas.Bool.{cases_lt}
@@ -11,7 +11,8 @@ use Rattle.outside.specs.declared.keys.FontKey.{FontKey}
 use Rattle.cache_core.specs.declared.calls.Call.{Call}
 use Rattle.cache_core.specs.Histories.{AllWeigh, SeatCalls, WeighSo, own}
 use Rattle.cache_core.specs.Solo.{solo_history}
-use Rattle.cache_core.proofs.Weights.{weigh_first, weigh_joined, weigh_second, weight_there}
+use Rattle.cache_core.proofs.Weights.{weigh_as, weigh_first, weigh_joined, weigh_second, weight_there}
+use Rattle.font_decode.specs.Desks.{LoadedFiles, files_loaded, misses}
 use Rattle.font_decode.specs.Weights.{IsWeightOf, OneWeightInALibrary}
 use Rattle.pixel_round.specs.declared.units.Units.{Units}
 use Rattle.packed_rows.specs.Bitmap.{Bitmap}
@@ -19,6 +20,7 @@ use Rattle.packed_rows.specs.Changes.{black_count}
 use Rattle.page_index.specs.Document.{Reading, pages_begun}
 use Rattle.page_index.specs.Pages.{document_units}
 use Rattle.page_draw.specs.Laws.{PagesHaveOneValue}
+use Rattle.page_workers.specs.declared.worker.Worker.{Worker}
 use Rattle.page_draw.specs.Values.{PageValue}
 use Rattle.run_report.specs.Summary.{summary_text}
 use Rattle.run_report.specs.Trace.{trace_text}
@@ -30,10 +32,11 @@ use Rattle.dvi_run.specs.Endings.{EndingValue, Written, Usage, Document, Page, S
 use Rattle.dvi_run.specs.Laws.{OneReading, OneRun}
 use Rattle.dvi_run.specs.Lines.{line_of, page_line}
 use Rattle.dvi_run.specs.Looked.{WasNotCutOffBy, WholeLooks}
-use Rattle.dvi_run.specs.OneWorker.{IsByItsPages, RunsOfOneWorkerAreAlike, page_named}
+use Rattle.dvi_run.specs.OneWorker.{IsByItsPages, OneWorkerHasOneHistory, RunsOfOneWorkerAreAlike, page_named}
 use Rattle.dvi_run.specs.Outside.{setup_of}
-use Rattle.dvi_run.specs.Report.{counts_of, if_asked, report_text}
-use Rattle.dvi_run.specs.Rounds.{indexed_of}
+use Rattle.dvi_run.specs.Together.{EveryPageCameToItsEndBy}
+use Rattle.dvi_run.specs.Report.{counts_of, if_asked, loads_of, report_text}
+use Rattle.dvi_run.specs.Rounds.{LoadsAreOf, indexed_of}
 use Rattle.dvi_run.specs.Shares.{ArePartitioned, DrewUpTo, WorkersDrew}
 use Rattle.dvi_run.specs.Tally.{TallyMatches, TallyMatchesRun}
 use Rattle.dvi_run.specs.declared.tally.Tally.{Tally}
@@ -186,23 +189,13 @@ asked_alike : (b : Bool) (x y : List ℕ) → (b ≡ true → x ≡ y) → if_as
 asked_alike true x y same = same refl
 asked_alike false x y same = refl
 
-not_asked : (b : Bool) → b ≡ true → b ≡ false → ⊥
-not_asked b asked plain = let e : true ≡ false = sym asked ∙ plain in cc
-
-module _ (settings : Settings) (t u : Tally) (loads n : ℕ) (history calls : List Call) (e f : EndingValue) (pages : t.pages ≡ u.pages) (black : settings.summary ≡ true → t.black ≡ u.black) (same : history ≡ calls) (line : line_of e ≡ line_of f)
-    (alike : (loads ≡ n) ⊎ (settings.summary ≡ false)) where
-  loads_alike : settings.summary ≡ true → loads ≡ n
-  loads_alike asked = elim alike [
-    | inl as_many ↦ as_many
-    | inr plain ↦ absurd (not_asked settings.summary asked plain)
-  ]
-
+module _ (settings : Settings) (t u : Tally) (loads n : ℕ) (history calls : List Call) (e f : EndingValue) (pages : t.pages ≡ u.pages) (black : settings.summary ≡ true → t.black ≡ u.black) (same : history ≡ calls) (line : line_of e ≡ line_of f) (alike : loads ≡ n) where
   abbrev counts : ℕ → ℕ → ℕ → Counts
   counts p l b = record { pages = p; loads = l; black = b }
 
   counts_alike : settings.summary ≡ true → counts_of t loads ≡ counts_of u n
   counts_alike asked =
-      ap (λ (p : ℕ). counts p loads t.black) pages ∙ (ap (λ (l : ℕ). counts u.pages l t.black) (loads_alike asked) ∙ ap (λ (b : ℕ). counts u.pages n b) (black asked))
+      ap (λ (p : ℕ). counts p loads t.black) pages ∙ (ap (λ (l : ℕ). counts u.pages l t.black) alike ∙ ap (λ (b : ℕ). counts u.pages n b) (black asked))
 
   summary_alike : if_asked settings.summary (summary_text (counts_of t loads) history) ≡ if_asked settings.summary (summary_text (counts_of u n) calls)
   summary_alike = asked_alike settings.summary (summary_text (counts_of t loads) history) (summary_text (counts_of u n) calls) (λ asked. ap₂ summary_text (counts_alike asked) same)
@@ -275,8 +268,32 @@ weigh_alike one g files known r (page ∷ pages) keys xs ys looked for_xs for_ys
     let there = weight_there Here (one files u) (xs ++ ys) (weigh_joined Here xs ys (here xs p) (here ys q)) in
     (there.0, weigh_first _ xs ys there.1, weigh_second _ xs ys there.1)
 
+-- ---- the loads
+
+-- the same pages, look-ups and calls have as many loads
+same_loads : (V W : Type 0) (v : V) (w : W) (g : Setup) (files : FileTable) (known : g.library ≡ Some files) (r : Reading) (pages : List ℕ) (keys : List FontKey) (calls : List Call) (m n : ℕ) → WholeLooks (finding g r) (indexed_of g r) g.sheet pages keys
+    → SeatCalls keys calls → LoadsAreOf V g r calls m → LoadsAreOf W g r calls n → m ≡ n
+same_loads V W v w g files known r [] keys calls m n none for_keys a b =
+    let no_call : calls ≡ [] = subst (λ (ks : List FontKey). SeatCalls ks calls) none for_keys in
+    let no_miss : misses calls ≡ 0 = ap misses no_call in
+    let few = a.few in
+    let also = b.few in
+    omega (arith, no_miss, few, also)
+same_loads V W v w g files known r (page ∷ pages) keys calls m n looked for_keys a b =
+    let u = looked.3.1.units in
+    let is : document_units g.res r ≡ Some u = looked.3.1.of_document in
+    let just : (X : Type 0) (x : X) (k : ℕ) → LoadsAreOf X g r calls k → k ≡ min (0 + files_loaded files u calls) (2 ^ 64 - 1) =
+    λ X x k h.
+    (subst (λ (o : Option Units). IfSome o (λ y. LoadedFiles X (files_loaded files y calls) 0 k)) is
+    (subst (λ (o : Option FileTable). IfSome o (λ l. IfSome (document_units g.res r) (λ y. LoadedFiles X (files_loaded l y calls) 0 k))) known h.files)).just x (omega arith) in
+    just V v m a ∙ sym (just W w n b)
+
+one_loads : {F : Type 0} (ws : List (Worker F)) (d : Worker F) → 1 ≤ length ws → loads_of 1 ws ≡ (get_or ws 0 d).loads
+one_loads [] d long = absurd (omega (arith, long))
+one_loads (x ∷ ws) d long = omega arith
+
 pub one_worker : (F G : Type 0) → OneReading → OneRun → PagesHaveOneValue → OneWeightInALibrary → RunsOfOneWorkerAreAlike F G
-one_worker F G reading one law weights task files bytes output other before after was now history calls e f tally t loads n single known long size by also a b =
+one_worker F G reading one law weights task files bytes output other before after was now history calls e f tally t single known long size by also a b =
     let g = setup_of task in
     let x = fault_is output.before output.after a.0 a.1 e by a.3.0 in
     let y = fault_is other.before other.after b.0 b.1 f also b.3.0 in
@@ -302,6 +319,12 @@ one_worker F G reading one law weights task files bytes output other before afte
     let w = weigh_alike weights g files known b.0 (get_or now 0 c).pages.items q.keys (own 1 history) (own 1 calls) others (subst (λ (ks : List FontKey). SeatCalls ks (own 1 history)) keys p.answered) q.answered
     (subst (λ (r : Reading). AllWeigh (IsWeightOf g.library (document_units g.res r)) (own 1 history)) same p.weighed) q.weighed in
     let calls_are : history ≡ calls = p.one single (not_cut_off e by) w.0 w.1 ∙ (ap (solo_history (cache_limits task.settings) 1 w.0) keys ∙ sym (q.one single (not_cut_off f also) w.0 w.2)) in
+    let own_alike : own 1 history ≡ own 1 calls = ap (own 1) calls_are in
+    let loads_are : (get_or after 0 d).loads ≡ (get_or now 0 c).loads =
+    same_loads _ _ (inr (single, not_cut_off e by)) (inr (single, not_cut_off f also)) g files known b.0 (get_or now 0 c).pages.items q.keys (own 1 calls) (get_or after 0 d).loads (get_or now 0 c).loads others q.answered
+    (subst (λ (cs : List Call). LoadsAreOf (EveryPageCameToItsEndBy task.settings.workers (status_of e)) g b.0 cs (get_or after 0 d).loads) own_alike
+    (subst (λ (r : Reading). LoadsAreOf (EveryPageCameToItsEndBy task.settings.workers (status_of e)) g r (own 1 history) (get_or after 0 d).loads) same p.loads)) q.loads in
+    let loads : loads_of 1 after ≡ loads_of 1 now = one_loads after d long ∙ (loads_are ∙ sym (one_loads now c size)) in
     let ta = tally_there task.settings.summary output.before output.after history tally e a.1 by a.3.1 in
     let tb = tally_there task.settings.summary other.before other.after calls t f b.1 also b.3.1 in
     let whole : whole_pages a.1 ≡ whole_pages b.1 =
@@ -314,8 +337,16 @@ one_worker F G reading one law weights task files bytes output other before afte
     let line : line_of e ≡ line_of f = line_is e by ∙ (ap line_by end ∙ sym (line_is f also)) in (
       end,
       calls_are,
-      λ alike.
-          subst (λ (o : Option Tally). report_text task.settings o loads history e ≡ report_text task.settings t n calls f) (sym ta.1)
-          (subst (λ (o : Option Tally). report_text task.settings (Some ta.0) loads history e ≡ report_text task.settings o n calls f) (sym tb.1)
-          (report_alike task.settings ta.0 tb.0 loads n history calls e f count black calls_are line alike)),
+      loads,
+      subst (λ (o : Option Tally). report_text task.settings o (loads_of 1 after) history e ≡ report_text task.settings t (loads_of 1 now) calls f) (sym ta.1)
+          (subst (λ (o : Option Tally). report_text task.settings (Some ta.0) (loads_of 1 after) history e ≡ report_text task.settings o (loads_of 1 now) calls f) (sym tb.1)
+          (report_alike task.settings ta.0 tb.0 (loads_of 1 after) (loads_of 1 now) history calls e f count black calls_are line loads)),
     )
+
+-- ---- the history by the weights of keys
+
+pub one_history_by : (F : Type 0) → OneWeightInALibrary → OneWorkerHasOneHistory F
+one_history_by F one task files reading history end after units weight single unbroken known is weighs drew =
+    let so : AllWeigh (IsWeightOf (Some files) (Some units)) (own 1 history) =
+    subst (λ (o : Option Units). AllWeigh (IsWeightOf (Some files) o) (own 1 history)) is (subst (λ (o : Option FileTable). AllWeigh (IsWeightOf o (document_units (setup_of task).res reading)) (own 1 history)) known drew.weighed) in
+    drew.one single unbroken weight (weigh_as (IsWeightOf (Some files) (Some units)) (λ k w. w ≡ weight k) (λ k w h. one files units k w (weight k) h (weighs k)) (own 1 history) so)

@@ -29,6 +29,7 @@ use Rattle.dvi_run.specs.Tally.{CountsTo, HadCache, TallyMatchesRun}
 use Rattle.command_line.specs.declared.settings.Settings.{Settings}
 use Rattle.dvi_run.specs.declared.tally.Tally.{Tally}
 use Rattle.dvi_run.specs.Rounds.{FailedAt, WorkerRan}
+use Rattle.dvi_run.proofs.FilesLoaded.{loads_as}
 use Rattle.dvi_run.proofs.Clauses.{AtPage, at_page, ends_late}
 use Rattle.page_workers.specs.Seating.{IsUnused}
 use Rattle.dvi_run.proofs.Shares.{none_shared, shared_as}
@@ -196,6 +197,7 @@ module _ {F : Type 0} (known : Option FileTable) (settings : Settings) (sources 
       through = λ h. ran.drawn_out (to_its_end_by settings.workers e h);
       answered = ran.answered;
       weighed = ran.weighed;
+      loads = loads_as (setup_with known settings) reading _ _ (own (k + 1) history) after.loads (λ h. to_its_end_by settings.workers e h) ran.loads_are;
       one = solo;
     }
 

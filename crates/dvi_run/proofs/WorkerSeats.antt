@@ -11,7 +11,7 @@ use Rattle.page_index.specs.Pages.{document_units}
 use Rattle.turn_lock.specs.Seats.{SeatView}
 use Rattle.pixel_round.specs.Preamble.{AreUnits}
 use Rattle.pixel_round.specs.declared.units.Units.{Units}
-use Rattle.font_decode.specs.Desks.{Trail, TrailGrew, SeatAnsweredFor, ReleasedLast, Loaded, misses}
+use Rattle.font_decode.specs.Desks.{Trail, TrailGrew, SeatAnsweredFor, ReleasedLast, Loaded, LoadedFiles, files_loaded, misses}
 use Rattle.font_decode.specs.Loads.{MAX_LOADS}
 use Rattle.font_decode.specs.Weights.{IsWeightOf}
 use Rattle.page_workers.specs.declared.worker.Worker.{Worker}
@@ -21,7 +21,8 @@ use Rattle.page_workers.specs.SparePages.{HasNoSparePages}
 use Rattle.page_workers.specs.Rounds.{trail_of}
 use Rattle.dvi_run.specs.Pages.{Setup, finding}
 use Rattle.dvi_run.specs.Looked.{WholeLooks, BrokenLooks}
-use Rattle.dvi_run.specs.Rounds.{Site, AfterRounds, MayBegin, IsFresh, WorkerRan, keys_of, indexed_of, Trails}
+use Rattle.dvi_run.specs.Rounds.{Site, AfterRounds, LoadsAreOf, MayBegin, IsFresh, WorkerRan, keys_of, indexed_of, Trails}
+use Rattle.dvi_run.proofs.FilesLoaded.{loads_settled, no_loads}
 
 module _ {F : Type 0} (s : Site F) (part : Common) (known : part.library ≡ s.given.library) (same_units : part.units ≡ s.bench.units)
     (of_document : document_units s.given.res s.reading ≡ Some s.bench.units) (sound : AreUnits s.bench.units) (k : ℕ) (w start : Worker F) (fresh : IsFresh s.library s.given.library w)
@@ -63,13 +64,33 @@ module _ {F : Type 0} (s : Site F) (part : Common) (known : part.library ≡ s.g
   }
 
   -- where each page had a bitmap, no claim was given up
-  pub none_released : (now : Worker F) → Trails s (Unit {0}) start now → (t : SeatView) → now.seat ≡ Some t → NoneReleased (own_calls t)
+  none_released : (now : Worker F) → Trails s (Unit {0}) start now → (t : SeatView) → now.seat ≡ Some t → NoneReleased (own_calls t)
   none_released now trail t is =
       let h = subst (λ (o : Option SeatView). TrailGrew (Unit {0}) (asked_at (Some seated.seat)) (asked_at o) (trail_at (s.loads start.source) start.loads (Some seated.seat)) (trail_at (s.loads now.source) now.loads o)) is
       (subst (λ (o : Option SeatView). TrailGrew (Unit {0}) (asked_at o) (asked_at now.seat) (trail_at (s.loads start.source) start.loads o) (trail_of s.loads now)) seated.is trail) in
       let known : h.0 ≡ record { seat = t.view.number; part = t.view.part; calls = own_calls t; loads = s.loads now.source; counted = now.loads } = cc h.1 in
       let grew : own_calls t ≡ h.2.answers.calls = sym (ap (λ (x : Trail). x.calls) known) ∙ h.2.answers.grew ∙ ap (λ (l : List Call). l ++ h.2.answers.calls) seated.new.no_call in
       subst NoneReleased (sym grew) (h.2.answers.answered tt)
+
+  -- what was loaded for these calls
+  loads_in : (W : Type 0) (now : Worker F) → Trails s W start now → (t : SeatView) → now.seat ≡ Some t → LoadsAreOf W s.given s.reading (own_calls t) now.loads
+  loads_in W now trail t is =
+      let h = subst (λ (o : Option SeatView). TrailGrew W (asked_at (Some seated.seat)) (asked_at o) (trail_at (s.loads start.source) start.loads (Some seated.seat)) (trail_at (s.loads now.source) now.loads o)) is
+      (subst (λ (o : Option SeatView). TrailGrew W (asked_at o) (asked_at now.seat) (trail_at (s.loads start.source) start.loads o) (trail_of s.loads now)) seated.is trail) in
+      let there : h.0 ≡ record { seat = t.view.number; part = t.view.part; calls = own_calls t; loads = s.loads now.source; counted = now.loads } = cc h.1 in
+      let a = h.2.answers in
+      let grew : own_calls t ≡ a.calls = sym (ap (λ (x : Trail). x.calls) there) ∙ a.grew ∙ ap (λ (l : List Call). l ++ a.calls) seated.new.no_call in
+      let counted : h.0.counted ≡ now.loads = ap (λ (x : Trail). x.counted) there in
+      let begun : start.loads ≡ 0 = seated.same.loads ∙ fresh.loads in
+      let all : LoadsAreOf W s.given s.reading a.calls h.0.counted = record {
+        few = let most = a.loaded.counted.most in omega (arith, most, begun);
+        files =
+            subst (λ (n : ℕ). IfSome s.given.library (λ l. IfSome (document_units s.given.res s.reading) (λ u. LoadedFiles W (files_loaded l u a.calls) n h.0.counted))) begun
+            (subst (λ (o : Option FileTable). IfSome o (λ l. IfSome (document_units s.given.res s.reading) (λ u. LoadedFiles W (files_loaded l u a.calls) start.loads h.0.counted))) (ap (λ (p : Common). p.library) seated.new.part ∙ known)
+            (subst (λ (v : Option Units). IfSome seated.seat.view.part.library (λ l. IfSome v (λ u. LoadedFiles W (files_loaded l u a.calls) start.loads h.0.counted)))
+            (ap (λ (p : Common). Some p.units) seated.new.part ∙ ap Some same_units ∙ sym of_document) a.files));
+      } in
+      subst (λ (l : List Call). LoadsAreOf W s.given s.reading l now.loads) (sym grew) (subst (λ (n : ℕ). LoadsAreOf W s.given s.reading a.calls n) counted all)
 
   -- ---- at the end
 
@@ -134,7 +155,7 @@ module _ {F : Type 0} (s : Site F) (part : Common) (known : part.library ≡ s.g
           subst (λ (x : F). IfSome s.given.library (λ l. s.library x ≡ Some l)) (sym source)
           (subst (λ (o : Option FileTable). IfSome o (λ l. s.library now.source ≡ Some l)) told_here fits.knows_library)
 
-      pub ran : (Whole : Type 0) → (Whole → NoneReleased (own_calls t))
+      pub ran : (Whole : Type 0) → (Whole → Trails s (Unit {0}) start now)
           → (Whole → WholeLooks (finding s.given s.reading) (indexed_of s.given s.reading) s.given.sheet now.pages.items (keys_of now.seat)) → WorkerRan MayBreak Whole s.library s.faults s.loads s.given s.reading history k w after
       ran Whole settled through = record {
         seat = none;
@@ -148,7 +169,7 @@ module _ {F : Type 0} (s : Site F) (part : Common) (known : part.library ≡ s.g
         answered = subst (λ (l : List Call). SeatCalls answers.keys l) (sym own_here) answers.answers.for_keys;
         weighed = weighed_here;
         last = subst ReleasedLast (sym own_here) answers.answers.last;
-        whole = λ e. subst NoneReleased (sym left) (settled e);
+        whole = λ e. subst NoneReleased (sym left) (none_released now (settled e) t is);
         drawn_out = λ e.
             subst (λ (ps : List ℕ). WholeLooks (finding s.given s.reading) (indexed_of s.given s.reading) s.given.sheet ps answers.keys) (sym pages)
             (subst (λ (ks : List FontKey). WholeLooks (finding s.given s.reading) (indexed_of s.given s.reading) s.given.sheet now.pages.items ks) keys_here (through e));
@@ -158,6 +179,9 @@ module _ {F : Type 0} (s : Site F) (part : Common) (known : part.library ≡ s.g
             (subst (λ (x : F). Loaded (MAX_LOADS * misses answers.answers.calls) (s.loads x) (s.loads now.source) w.loads after.loads) seated.same.source
             (subst (λ (n : ℕ). Loaded (MAX_LOADS * misses answers.answers.calls) (s.loads start.source) (s.loads now.source) w.loads n) (sym loads)
             (subst (λ (n : ℕ). Loaded (MAX_LOADS * misses answers.answers.calls) (s.loads start.source) (s.loads now.source) n now.loads) seated.same.loads answers.answers.loaded))));
+        loads_are =
+            subst (λ (l : List Call). LoadsAreOf Whole s.given s.reading l after.loads) (sym left) (subst (λ (n : ℕ). LoadsAreOf Whole s.given s.reading (own_calls t) n) (sym loads)
+            (loads_settled s.given s.reading Whole (own_calls t) now.loads (loads_in ⊥ now ended.trail t is) (λ e. loads_in (Unit {0}) now (settled e) t is)));
       }
 
   leaves : (MayBreak : ℕ → Type 0) (now : Worker F) (ended : AfterRounds s MayBreak start now) (o : Option SeatView) → now.seat ≡ o → BenchFits (s.library now.source) s.bench o → MayLeave s.bench.cache k now
@@ -190,4 +214,5 @@ unused library faults loads g reading number w fresh none MayBreak Whole = recor
     counted = record { most = omega arith; never_falls = omega arith };
     same = λ low. omega arith;
   };
+  loads_are = no_loads g reading Whole w.loads fresh.loads;
 }

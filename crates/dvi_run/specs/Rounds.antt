@@ -15,7 +15,7 @@ use Rattle.turn_lock.specs.Views.{opening_view}
 use Rattle.cache_core.specs.declared.calls.Call.{Call}
 use Rattle.cache_core.specs.declared.limits.Limits.{Limits}
 use Rattle.cache_core.specs.Histories.{AllWeigh, own, SeatCalls, NoneReleased, looks}
-use Rattle.font_decode.specs.Desks.{TrailGrew, ReleasedLast, Loaded, misses}
+use Rattle.font_decode.specs.Desks.{TrailGrew, ReleasedLast, Loaded, LoadedFiles, files_loaded, misses}
 use Rattle.font_decode.specs.Loads.{MAX_LOADS}
 use Rattle.font_decode.specs.Weights.{IsWeightOf}
 use Rattle.vf_expand.specs.Faults.{value_of_fault}
@@ -172,6 +172,15 @@ pub record IsFresh {F : Type 0} (library : F → Option FileTable) (known : Opti
   pub loads : w.loads ≡ 0
   pub pages : w.pages.items ≡ []
 
+-- The loads of a worker that began with none, by its calls: at most eight for each look that was no
+-- hit. Where the library is known they are no more than the files that these look for, and where
+-- each page came to its end just these.
+pub record LoadsAreOf (Whole : Type 0) (g : Setup) (reading : Reading) (calls : List Call)
+    (loads : ℕ) : Type 0 where
+  pub few : loads ≤ MAX_LOADS * misses calls
+  pub files : IfSome g.library (λ l. IfSome (document_units g.res reading) (λ u.
+      LoadedFiles Whole (files_loaded l u calls) 0 loads))
+
 -- what a worker did in a run, by the calls of its seat in the history: they answer the look-ups of
 -- the pages that it drew, of which only the last may have been broken off, where it may have been;
 -- each font that it handed in has its key's weight; a claim is given up at their end alone, and
@@ -201,3 +210,4 @@ pub record WorkerRan {F : Type 0} (MayBreak : ℕ → Type 0) (Whole : Type 0)
       g.sheet after.pages.items keys
   pub loaded : Loaded (MAX_LOADS * misses (own number history)) (loads before.source)
       (loads after.source) before.loads after.loads
+  pub loads_are : LoadsAreOf Whole g reading (own number history) after.loads

@@ -22,7 +22,7 @@ use Rattle.dvi_run.specs.CacheLimits.{cache_limits}
 use Rattle.dvi_run.specs.Pages.{AreValues, finding}
 use Rattle.dvi_run.specs.Endings.{EndingValue, Source, EndsPages, IsAmong, HoldsOfDocument, WroteAll, status_of}
 use Rattle.dvi_run.specs.Looked.{BrokenLooks, EndsBroken, EveryPageCameToItsEnd, IsIdle, MayBreakOff, WasNotCutOffBy, WholeLooks}
-use Rattle.dvi_run.specs.Rounds.{FailedAt, IsFresh, WorkerRan, indexed_of}
+use Rattle.dvi_run.specs.Rounds.{FailedAt, IsFresh, LoadsAreOf, WorkerRan, indexed_of}
 use Rattle.dvi_run.specs.Shares.{PartitionPages, WorkersDrew}
 use Rattle.dvi_run.specs.Tally.{CountsTo, TallyMatchesRun}
 use Rattle.dvi_run.specs.Sampled.{LoadedForSample}
@@ -139,6 +139,9 @@ pub record Answered {F : Type 0} (task : Task) (reading : Reading) (history : Li
   -- each font that was handed in has its key's weight
   pub weighed : AllWeigh (IsWeightOf (setup_of task).library
       (document_units (setup_of task).res reading)) (own (place + 1) history)
+  -- it loaded what its look-ups looked for
+  pub loads : LoadsAreOf (EveryPageCameToItsEndBy task.settings.workers end.status) (setup_of task)
+      reading (own (place + 1) history) after.loads
   -- the calls of one worker are one list, given these keys and whatever weights of keys its fills
   -- have, unless the source failed (5) or memory ran out (9)
   pub one : task.settings.workers ≡ 1 → WasNotCutOffBy end.status

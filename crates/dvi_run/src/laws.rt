@@ -1,6 +1,6 @@
 //! Laws over the definitions, each a clause of a function without a body.
 ghost use Rattle.dvi_run.specs.Examples.{DocumentLines, GoodEndsAreSilent, PageLines, ShortLines};
-ghost use Rattle.dvi_run.specs.OneWorker.{RunsOfOneWorkerAreAlike};
+ghost use Rattle.dvi_run.specs.OneWorker.{OneWorkerHasOneHistory, RunsOfOneWorkerAreAlike};
 ghost use Rattle.dvi_run.specs.Laws.{EachDocumentHasOneRun, EachPageHasItsEop, FaultsEndTheRun, GoodRunsWriteAlike, OneReading, OneRun, PagesAreShared, RunsEndAtTheFirstFault, RunsHavePrefixes, RunsHaveNoFault, RunsOfGoodPages, SamplesAreReadWhole, StoppedRunsWriteAlike};
 
 use outside::FontSource;
@@ -32,11 +32,12 @@ pub fn runs()
 }
 
 /// Two runs by one worker over the same document, for the same settings and known font files, that
-/// end well or at a page end alike: at the same page, with one history of the cache's calls, and
-/// with one report, where their loads are as many or no summary is asked for. `F` and `G` are the
-/// workers' sources.
+/// end well or at a page end alike: at the same page, with one history of the cache's calls, as
+/// many loads and one report. The history is given by the keys that the pages look up and by what
+/// each key's font weighs in the library. `F` and `G` are the workers' sources.
 pub fn one_worker<F: FontSource, G: FontSource>()
-    ensures { RunsOfOneWorkerAreAlike F G }
+    ensures alike { RunsOfOneWorkerAreAlike F G }
+    ensures history { OneWorkerHasOneHistory F }
 {
     runs();
     page_draw::laws::values();

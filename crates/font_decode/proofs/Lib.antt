@@ -11,6 +11,7 @@ pub mod Distinct
 pub mod FewNames
 pub mod Alike
 pub mod Scaled
+pub mod FilesLoaded
 pub mod Trails
 pub mod Total
 pub mod Rows

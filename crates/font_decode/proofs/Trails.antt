@@ -1,13 +1,15 @@
 -- Trails that grow by what a seat did for some keys, and then for others.
 use Rattle.std.proofs.Common.{◌≡◌, inr, ℕ, ◌+◌, ◌-◌, ◌*◌, ◌^◌, ◌<◌, List, [], ◌∷◌, ◌++◌, Option, Some, None, refl, sym, ap, subst, ◌∙◌, arith, append_assoc, append-nil}
 use Rattle.std.specs.Option.{option_map}
+use Rattle.std.specs.Prelude.{IfSome}
 use Rattle.outside.specs.declared.keys.FontKey.{FontKey}
 use Rattle.cache_core.specs.declared.calls.Call.{Call}
 use Rattle.cache_core.specs.declared.common.Common.{Common}
 use Rattle.cache_core.specs.Histories.{AllWeigh, SeatCalls, AreOf, NoneReleased}
 use Rattle.cache_core.proofs.Weights.{weigh_joined}
-use Rattle.font_decode.specs.Desks.{GrewBy, IsWeightIn, Trail, ReleasedLast, misses, Loaded, SeatAnswered, TrailGrew}
+use Rattle.font_decode.specs.Desks.{GrewBy, IsWeightIn, LoadedFiles, Trail, ReleasedLast, files_loaded, misses, Loaded, SeatAnswered, TrailGrew}
 use Rattle.font_decode.specs.Loads.{MAX_LOADS}
+use Rattle.font_decode.proofs.FilesLoaded.{files_as, files_more, none_loaded}
 
 -- ---- the keys asked
 
@@ -68,6 +70,8 @@ module _ (W : Type 0) where
     answered = λ w. none_more p.calls q.calls (p.answered tt) (q.answered w);
     loaded = loaded_more (MAX_LOADS * misses p.calls) (MAX_LOADS * misses q.calls) (MAX_LOADS * misses (p.calls ++ q.calls)) _ _ _ _ _ _
         (let e = misses_more p.calls q.calls in omega arith) p.loaded q.loaded;
+    files = files_more W s.part.library s.part.units p.calls q.calls s.counted t.counted u.counted p.files
+        (subst (λ (c : Common). IfSome c.library (λ l. LoadedFiles W (files_loaded l c.units q.calls) t.counted u.counted)) p.part q.files);
   }
 
   -- nothing was asked for and nothing was done
@@ -94,6 +98,7 @@ module _ (W : Type 0) where
           counted = record { most = omega arith; never_falls = omega arith };
           same = λ low. omega arith;
         };
+        files = none_loaded W t.part.library (λ l. files_loaded l t.part.units []) t.counted t.counted (λ l. refl) refl;
       };
     },
   )
@@ -125,6 +130,7 @@ went_as V W keys s t f p = record {
   last = p.last;
   answered = λ v. p.answered (f v);
   loaded = p.loaded;
+  files = files_as V W s.part.library (λ l. files_loaded l s.part.units p.calls) s.counted t.counted f p.files;
 }
 
 pub trail_as : (V W : Type 0) (a b : Option (List FontKey)) (s t : Option Trail) → (V → W) → TrailGrew W a b s t → TrailGrew V a b s t

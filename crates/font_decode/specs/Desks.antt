@@ -1,14 +1,17 @@
 -- What is known of a desk: how the list of the keys asked grows, and what a seat at a cache did for
 -- these keys.
-use Rattle.std.specs.Prelude.{◌≡◌, ◌≢◌, ◌⊎◌, ℕ, ◌+◌, ◌-◌, ◌*◌, ◌^◌, ◌<◌, List, [], ◌∷◌, ◌++◌, Option, Some, None}
+use Rattle.std.specs.Prelude.{◌≡◌, ◌≢◌, ◌⊎◌, ℕ, ◌+◌, ◌-◌, ◌*◌, ◌^◌, ◌<◌, ◌≤◌, List, [], ◌∷◌, ◌++◌, length, Option, Some, None, IfSome}
 use Rattle.std.specs.Option.{option_map}
+use Rattle.outside.specs.Library.{FileTable}
 use Rattle.outside.specs.declared.keys.FontKey.{FontKey}
 use Rattle.cache_core.specs.declared.calls.Call.{Call}
 use Rattle.cache_core.specs.declared.calls.Done.{Done}
 use Rattle.cache_core.specs.declared.calls.Done.TheVariants.{Hit, Claimed, Busy, Filled, Released}
 use Rattle.cache_core.specs.declared.common.Common.{Common}
 use Rattle.cache_core.specs.Histories.{AllWeigh, SeatCalls, AreOf, NoneReleased}
-use Rattle.font_decode.specs.Loads.{RoseUpTo, MAX_LOADS}
+use Rattle.pixel_round.specs.declared.units.Units.{Units}
+use Rattle.font_decode.specs.Files.{looked_for}
+use Rattle.font_decode.specs.Loads.{RoseBy, RoseUpTo, MAX_LOADS}
 use Rattle.font_decode.specs.Weights.{IsWeightOf}
 
 -- ---- the keys asked
@@ -57,6 +60,24 @@ pub record Loaded (most before now count count_now : ℕ) : Type 0 where
   pub counted : RoseUpTo most count count_now
   pub same : now < 2 ^ 64 - 1 → count_now + before ≡ count + now
 
+-- how many files are loaded where the library is known: for each look that found no font in the
+-- cache all those that are looked for
+abbrev pub files_of : FileTable → Units → FontKey → Done → ℕ
+files_of l u k Claimed = length (looked_for l u k)
+files_of l u k Busy = length (looked_for l u k)
+files_of l u k Hit = 0
+files_of l u k (Filled _ _ _) = 0
+files_of l u k Released = 0
+
+abbrev pub files_loaded : FileTable → Units → List Call → ℕ
+files_loaded l u [] = 0
+files_loaded l u (c ∷ calls) = files_of l u c.key c.done + files_loaded l u calls
+
+-- a count of loads rose by no more than these files, and where the keys were answered by just these
+pub record LoadedFiles (Answered : Type 0) (files before now : ℕ) : Type 0 where
+  pub most : now ≤ before + files
+  pub just : Answered → RoseBy files before now
+
 -- the weight of the key's font in the library of the cache, where it is known
 abbrev pub IsWeightIn : Common → FontKey → ℕ → Type 0
 IsWeightIn part k w = IsWeightOf part.library (Some part.units) k w
@@ -76,6 +97,8 @@ pub record SeatAnswered (Answered : Type 0) (keys : List FontKey) (before after 
   pub answered : Answered → NoneReleased calls
   pub loaded : Loaded (MAX_LOADS * misses calls) before.loads after.loads before.counted
       after.counted
+  pub files : IfSome before.part.library (λ l.
+      LoadedFiles Answered (files_loaded l before.part.units calls) before.counted after.counted)
 
 -- the same with the keys that were asked in the meantime
 pub record SeatAnsweredFor (Answered : Type 0) (asked asked_now : Option (List FontKey))

@@ -1,6 +1,6 @@
 -- What the only seat of a cache did for a key, and that it is still alone.
 use Rattle.std.proofs.Common.{◌≡◌, inl, inr, ℕ, ◌*◌, Bool, nat_eq, List, [], ◌∷◌, ◌++◌, Option, Some, None, refl, sym, ap, subst, ◌∙◌, arith, append_assoc, append-nil}
-use Rattle.std.specs.Prelude.{Result, Ok, Err, IfOk, IsOk, OnOk, OnErr}
+use Rattle.std.specs.Prelude.{Result, Ok, Err, IfOk, IfSome, IsOk, OnOk, OnErr, length}
 use Rattle.std.specs.Map.{remove_entry}
 use Rattle.outside.specs.Library.{FileTable}
 use Rattle.outside.specs.declared.keys.FontKey.{FontKey}
@@ -12,8 +12,10 @@ use Rattle.cache_core.specs.declared.limits.Limits.{Limits}
 use Rattle.cache_core.specs.Machine.{claim_of, Legal}
 use Rattle.cache_core.specs.Histories.{AllWeigh, AreOf, NoneReleased, NoneBusy, SeatCalls, look_of, looks}
 use Rattle.cache_core.specs.States.{Cache, IsReached, StateStands, call}
-use Rattle.font_decode.specs.Desks.{GrewBy, IsWeightIn, ReleasedLast, misses, Loaded, TrailGrew}
-use Rattle.font_decode.specs.Loads.{RoseUpTo, MAX_LOADS}
+use Rattle.font_decode.specs.Desks.{GrewBy, IsWeightIn, LoadedFiles, ReleasedLast, files_loaded, misses, Loaded, TrailGrew}
+use Rattle.font_decode.specs.Files.{looked_for}
+use Rattle.font_decode.specs.Loads.{RoseBy, RoseUpTo, MAX_LOADS}
+use Rattle.font_decode.proofs.FilesLoaded.{none_loaded, one_loaded}
 use Rattle.font_decode.specs.Weights.{weight_of}
 use Rattle.font_decode.specs.declared.font_or_fault.Decoded.{Decoded}
 use Rattle.page_draw.specs.SoloDesks.{IsAlone, asked_by, common_part, stands_for_key, trail_by}
@@ -34,14 +36,15 @@ module _ (c d : Cache Decoded) (calls : List Call) (grew : d.history ≡ c.histo
 
   trail_grew : (W : Type 0) (x y : Option FileTable) (v : Units) (keys : List FontKey) (l m : ℕ) → y ≡ x → looks calls ≡ keys → AreOf 1 calls → SeatCalls keys calls
       → AllWeigh (IsWeightIn (common_part x v c.limits)) calls → ReleasedLast calls
-      → (W → NoneReleased calls) → Loaded (MAX_LOADS * misses calls) l m l m → TrailGrew W (asked_by c) (asked_by d) (trail_by x v l c) (trail_by y v m d)
-  trail_grew W x y v keys l m known looked mine for_keys weighed last answered loaded = (
+      → (W → NoneReleased calls) → Loaded (MAX_LOADS * misses calls) l m l m → IfSome x (λ t. LoadedFiles W (files_loaded t v calls) l m)
+      → TrailGrew W (asked_by c) (asked_by d) (trail_by x v l c) (trail_by y v m d)
+  trail_grew W x y v keys l m known looked mine for_keys weighed last answered loaded files = (
     record { seat = 1; part = common_part y v d.limits; calls = d.history; loads = m; counted = m },
     refl,
     record {
       keys = keys;
       grew = asked_grew keys looked;
-      answers = record { seat = refl; part = λ i. common_part (known i) v (same i); calls = calls; grew = grew; own = mine; for_keys = for_keys; weighed = weighed; last = last; answered = answered; loaded = loaded };
+      answers = record { seat = refl; part = λ i. common_part (known i) v (same i); calls = calls; grew = grew; own = mine; for_keys = for_keys; weighed = weighed; last = last; answered = answered; loaded = loaded; files = files };
     },
   )
 
@@ -73,11 +76,13 @@ module _ (W : Type 0) (x : Option FileTable) (v : Units) (k : FontKey) (c d : Ca
   pub refused_trail : d.history ≡ c.history → m ≡ l → Knows
   refused_trail same loads =
       trail_grew c d [] (same ∙ sym (append-nil c.history)) limits W x x v [] l m refl refl tt refl tt tt (λ w. tt) (subst (λ (x : ℕ). Loaded 0 l x l x) (sym loads) (nothing_loaded l))
+      (none_loaded W x (λ t. files_loaded t v []) l m (λ t. refl) loads)
 
   pub hit_trail : d.history ≡ c.history ++ call 1 k Hit ∷ [] → m ≡ l → Knows
   hit_trail grew loads =
       trail_grew c d (call 1 k Hit ∷ []) grew limits W x x v (k ∷ []) l m refl refl (refl, tt)
       (call 1 k Hit ∷ [], [], refl, inl (call 1 k Hit, refl, refl, inl refl), refl) (tt, tt) (inl refl) (λ w. ((λ e. cc), tt)) (subst (λ (x : ℕ). Loaded 0 l x l x) (sym loads) (nothing_loaded l))
+      (none_loaded W x (λ t. files_loaded t v (call 1 k Hit ∷ [])) l m (λ t. refl) loads)
 
 -- the claim's call, and the one that ends it
 pub two_calls : (k : FontKey) (done : Done) (c u d : Cache Decoded) → u.history ≡ c.history ++ call 1 k Claimed ∷ [] → d.history ≡ u.history ++ call 1 k done ∷ []
@@ -85,14 +90,16 @@ pub two_calls : (k : FontKey) (done : Done) (c u d : Cache Decoded) → u.histor
 two_calls k done c u d first second =
     second ∙ ap (λ (l : List Call). l ++ call 1 k done ∷ []) first ∙ append_assoc c.history (call 1 k Claimed ∷ []) (call 1 k done ∷ [])
 
-module _ (W : Type 0) (x y : Option FileTable) (v : Units) (k : FontKey) (c u d : Cache Decoded) (l m : ℕ) (known : y ≡ x) (claimed : u.history ≡ c.history ++ call 1 k Claimed ∷ []) (limits : d.limits ≡ c.limits) (loads : RoseUpTo MAX_LOADS l m) where
-  pub filled_trail : (weight : ℕ) (kept : Bool) (gone : List FontKey) → IsWeightIn (common_part x v c.limits) k weight → d.history ≡ u.history ++ call 1 k (Filled weight kept gone) ∷ []
-      → TrailGrew W (asked_by c) (asked_by d) (trail_by x v l c) (trail_by y v m d)
-  filled_trail weight kept gone weighs filled =
+module _ (W : Type 0) (x y : Option FileTable) (v : Units) (k : FontKey) (c u d : Cache Decoded) (l m : ℕ) (known : y ≡ x) (claimed : u.history ≡ c.history ++ call 1 k Claimed ∷ []) (limits : d.limits ≡ c.limits) (loads : RoseUpTo MAX_LOADS l m)
+    (most : IfSome x (λ t. RoseUpTo (length (looked_for t v k)) l m)) where
+  pub filled_trail : (weight : ℕ) (kept : Bool) (gone : List FontKey) → IsWeightIn (common_part x v c.limits) k weight → (W → IfSome x (λ t. RoseBy (length (looked_for t v k)) l m))
+      → d.history ≡ u.history ++ call 1 k (Filled weight kept gone) ∷ [] → TrailGrew W (asked_by c) (asked_by d) (trail_by x v l c) (trail_by y v m d)
+  filled_trail weight kept gone weighs just filled =
       let f = call 1 k Claimed in
       let s = call 1 k (Filled weight kept gone) in
       trail_grew c d (f ∷ s ∷ []) (two_calls k (Filled weight kept gone) c u d claimed filled) limits W x y v (k ∷ []) l m known refl (refl, (refl, tt))
       (f ∷ s ∷ [], [], refl, inr (f, s, refl, refl, refl, refl, inl (weight, kept, gone, refl)), refl) (tt, (weighs, tt)) (inr ((λ e. cc), inl refl)) (λ w. ((λ e. cc), ((λ e. cc), tt))) (both_loaded MAX_LOADS l m loads)
+      (one_loaded W x (λ t. length (looked_for t v k)) (λ t. files_loaded t v (f ∷ s ∷ [])) l m (λ t. omega arith) most just)
 
   pub released_trail : (W → ⊥) → d.history ≡ u.history ++ call 1 k Released ∷ [] → TrailGrew W (asked_by c) (asked_by d) (trail_by x v l c) (trail_by y v m d)
   released_trail never released =
@@ -100,6 +107,7 @@ module _ (W : Type 0) (x y : Option FileTable) (v : Units) (k : FontKey) (c u d 
       let s = call 1 k Released in
       trail_grew c d (f ∷ s ∷ []) (two_calls k Released c u d claimed released) limits W x y v (k ∷ []) l m known refl (refl, (refl, tt))
       (f ∷ s ∷ [], [], refl, inr (f, s, refl, refl, refl, refl, inr refl), refl) (tt, (tt, tt)) (inr ((λ e. cc), inl refl)) (λ w. absurd (never w)) (both_loaded MAX_LOADS l m loads)
+      (one_loaded W x (λ t. length (looked_for t v k)) (λ t. files_loaded t v (f ∷ s ∷ [])) l m (λ t. omega arith) most (λ w. absurd (never w)))
 
 -- ---- however a claim was ended
 
@@ -130,12 +138,12 @@ module _ (k : FontKey) (c u d : Cache Decoded) (claimed : u.history ≡ c.histor
         ] filled released
 
     pub kept_trail : (x y : Option FileTable) (v : Units) (l m : ℕ) → y ≡ x → IsWeightIn (common_part x v c.limits) k weight → RoseUpTo MAX_LOADS l m
-        → TrailGrew (IsOk result) (asked_by c) (asked_by d) (trail_by x v l c) (trail_by y v m d)
-    kept_trail x y v l m known weighs loads =
+        → IfSome x (λ t. RoseUpTo (length (looked_for t v k)) l m) → IfSome x (λ t. RoseBy (length (looked_for t v k)) l m) → TrailGrew (IsOk result) (asked_by c) (asked_by d) (trail_by x v l c) (trail_by y v m d)
+    kept_trail x y v l m known weighs loads most just =
         elim result as (λ (r : Result A E). IfOk r (λ _. (kept : Bool) × (gone : List FontKey) × (d.history ≡ u.history ++ call 1 k (Filled weight kept gone) ∷ []))
         → OnErr r (d.history ≡ u.history ++ call 1 k Released ∷ []) → TrailGrew (IsOk r) (asked_by c) (asked_by d) (trail_by x v l c) (trail_by y v m d)) [
-          | Ok a ↦ λ f r. filled_trail _ x y v k c u d l m known claimed limits loads weight f.0 f.1 weighs f.2
-          | Err e ↦ λ f r. released_trail _ x y v k c u d l m known claimed limits loads (λ w. cc) r
+          | Ok a ↦ λ f r. filled_trail _ x y v k c u d l m known claimed limits loads most weight f.0 f.1 weighs (λ w. just) f.2
+          | Err e ↦ λ f r. released_trail _ x y v k c u d l m known claimed limits loads most (λ w. cc) r
         ] filled released
 
 -- what is so is so of either answer

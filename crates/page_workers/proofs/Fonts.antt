@@ -1,6 +1,6 @@
 -- What a font is by the library that a source knows, and by the one that the common part knows.
 use Rattle.std.proofs.Common.{◌≡◌, List, [], Bool, true, false, Option, Some, None, Result, Ok, Err, IfOk, refl, ap, subst, ◌∙◌}
-use Rattle.std.specs.Prelude.{IfSome, IsNone, IsSome, ◌&&◌, is_some, is_none, if◌then◌else◌, ℕ}
+use Rattle.std.specs.Prelude.{IfSome, IsNone, IsOk, IsSome, OnOk, ◌&&◌, is_some, is_none, if◌then◌else◌, ℕ}
 use Rattle.std.specs.FinMap.{get}
 use Rattle.outside.specs.Library as library
 use Rattle.outside.specs.declared.keys.FontKey.{FontKey}
@@ -59,7 +59,16 @@ as_known None known u v k d knows_library same font = subst (λ (w : Units). IsF
 as_known (Some l) known u v k d knows_library same font =
     subst (λ (w : Units). IsFontOf (Some l) (Some w) k d) same (subst (λ (o : Option library.FileTable). IsFontOf o (Some u) k d) knows_library font)
 
+-- what holds by the library that the source tells holds by that of the common part
+pub as_told : (common known : Option library.FileTable) (u v : Units) (P : library.FileTable → Units → Type 0) → IfSome common (λ l. known ≡ Some l) → u ≡ v → IfSome known (λ l. P l u) → IfSome common (λ l. P l v)
+as_told None known u v P knows_library same h = tt
+as_told (Some l) known u v P knows_library same h = subst (λ (w : Units). P l w) same (subst (λ (o : Option library.FileTable). IfSome o (λ x. P x u)) knows_library h)
+
 -- ---- of a result
+
+pub from_ok : {A E : Type 0} (P : Type 0) (r : Result A E) → OnOk r P → IsOk r → P
+from_ok P (Ok a) h is = h
+from_ok P (Err e) h is = absurd cc
 
 pub of_ok : {A E : Type 0} (P Q : A → Type 0) (r : Result A E) → ((a : A) → P a → Q a) → IfOk r P → IfOk r Q
 of_ok P Q (Ok a) f h = f a h

@@ -1,4 +1,5 @@
 pub mod Fonts
+pub mod AddedLoads
 pub mod Calls
 pub mod NothingDrawn
 pub mod Lists

@@ -1,12 +1,13 @@
 //! Fonts that are loaded for a worker, and the loads that are counted for it.
-ghost use Rattle.std.specs.Prelude.{◌≡◌, ◌+◌, ◌<◌, ◌≤◌, ◌^◌, ℕ, Some, IfOk, IsErrOf};
+ghost use Rattle.std.specs.Prelude.{◌≡◌, ◌+◌, ◌<◌, ◌≤◌, ◌^◌, ℕ, Some, length, IfOk, IfSome, IsErrOf, OnOk};
 ghost use Rattle.std.specs.Arc.{arc_value};
 ghost use Rattle.outside.specs.Counts.{HasCause};
 ghost use Rattle.outside.specs.FontKeys.{IsFontKey};
 ghost use Rattle.pixel_round.specs.Preamble.{AreUnits};
 ghost use Rattle.font_decode.specs.Decoding.{IsFontOf};
 ghost use Rattle.font_decode.specs.Desks.{Loaded};
-ghost use Rattle.font_decode.specs.Loads.{MAX_LOADS};
+ghost use Rattle.font_decode.specs.Files.{looked_for};
+ghost use Rattle.font_decode.specs.Loads.{RoseBy, RoseUpTo, MAX_LOADS};
 ghost use Rattle.page_workers.specs.Counts.{CountedLoads};
 
 use font_decode::{Decoded, DeskStop, load};
@@ -86,6 +87,10 @@ fn load_lent<'a, K: Loan, F: FontSource>(
     ensures cause { HasCause (F.faults source.old) (F.faults result.now)
         (IsErrOf loaded.new.font DeskStop.SourceFault) }
     ensures few { loaded.new.loads ≤ MAX_LOADS }
+    ensures files { OnOk loaded.new.font (IfSome (F.library source.old) (λ l.
+        RoseBy (length (looked_for l units.now (arc_value key.now))) 0 loaded.new.loads)) }
+    ensures no_more { IfSome (F.library source.old) (λ l.
+        RoseUpTo (length (looked_for l units.now (arc_value key.now))) 0 loaded.new.loads) }
     ensures counted { CountedLoads (F.loads source.old) loaded.new.loads (F.loads result.now) }
 {
     let mut counting = Counting::<F, K> {
@@ -104,8 +109,9 @@ fn load_lent<'a, K: Loan, F: FontSource>(
 }
 
 /// Loads and decodes the font of a key, and adds the loads that it asked for, at most eight, to the
-/// count. A fault of the font is an answer. `SourceFault` comes only where the source's count of
-/// faults rose, `NoMemory` where memory ran out.
+/// count: where the library is known, one for each file that is looked for. A fault of the font is
+/// an answer. `SourceFault` comes only where the source's count of faults rose, `NoMemory` where
+/// memory ran out.
 pub fn load_counted<F: FontSource>(
     alloc: Global,
     source: &mut F,
@@ -124,6 +130,10 @@ pub fn load_counted<F: FontSource>(
     ensures loaded { Loaded MAX_LOADS (F.loads source.old) (F.loads source.new) loads.old
         loads.new }
     ensures few { loads.new ≤ loads.old + MAX_LOADS }
+    ensures files { OnOk result (IfSome (F.library source.old) (λ l.
+        RoseBy (length (looked_for l units.now (arc_value key.now))) loads.old loads.new)) }
+    ensures no_more { IfSome (F.library source.old) (λ l.
+        RoseUpTo (length (looked_for l units.now (arc_value key.now))) loads.old loads.new) }
 {
     let mut loaded = CountedLoad {
         font: Err(DeskStop::NoMemory),

@@ -6,7 +6,7 @@ use Rattle.page_workers.proofs.Numbers.{numbers_joined}
 use Rattle.dvi_run.specs.Endings.{value_of_ending}
 use Rattle.dvi_run.specs.Looked.{EveryPageCameToItsEnd, MayBreakOff}
 use Rattle.dvi_run.specs.Rounds.{site}
-use Rattle.dvi_run.proofs.WorkerSeats.{may_begin, may_leave, none_released, ran}
+use Rattle.dvi_run.proofs.WorkerSeats.{may_begin, may_leave, ran}
 use Rattle.page_index.specs.Document.{pages_begun}
 use Rattle.dvi_run.specs.Shares.{WorkersDrew}
 use Rattle.dvi_run.proofs.Shares.{shared_as}
@@ -94,9 +94,7 @@ returns-clause-workers g c =
     (ap (λ v. v.items) but.pages ∙ left.same.pages) (ap (λ v. v.items) but.results ∙ left.same.results) (but.counter ∙ left.same.counter)
     (c.drop_spare_pages.ensures.none k d (subst (λ (n : ℕ). k < n) (sym joined) here))
     _
-    (λ h. none_released s part (ap (λ v. v.part.library) opens) (ap (λ v. v.part.units) opens) q.1.1.1.0 q.1.1.1.1.0 (k + 1) (get_or xs k d) (get_or ws k d) (q.1.1.1.1.1.1.1 k d lt)
-    (c.seat_all.ensures.seated k d lt) (get_or now k d)
-    (c.write_rounds-ending.ensures.whole (subst (λ (n : ℕ). EveryPageCameToItsEnd n (value_of_ending c.write_rounds-ending.result.0)) (sym long) h) k d there).trail left.seat left.is)
+    (λ h. (c.write_rounds-ending.ensures.whole (subst (λ (n : ℕ). EveryPageCameToItsEnd n (value_of_ending c.write_rounds-ending.result.0)) (sym long) h) k d there).trail)
     (λ h. (c.write_rounds-ending.ensures.whole (subst (λ (n : ℕ). EveryPageCameToItsEnd n (value_of_ending c.write_rounds-ending.result.0)) (sym long) h) k d there).looked)
 
 pub returns-clause-first : goal.returns-clause-first

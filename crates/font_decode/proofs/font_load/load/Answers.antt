@@ -16,3 +16,18 @@ pub returns-in_err-files-clause-cause : goal.returns-in_err-files-clause-cause
 returns-in_err-files-clause-cause g c =
     let p = err_from_is_err_and c.from_residual.result c.from_residual.ensures.1 in
     rw (p.1, p.2) (load_failed _ _ _ c.in_err-files.ensures.cause)
+
+pub returns-clause-files : goal.returns-clause-files
+returns-clause-files g c = rw c.deref.ensures at c.in_ok-files.ensures.loads
+
+pub returns-clause-no_more : goal.returns-clause-no_more
+returns-clause-no_more g c = rw c.deref.ensures at c.in_ok-files.ensures.no_more
+
+pub returns-in_err-files-clause-no_more : goal.returns-in_err-files-clause-no_more
+returns-in_err-files-clause-no_more g c = rw c.deref.ensures at c.in_err-files.ensures.no_more
+
+pub returns-in_err-decoded-clause-no_more : goal.returns-in_err-decoded-clause-no_more
+returns-in_err-decoded-clause-no_more g c = rw c.deref.ensures at c.in_ok-files.ensures.no_more
+
+pub returns-in_err-new-clause-no_more : goal.returns-in_err-new-clause-no_more
+returns-in_err-new-clause-no_more g c = rw c.deref.ensures at c.in_ok-files.ensures.no_more

@@ -74,7 +74,7 @@ returns-in-Ok-clause-trail g c =
     let noted = rw c.in-Claimed.is at c.in_ok-font.ensures.noted in
     kept_trail k c.args.cache.now c.look.new.self c.keep.new.cache noted (c.keep.ensures.limits ∙ c.in_ok-font.ensures.limits) (weight_of (arc_value c.in-Ok.font)) c.keep.result c.keep.ensures.filled c.keep.ensures.released
     (g.F.FontSource.library c.args.source.now) (g.F.FontSource.library c.load.new.source) c.args.units.now
-    (g.F.FontSource.loads c.args.source.now) (g.F.FontSource.loads c.load.new.source) c.load.ensures.library (arc_value c.in-Ok.font, c.in-Ok.ensures.found, refl) c.load.ensures.loads
+    (g.F.FontSource.loads c.args.source.now) (g.F.FontSource.loads c.load.new.source) c.load.ensures.library (arc_value c.in-Ok.font, c.in-Ok.ensures.found, refl) c.load.ensures.loads c.load.ensures.no_more c.in-Ok.ensures.files
 
 pub returns-in-Err-clause-alone : goal.returns-in-Err-clause-alone
 returns-in-Err-clause-alone g c =
@@ -98,5 +98,5 @@ returns-in-Err-clause-trail g c =
     let k = arc_value c.args.key.now in
     let noted = rw c.in-Claimed.is at c.in_ok-font.ensures.noted in
     released_trail _ (g.F.FontSource.library c.args.source.now) (g.F.FontSource.library c.load.new.source) c.args.units.now k c.args.cache.now c.look.new.self c.release.new.self
-    (g.F.FontSource.loads c.args.source.now) (g.F.FontSource.loads c.load.new.source) c.load.ensures.library noted (c.release.ensures.limits ∙ c.in_ok-font.ensures.limits) c.load.ensures.loads
+    (g.F.FontSource.loads c.args.source.now) (g.F.FontSource.loads c.load.new.source) c.load.ensures.library noted (c.release.ensures.limits ∙ c.in_ok-font.ensures.limits) c.load.ensures.loads c.load.ensures.no_more
     (λ w. cc) c.release.ensures.noted

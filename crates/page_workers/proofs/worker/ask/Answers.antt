@@ -1,12 +1,16 @@
-use Rattle.std.proofs.Common.{◌≡◌, Some, Global, inr, refl, sym, subst, [], ◌∷◌}
+use Rattle.std.proofs.Common.{◌≡◌, Some, Global, inr, refl, sym, subst, [], ◌∷◌, length}
 use Rattle.std.specs.Arc.{arc_value}
 use Rattle.std.specs.declared.sync.Arc.{Arc}
 use Rattle.cache_core.specs.States.{call}
+use Rattle.outside.specs.Library.{FileTable}
+use Rattle.pixel_round.specs.declared.units.Units.{Units}
 use Rattle.font_decode.specs.Decoding.{IsFontOf}
+use Rattle.font_decode.specs.Files.{looked_for}
+use Rattle.font_decode.specs.Loads.{RoseBy, RoseUpTo}
 use Rattle.font_decode.specs.declared.font_or_fault.Decoded.{Decoded}
 use Rattle.cache_core.specs.declared.calls.Done.TheVariants.{Hit, Busy, Claimed, Released}
 use Rattle.page_workers.proofs.Calls.{one_call, no_call, asked_grew, refused_grew, hit_grew, busy_grew, released_grew, two_calls, ended_asked, kept_asked, kept_trail, on_ok, on_err}
-use Rattle.page_workers.proofs.Fonts.{as_known, of_ok}
+use Rattle.page_workers.proofs.Fonts.{as_known, as_told, from_ok, of_ok}
 use Rattle.page_workers.proofs.worker.ask.Goals as goal
 
 -- what is loaded is the key's font by the common part
@@ -77,8 +81,13 @@ returns-in-Busy-clause-trail g c =
     let k = arc_value c.args.key.now in
     let s = c.args.seat.now in
     let own = rw c.in-Busy.is at c.in_ok-look.ensures.noted.own in
+    let part = c.args.seat.now.view.part in
+    let known = g.F.FontSource.library c.args.source.now in
+    let told = λ (P : FileTable → Units → Type 0). as_told part.library known c.args.bench.now.units part.units P c.requires.fits.knows_library c.requires.fits.units in
     busy_grew _ k s c.look.new.seat (g.F.FontSource.loads c.args.source.now) (g.F.FontSource.loads c.load_counted.new.source) c.args.loads.now c.load_counted.new.loads
     (one_call s c.look.new.seat (call s.view.number k Busy) c.look.ensures.turn.number c.look.ensures.turn.common_part own) c.load_counted.ensures.loaded
+    (told (λ l u. RoseUpTo (length (looked_for l u k)) c.args.loads.now c.load_counted.new.loads) c.load_counted.ensures.no_more)
+    (λ w. told (λ l u. RoseBy (length (looked_for l u k)) c.args.loads.now c.load_counted.new.loads) (from_ok _ c.load_counted.result c.load_counted.ensures.files w))
 
 pub returns-in-Ok-clause-asked : goal.returns-in-Ok-clause-asked
 returns-in-Ok-clause-asked g c =
@@ -101,9 +110,14 @@ returns-in-Ok-clause-trail g c =
     let k = arc_value c.args.key.now in
     let s = c.args.seat.now in
     let own = rw c.in-Claimed.is at c.in_ok-look.ensures.noted.own in
+    let part = c.args.seat.now.view.part in
+    let known = g.F.FontSource.library c.args.source.now in
+    let told = λ (P : FileTable → Units → Type 0). as_told part.library known c.args.bench.now.units part.units P c.requires.fits.knows_library c.requires.fits.units in
     kept_trail k s c.look.new.seat c.keep.new.seat (one_call s c.look.new.seat (call s.view.number k Claimed) c.look.ensures.turn.number c.look.ensures.turn.common_part own) c.keep.ensures.number c.keep.ensures.part c.keep.result
     (g.F.FontSource.loads c.args.source.now) (g.F.FontSource.loads c.load_counted-in-Claimed.new.source) c.args.loads.now c.load_counted-in-Claimed.new.loads c.keep.ensures.filled
     c.keep.ensures.released c.load_counted-in-Claimed.ensures.loaded
+    (told (λ l u. RoseUpTo (length (looked_for l u k)) c.args.loads.now c.load_counted-in-Claimed.new.loads) c.load_counted-in-Claimed.ensures.no_more)
+    (told (λ l u. RoseBy (length (looked_for l u k)) c.args.loads.now c.load_counted-in-Claimed.new.loads) c.in-Ok.ensures.files)
 
 pub returns-in-Err-clause-refused : goal.returns-in-Err-clause-refused
 returns-in-Err-clause-refused g c =
@@ -118,7 +132,11 @@ returns-in-Err-clause-trail g c =
     let k = arc_value c.args.key.now in
     let s = c.args.seat.now in
     let own = rw c.in-Claimed.is at c.in_ok-look.ensures.noted.own in
+    let part = c.args.seat.now.view.part in
+    let known = g.F.FontSource.library c.args.source.now in
+    let told = λ (P : FileTable → Units → Type 0). as_told part.library known c.args.bench.now.units part.units P c.requires.fits.knows_library c.requires.fits.units in
     released_grew _ k s c.release.new.seat (g.F.FontSource.loads c.args.source.now) (g.F.FontSource.loads c.load_counted-in-Claimed.new.source) c.args.loads.now
     c.load_counted-in-Claimed.new.loads (λ w. cc)
     (two_calls k s c.look.new.seat c.release.new.seat (one_call s c.look.new.seat (call s.view.number k Claimed) c.look.ensures.turn.number c.look.ensures.turn.common_part own) c.release.ensures.turn.number c.release.ensures.turn.common_part Released
     c.release.ensures.noted.own) c.load_counted-in-Claimed.ensures.loaded
+    (told (λ l u. RoseUpTo (length (looked_for l u k)) c.args.loads.now c.load_counted-in-Claimed.new.loads) c.load_counted-in-Claimed.ensures.no_more)
