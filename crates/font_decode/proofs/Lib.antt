@@ -14,6 +14,7 @@ pub mod Scaled
 pub mod FilesLoaded
 pub mod Trails
 pub mod Total
+pub mod FirstRows
 pub mod Rows
 pub mod Weights
 pub mod Programs

@@ -1,5 +1,5 @@
 -- The decoding is the first row that holds, or the bare font in its place, and else the font.
-use Rattle.std.proofs.Common.{◌≡◌, ◌≢◌, ◌∙◌, inl, inr, ℕ, List, [], ◌∷◌, Bool, true, false, Option, Some, None, refl, sym, ap, subst}
+use Rattle.std.proofs.Common.{◌≡◌, ◌∙◌, inl, inr, ℕ, List, [], ◌∷◌, Bool, true, false, Option, Some, None, refl, sym, ap, subst}
 use Rattle.std.specs.Prelude.{◌↔◌, MatchBool, MatchOption}
 use Rattle.std.proofs.lemmas.Bool.{true≢false, cases_Bool}
 use Rattle.outside.specs.declared.keys.FontKey.{FontKey}
@@ -21,50 +21,14 @@ use Rattle.font_decode.specs.Names.{is_valid_name, dpi, is_resolution}
 use Rattle.font_decode.specs.Files.{FontFiles}
 use Rattle.font_decode.specs.Locals.{are_local_sizes}
 use Rattle.font_decode.specs.Decoding.{is_too_long, IsBareFont, IsPackedFont, IsGenericFont, IsVirtualFont, DecodesBare, DecodesPk, DecodesGf, DecodesShortGf, DecodesGlyphs, DecodesItems, DecodesVf, DecodesSound, DecodesTfm}
-use Rattle.font_decode.specs.Rows.{Row, WrongName, NoTfm, LongTfm, WrongTfm, LongVf, WrongVf, LocalSize, Resolution, LongPk, WrongPk, LongGf, WrongGf, NoGlyphs, Holds, HoldsNot, NoneHolds, FirstHolds, NO_GLYPHS, IsFirstOf, IsFirstRow}
+use Rattle.font_decode.specs.Rows.{Row, WrongName, NoTfm, LongTfm, WrongTfm, LongVf, WrongVf, LocalSize, Resolution, LongPk, WrongPk, LongGf, WrongGf, NoGlyphs, HoldsNot, NoneHolds, FirstHolds, NO_GLYPHS, IsFirstOf, IsFirstRow}
 use Rattle.font_decode.specs.Laws.{RowsDetermineTheDecoding}
+use Rattle.font_decode.proofs.FirstRows.{held, none_some, passed, some_is, some_none}
 use Rattle.font_decode.specs.declared.font_or_fault.Decoded.{Decoded}
 use Rattle.font_decode.specs.declared.font_or_fault.Decoded.TheVariants.{Font, Bare, Fault}
 use Rattle.font_decode.specs.declared.faults.FileKind.TheVariants as kind
 use Rattle.font_decode.specs.declared.faults.FontFault.{FontFault}
 use Rattle.font_decode.specs.declared.faults.FontFault.TheVariants as fault
-
-module _ (u : Units) (k : FontKey) (files : FontFiles) where
-  -- a row that doesn't hold
-  passed : (row : Row) (others : List Row) (P : Type 0) (d : Decoded) → HoldsNot u k files row → P ↔ IsFirstOf u k files others d → P ↔ IsFirstOf u k files (row ∷ others) d
-  passed row others P (Font f) not h = (λ p. let q = h.0 p in ((not, q.0), q.1), λ q. h.1 (q.0.1, q.1))
-  passed row others P (Bare f) not h = (
-    λ p. let q = h.0 p in (inr (not, q.0), q.1),
-    λ q. elim q.0 [ inl here ↦ absurd (not NO_GLYPHS here) | inr later ↦ h.1 (later.1, q.1) ],
-  )
-  passed row others P (Fault f) not h = (
-    λ p. let q = h.0 p in (inr (not, q.0), q.1),
-    λ q. elim q.0 [ inl here ↦ absurd (not f here) | inr later ↦ h.1 (later.1, q.1) ],
-  )
-
-  -- the row that holds, with one fault, which isn't that of files of glyphs which are missing
-  held : (row : Row) (others : List Row) (g : FontFault) (d : Decoded) → g ≢ NO_GLYPHS → Holds u k files row g → ((f : FontFault) → Holds u k files row f → f ≡ g)
-      → (d ≡ Fault g) ↔ IsFirstOf u k files (row ∷ others) d
-  held row others g (Font f) other here one = (λ e. absurd (cc), λ q. absurd (q.0.0 g here))
-  held row others g (Bare f) other here one = (
-    λ e. absurd (cc),
-    λ q. elim q.0 [ inl h ↦ absurd (other (sym (one NO_GLYPHS h))) | inr later ↦ absurd (later.0 g here) ],
-  )
-  held row others g (Fault f) other here one = (
-    λ e. let same : g ≡ f = cc in (inl (subst (Holds u k files row) same here), subst (λ (x : FontFault). x ≢ NO_GLYPHS) same other),
-    λ q. elim q.0 [ inl h ↦ ap (λ (x : FontFault). Fault x) (one f h) | inr later ↦ absurd (later.0 g here) ],
-  )
-
--- ---- which rows don't hold
-
-some_none : {A : Type 0} (a : A) → Some a ≡ None → ⊥
-some_none a e = cc
-
-none_some : {A : Type 0} (a : A) → None ≡ Some a → ⊥
-none_some a e = cc
-
-some_is : {A : Type 0} (a b : A) → Some a ≡ Some b → b ≡ a
-some_is a b e = cc
 
 module _ (u : Units) (k : FontKey) where
   abbrev of : Option (List ℕ) → Option (List ℕ) → Option (List ℕ) → Option (List ℕ) → FontFiles

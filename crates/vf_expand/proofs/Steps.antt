@@ -1,5 +1,5 @@
 -- The steps of a page that is being expanded.
-use Rattle.std.proofs.Common.{◌≡◌, ℕ, suc, ◌+◌, ◌-◌, ◌<◌, ◌≤◌, ℤ, Bool, true, false, List, [], drop, refl, sym, ap, subst, ◌∙◌, arith, Some, None, Option}
+use Rattle.std.proofs.Common.{◌≡◌, ℕ, suc, ◌+◌, ◌-◌, ◌<◌, ℤ, Bool, true, false, List, [], drop, refl, sym, ap, subst, ◌∙◌, arith, Some, None, Option}
 use Rattle.std.specs.Prelude.{unwrap_or}
 use Rattle.std.specs.Arc.{arc_value}
 use Rattle.dvi_commands.specs.Spelling.{DviCommand}
@@ -11,7 +11,7 @@ use Rattle.drift_rules.specs.declared.flat.Flat.{Flat}
 use Rattle.pk_runs.specs.declared.glyph.Glyph.{Glyph}
 use Rattle.font_decode.specs.declared.font_or_fault.Decoded.{Decoded}
 use Rattle.vf_expand.specs.Faults.{value_of_fault, TooLong}
-use Rattle.vf_expand.specs.Course.{Course, Gives, Asks, Ends, Stops, gives, in_place, lack_or_stop, Place, InPacket, Current, NoFont, Chosen, Known, character, deeper, expand_one, expand_list, first_font, leave, page_from, cut}
+use Rattle.vf_expand.specs.Course.{Course, Gives, Asks, Ends, Stops, gives, in_place, lack_or_stop, Place, InPacket, Current, Chosen, character, deeper, expand_one, expand_list, first_font, leave, page_from, cut}
 use Rattle.vf_expand.specs.Limits.{MAX_DEPTH}
 use Rattle.vf_expand.specs.Effects.{HasEffect, IsEntry, IsCharEffect, IsNoCharacter, Meaning, value_of_current}
 use Rattle.vf_expand.specs.Expansion.{Expansion, IsAtLook, OpenPacket, Stack, Page, Within, after_answer, after_pending, asks_from, course_left, depth, flat_of_pending, lacks_from, pending_advance, font_of, glyph_in, rest_of, place_in, stack_left}
@@ -22,36 +22,8 @@ use Rattle.vf_expand.specs.declared.effect.Effect.TheVariants as effect
 use Rattle.vf_expand.specs.declared.outer_levels.Level.{Level}
 use Rattle.vf_expand.specs.declared.pending.Pending.{Pending}
 use Rattle.vf_expand.specs.declared.pending.Pending.TheVariants as pending
+use Rattle.vf_expand.proofs.Fewer.{falls, fewer}
 use Rattle.vf_expand.proofs.Late.{ask_cut, end_cut, give_cut, lack_cut, late_list, stop_cut}
-
--- ---- how many steps may still come
-
--- a flat command lowers both counts, whatever font is then current
-falls : (b : ℕ) (old new : Current) → asks_from (b - 1) new ≤ asks_from b old
-falls b old new = omega (arith, most b new, least b old) where
-  most : (b : ℕ) (new : Current) → asks_from (b - 1) new ≤ b - 1
-  most b NoFont = omega arith
-  most b (Chosen k) = omega arith
-  most b (Known k d) = omega arith
-
-  least : (b : ℕ) (old : Current) → b - 1 ≤ asks_from b old
-  least b NoFont = omega arith
-  least b (Chosen k) = omega arith
-  least b (Known k d) = omega arith
-
-lacks_fall : (b : ℕ) (old new : Option Pending) → lacks_from (b - 1) new ≤ lacks_from b old
-lacks_fall b old new = omega (arith, most (b - 1) new, least b old) where
-  most : (b : ℕ) (new : Option Pending) → lacks_from b new ≤ b
-  most b None = omega arith
-  most b (Some p) = omega arith
-
-  least : (b : ℕ) (old : Option Pending) → b - 1 ≤ lacks_from b old
-  least b None = omega arith
-  least b (Some p) = omega arith
-
-fewer : (b : ℕ) (old new : Current) (before after : Option Pending) → 0 < b
-    → (b - 1) + asks_from (b - 1) new + lacks_from (b - 1) after < b + asks_from b old + lacks_from b before
-fewer b old new before after h = omega (arith, falls b old new, lacks_fall b before after, h)
 
 asks_again : (x : Course) (k : FontKey) (at : ℕ) (rest : Decoded → Course) → x ≡ Asks k at rest → x ≡ Asks k at (after_answer x)
 asks_again x k at rest e = e ∙ ap (λ (y : Course). Asks k at (after_answer y)) (sym e)
