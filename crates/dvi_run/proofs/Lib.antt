@@ -27,4 +27,6 @@ pub mod EndAfterReport
 pub mod GivenSettings
 pub mod MovedResults
 pub mod OwnDocument
+pub mod OneWorkerPages
+pub mod OneWorkerCalls
 pub mod OneWorker

@@ -1,18 +1,13 @@
 -- What runs by one worker have in common.
 use Rattle.std.proofs.Common.{◌≡◌, ◌⊎◌, inl, inr, ℕ, zero, suc, ◌+◌, ◌-◌, ◌<◌, ◌≤◌, Bool, true, false, List, [], ◌∷◌, ◌++◌, length, take, get_or, Option, Some, None, refl, sym, ap, ap₂, subst, ◌∙◌, append-nil, arith}
-use Rattle.std.specs.Prelude.{Contains, IfSome, ◌^◌, min}
 use Rattle.std.specs.List.{sum_by}
-use Rattle.std.specs.List.Sorted.{IsStrictlyIncreasing}
 use Rattle.std.proofs.lemmas.Bool.{cases_lt}
 use Rattle.std.proofs.lemmas.List.{ext_get_or, length-append}
-use Rattle.std.proofs.lemmas.List.Elements.{Contains-get_or}
 use Rattle.outside.specs.Library.{FileTable}
 use Rattle.outside.specs.declared.keys.FontKey.{FontKey}
 use Rattle.cache_core.specs.declared.calls.Call.{Call}
-use Rattle.cache_core.specs.Histories.{AllWeigh, SeatCalls, WeighSo, own}
+use Rattle.cache_core.specs.Histories.{AllWeigh, SeatCalls, own}
 use Rattle.cache_core.specs.Solo.{solo_history}
-use Rattle.cache_core.proofs.Weights.{weigh_as, weigh_first, weigh_joined, weigh_second, weight_there}
-use Rattle.font_decode.specs.Desks.{LoadedFiles, files_loaded, misses}
 use Rattle.font_decode.specs.Weights.{IsWeightOf, OneWeightInALibrary}
 use Rattle.pixel_round.specs.declared.units.Units.{Units}
 use Rattle.packed_rows.specs.Bitmap.{Bitmap}
@@ -32,7 +27,7 @@ use Rattle.dvi_run.specs.Endings.{EndingValue, Written, Usage, Document, Page, S
 use Rattle.dvi_run.specs.Laws.{OneReading, OneRun}
 use Rattle.dvi_run.specs.Lines.{line_of, page_line}
 use Rattle.dvi_run.specs.Looked.{WasNotCutOffBy, WholeLooks}
-use Rattle.dvi_run.specs.OneWorker.{IsByItsPages, OneWorkerHasOneHistory, RunsOfOneWorkerAreAlike, page_named}
+use Rattle.dvi_run.specs.OneWorker.{IsByItsPages, RunsOfOneWorkerAreAlike, page_named}
 use Rattle.dvi_run.specs.Outside.{setup_of}
 use Rattle.dvi_run.specs.Together.{EveryPageCameToItsEndBy}
 use Rattle.dvi_run.specs.Report.{counts_of, if_asked, loads_of, report_text}
@@ -41,47 +36,11 @@ use Rattle.dvi_run.specs.Shares.{ArePartitioned, DrewUpTo, WorkersDrew}
 use Rattle.dvi_run.specs.Tally.{TallyMatches, TallyMatchesRun}
 use Rattle.dvi_run.specs.declared.tally.Tally.{Tally}
 use Rattle.dvi_run.proofs.Clauses.{AtPage, at_page}
-use Rattle.dvi_run.proofs.CountedPages.{each_page_is_drawn_once}
 use Rattle.dvi_run.proofs.OneRun.{all_good, ends_once, found}
+use Rattle.dvi_run.proofs.OneWorkerCalls.{one_loads, same_loads, weigh_alike}
+use Rattle.dvi_run.proofs.OneWorkerPages.{same_pages}
 use Rattle.dvi_run.proofs.Prefixes.{none_after_fault}
 use Rattle.dvi_run.proofs.RunOfWorkers.{one_of}
-
--- ---- the pages of one worker
-
-above_place : (xs : List ℕ) (k : ℕ) → IsStrictlyIncreasing xs → k < length xs → k ≤ get_or xs k 0
-above_place xs zero rises lt = omega arith
-above_place xs (suc k) rises lt =
-    let before = above_place xs k rises (omega arith) in
-    let same : k + 1 ≡ suc k = omega arith in
-    let step : get_or xs k 0 < get_or xs (suc k) 0 = subst (λ (i : ℕ). get_or xs k 0 < get_or xs i 0) same (rises k (omega arith)) in
-    omega (arith, before, step)
-
-below_end : (xs : List ℕ) (total k j : ℕ) → IsStrictlyIncreasing xs → ((p : ℕ) → Contains xs p → p < total) → k + j < length xs → get_or xs k 0 + j < total
-below_end xs total k zero rises inside lt =
-    let here = inside (get_or xs k 0) (Contains-get_or xs k 0 (omega arith)) in omega (arith, here)
-below_end xs total k (suc j) rises inside lt =
-    let later = below_end xs total (suc k) j rises inside (omega arith) in
-    let same : k + 1 ≡ suc k = omega arith in
-    let step : get_or xs k 0 < get_or xs (suc k) 0 = subst (λ (i : ℕ). get_or xs k 0 < get_or xs i 0) same (rises k (omega arith)) in
-    omega (arith, later, step)
-
--- pages that one worker has alone are 0, 1 and so on
-module _ (total : ℕ) (pages : ℕ → List ℕ) (s : ArePartitioned total 1 pages) where
-  size : length (pages 0) ≡ total
-  size = (each_page_is_drawn_once total 1 pages s).count
-
-  at_place : (k : ℕ) → k < total → get_or (pages 0) k 0 ≡ k
-  at_place k lt =
-      let long = size in
-      let above = above_place (pages 0) k (s.rising 0 (omega arith)) (omega (arith, lt, long)) in
-      let below = below_end (pages 0) total k (total - (k + 1)) (s.rising 0 (omega arith)) (λ p has. s.inside 0 p (omega arith) has) (omega (arith, lt, long)) in
-      omega (arith, lt, above, below)
-
-same_pages : (total : ℕ) (pages others : ℕ → List ℕ) → ArePartitioned total 1 pages → ArePartitioned total 1 others → pages 0 ≡ others 0
-same_pages total pages others s t =
-    let long = size total pages s in
-    let same = size total others t in
-    ext_get_or 0 (pages 0) (others 0) (long ∙ sym same) (λ k lt. let below : k < total = omega (arith, lt, long) in at_place total pages s k below ∙ sym (at_place total others t k below))
 
 -- ---- how such runs end
 
@@ -250,48 +209,6 @@ same_keys one g files known r (p ∷ pages) keys others a b =
     let here = one files u (indexed_of g r) g.sheet p a.3.0 b.3.0 a.0 b.0 (found one g files known r p a.3.0 a.0 u is a.3.1) (found one g files known r p b.3.0 b.0 u is b.3.1) in
     a.2 ∙ (ap₂ (λ (x y : List FontKey). x ++ y) here.1 (same_keys one g files known r pages a.1 b.1 a.4 b.4) ∙ sym b.2)
 
--- ---- the weights
-
--- the calls of two runs weigh by one function of keys
-weigh_alike : (one : OneWeightInALibrary) (g : Setup) (files : FileTable) (known : g.library ≡ Some files) (r : Reading) (pages : List ℕ) (keys : List FontKey) (xs ys : List Call) → WholeLooks (finding g r) (indexed_of g r) g.sheet pages keys
-    → SeatCalls keys xs → SeatCalls keys ys → AllWeigh (IsWeightOf g.library (document_units g.res r)) xs → AllWeigh (IsWeightOf g.library (document_units g.res r)) ys → (weight : FontKey → ℕ) × WeighSo weight xs × WeighSo weight ys
-weigh_alike one g files known r [] keys xs ys none for_xs for_ys p q =
-    let no_call : xs ≡ [] = subst (λ (ks : List FontKey). SeatCalls ks xs) none for_xs in
-    let neither : ys ≡ [] = subst (λ (ks : List FontKey). SeatCalls ks ys) none for_ys in
-    ((λ k. 0), subst (WeighSo (λ k. 0)) (sym no_call) tt, subst (WeighSo (λ k. 0)) (sym neither) tt)
-weigh_alike one g files known r (page ∷ pages) keys xs ys looked for_xs for_ys p q =
-    let u = looked.3.1.units in
-    let is : document_units g.res r ≡ Some u = looked.3.1.of_document in
-    let Here : FontKey → ℕ → Type 0 = IsWeightOf (Some files) (Some u) in
-    let here : (cs : List Call) → AllWeigh (IsWeightOf g.library (document_units g.res r)) cs → AllWeigh Here cs =
-    λ cs all. subst (λ (o : Option Units). AllWeigh (IsWeightOf (Some files) o) cs) is (subst (λ (o : Option FileTable). AllWeigh (IsWeightOf o (document_units g.res r)) cs) known all) in
-    let there = weight_there Here (one files u) (xs ++ ys) (weigh_joined Here xs ys (here xs p) (here ys q)) in
-    (there.0, weigh_first _ xs ys there.1, weigh_second _ xs ys there.1)
-
--- ---- the loads
-
--- the same pages, look-ups and calls have as many loads
-same_loads : (V W : Type 0) (v : V) (w : W) (g : Setup) (files : FileTable) (known : g.library ≡ Some files) (r : Reading) (pages : List ℕ) (keys : List FontKey) (calls : List Call) (m n : ℕ) → WholeLooks (finding g r) (indexed_of g r) g.sheet pages keys
-    → SeatCalls keys calls → LoadsAreOf V g r calls m → LoadsAreOf W g r calls n → m ≡ n
-same_loads V W v w g files known r [] keys calls m n none for_keys a b =
-    let no_call : calls ≡ [] = subst (λ (ks : List FontKey). SeatCalls ks calls) none for_keys in
-    let no_miss : misses calls ≡ 0 = ap misses no_call in
-    let few = a.few in
-    let also = b.few in
-    omega (arith, no_miss, few, also)
-same_loads V W v w g files known r (page ∷ pages) keys calls m n looked for_keys a b =
-    let u = looked.3.1.units in
-    let is : document_units g.res r ≡ Some u = looked.3.1.of_document in
-    let just : (X : Type 0) (x : X) (k : ℕ) → LoadsAreOf X g r calls k → k ≡ min (0 + files_loaded files u calls) (2 ^ 64 - 1) =
-    λ X x k h.
-    (subst (λ (o : Option Units). IfSome o (λ y. LoadedFiles X (files_loaded files y calls) 0 k)) is
-    (subst (λ (o : Option FileTable). IfSome o (λ l. IfSome (document_units g.res r) (λ y. LoadedFiles X (files_loaded l y calls) 0 k))) known h.files)).just x (omega arith) in
-    just V v m a ∙ sym (just W w n b)
-
-one_loads : {F : Type 0} (ws : List (Worker F)) (d : Worker F) → 1 ≤ length ws → loads_of 1 ws ≡ (get_or ws 0 d).loads
-one_loads [] d long = absurd (omega (arith, long))
-one_loads (x ∷ ws) d long = omega arith
-
 pub one_worker : (F G : Type 0) → OneReading → OneRun → PagesHaveOneValue → OneWeightInALibrary → RunsOfOneWorkerAreAlike F G
 one_worker F G reading one law weights task files bytes output other before after was now history calls e f tally t single known long size by also a b =
     let g = setup_of task in
@@ -342,11 +259,3 @@ one_worker F G reading one law weights task files bytes output other before afte
           (subst (λ (o : Option Tally). report_text task.settings (Some ta.0) (loads_of 1 after) history e ≡ report_text task.settings o (loads_of 1 now) calls f) (sym tb.1)
           (report_alike task.settings ta.0 tb.0 (loads_of 1 after) (loads_of 1 now) history calls e f count black calls_are line loads)),
     )
-
--- ---- the history by the weights of keys
-
-pub one_history_by : (F : Type 0) → OneWeightInALibrary → OneWorkerHasOneHistory F
-one_history_by F one task files reading history end after units weight single unbroken known is weighs drew =
-    let so : AllWeigh (IsWeightOf (Some files) (Some units)) (own 1 history) =
-    subst (λ (o : Option Units). AllWeigh (IsWeightOf (Some files) o) (own 1 history)) is (subst (λ (o : Option FileTable). AllWeigh (IsWeightOf o (document_units (setup_of task).res reading)) (own 1 history)) known drew.weighed) in
-    drew.one single unbroken weight (weigh_as (IsWeightOf (Some files) (Some units)) (λ k w. w ≡ weight k) (λ k w h. one files units k w (weight k) h (weighs k)) (own 1 history) so)

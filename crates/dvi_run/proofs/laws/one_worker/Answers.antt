@@ -1,4 +1,5 @@
-use Rattle.dvi_run.proofs.OneWorker.{one_history_by, one_worker}
+use Rattle.dvi_run.proofs.OneWorker.{one_worker}
+use Rattle.dvi_run.proofs.OneWorkerCalls.{one_history_by}
 use Rattle.dvi_run.proofs.laws.one_worker.Goals as goal
 
 pub returns-clause-alike : goal.returns-clause-alike
