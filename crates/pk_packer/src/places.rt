@@ -47,8 +47,8 @@ pub fn row_begin(bits: &PackedBitmap, row: u32) -> Place
         };
     }
     let black = bits.is_black(0, row);
-    let end = colour_end(bits, row, 0, black);
-    let copies = copies_below(bits, row, end);
+    let end = colour_end(bits, 0, row, black);
+    let copies = copies_below(bits, end, row);
     Place {
         row,
         column: 0,
@@ -73,7 +73,7 @@ pub fn next_colour(bits: &PackedBitmap, place: Place) -> Place
     ensures black { result.black ≡ not place.black }
 {
     let black = !place.black;
-    let end = colour_end(bits, place.row, place.end, black);
+    let end = colour_end(bits, place.end, place.row, black);
     Place {
         column: place.end,
         end,
@@ -83,7 +83,7 @@ pub fn next_colour(bits: &PackedBitmap, place: Place) -> Place
 }
 
 // Where the pixels of a colour that begin in a column end.
-fn colour_end(bits: &PackedBitmap, row: u32, column: u32, black: bool) -> u32
+fn colour_end(bits: &PackedBitmap, column: u32, row: u32, black: bool) -> u32
     requires narrow { bits.now.width ≤ MAX_GLYPH_SIDE }
     requires low { row < bits.now.height }
     requires inside { column < bits.now.width }

@@ -7,48 +7,48 @@ ghost use Rattle.pk_packer.specs.Written.{has_both_colours, pixel_rows};
 use packed_rows::PackedBitmap;
 
 /// How many rows below a row are copies of it that are not written: none where the colour with
-/// which it begins ends only at the row's end.
-pub fn copies_below(bits: &PackedBitmap, y: u32, end: u32) -> u32
-    requires inside { y < bits.now.height }
-    requires colours { nat_lt end bits.now.width
-        ≡ has_both_colours (row_of (pixel_rows bits.now) y) }
-    ensures fit { y + 1 + result ≤ bits.now.height }
-    ensures copies { AreCopies (pixel_rows bits.now) y result }
+/// which it begins ends, at a column, only at the row's end.
+pub fn copies_below(bits: &PackedBitmap, column: u32, row: u32) -> u32
+    requires inside { row < bits.now.height }
+    requires colours { nat_lt column bits.now.width
+        ≡ has_both_colours (row_of (pixel_rows bits.now) row) }
+    ensures fit { row + 1 + result ≤ bits.now.height }
+    ensures copies { AreCopies (pixel_rows bits.now) row result }
 {
-    if end >= bits.width() {
+    if column >= bits.width() {
         return 0;
     }
-    equal_below(bits, y, end)
+    equal_below(bits, column, row)
 }
 
 /// How many rows below a row equal it, up to the first that doesn't. Two rows are compared first at
 /// a column where they are likely to differ.
-pub fn equal_below(bits: &PackedBitmap, y: u32, column: u32) -> u32
-    requires inside { y < bits.now.height }
+pub fn equal_below(bits: &PackedBitmap, column: u32, row: u32) -> u32
+    requires inside { row < bits.now.height }
     requires in_row { column < bits.now.width }
-    ensures fit { y + 1 + result ≤ bits.now.height }
-    ensures same { (k : ℕ) → k < result → row_of (pixel_rows bits.now) (y + 1 + k)
-        ≡ row_of (pixel_rows bits.now) y }
-    ensures other { y + 1 + result < bits.now.height → row_of (pixel_rows bits.now) y
-        ≡ row_of (pixel_rows bits.now) (y + 1 + result) → ⊥ }
+    ensures fit { row + 1 + result ≤ bits.now.height }
+    ensures same { (k : ℕ) → k < result → row_of (pixel_rows bits.now) (row + 1 + k)
+        ≡ row_of (pixel_rows bits.now) row }
+    ensures other { row + 1 + result < bits.now.height → row_of (pixel_rows bits.now) row
+        ≡ row_of (pixel_rows bits.now) (row + 1 + result) → ⊥ }
 {
     let height = bits.height();
     let mut n = 0;
-    while y + 1 + n < height && are_equal(bits, y, y + 1 + n, column) {
+    while row + 1 + n < height && are_equal(bits, column, row, row + 1 + n) {
         n += 1;
     }
     n
 }
 
 // Whether two rows have the same pixels. They often differ at a column that is known before.
-fn are_equal(bits: &PackedBitmap, y: u32, z: u32, column: u32) -> bool
-    requires in_row { column < bits.now.width }
+fn are_equal(bits: &PackedBitmap, x: u32, y: u32, z: u32) -> bool
+    requires in_row { x < bits.now.width }
     requires upper { y < bits.now.height }
     requires lower { z < bits.now.height }
     ensures { IsTrue result ↔ (row_of (pixel_rows bits.now) y ≡ row_of (pixel_rows bits.now) z) }
 {
     let (upper, lower) = (bits.row(y), bits.row(z));
-    let at = column as usize / 8;
+    let at = x as usize / 8;
     if upper[at] != lower[at] {
         return false;
     }

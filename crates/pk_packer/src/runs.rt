@@ -87,7 +87,7 @@ fn same_below(bits: &PackedBitmap, place: Place) -> Below
     if next < bits.height() && bits.is_black(0, next) != place.black {
         return Below { rows: 0, pixels: 0 };
     }
-    let rows = equal_below(bits, place.row, 0);
+    let rows = equal_below(bits, 0, place.row);
     Below {
         rows,
         pixels: rows * bits.width(),

@@ -5,8 +5,8 @@ use Rattle.pk_packer.proofs.rows.equal_below.Given as goal
 
 abbrev pub invariant-loop-n : goal.invariant-loop-n
 invariant-loop-n l = record {
-  fit : l.y + 1 + l.n ≤ l.bits.height;
-  same : (k : ℕ) → k < l.n → row_of (pixel_rows l.bits) (l.y + 1 + k) ≡ row_of (pixel_rows l.bits) l.y;
+  fit : l.row + 1 + l.n ≤ l.bits.height;
+  same : (k : ℕ) → k < l.n → row_of (pixel_rows l.bits) (l.row + 1 + k) ≡ row_of (pixel_rows l.bits) l.row;
 }
 
 abbrev pub decreases-loop-n : goal.decreases-loop-n
