@@ -19,6 +19,7 @@ pub struct Step {
 }
 
 /// The run that begins at a place, if one does.
+#[inline(always)]
 pub fn next_run(bits: &PackedBitmap, place: Place) -> Option<Step>
     requires some { 1 ≤ bits.now.width }
     requires narrow { bits.now.width ≤ MAX_GLYPH_SIDE }

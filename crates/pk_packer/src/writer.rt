@@ -13,7 +13,7 @@ use crate::nybbles::Nybbles;
 use std::alloc::AllocError as NoMemory;
 
 // Writes the digits of a number.
-fn write_digits(out: &mut Nybbles, value: u32, digits: u32) -> Result<(), NoMemory>
+fn write_digits(value: u32, out: &mut Nybbles, digits: u32) -> Result<(), NoMemory>
     requires few { digits ≤ 8 }
     requires digits { digits ≡ length (digits_of 16 value) }
     requires high { out.old.high < 16 }
@@ -41,10 +41,11 @@ fn write_long(out: &mut Nybbles, value: u32) -> Result<(), NoMemory>
     for _ in 0..zeros {
         out.push(0)?;
     }
-    write_digits(out, value, digits)
+    write_digits(value, out, digits)
 }
 
 // Writes a number.
+#[inline(always)]
 fn write_number(out: &mut Nybbles, dyn_f: u8, n: u32) -> Result<(), NoMemory>
     requires form { dyn_f ≤ 13 }
     requires small { n < 2 ^ 30 }
@@ -84,6 +85,7 @@ fn write_count(out: &mut Nybbles, dyn_f: u8, n: u32) -> Result<(), NoMemory>
 }
 
 /// Writes a run, after the repeat count before it, or 0.
+#[inline(always)]
 pub fn write_run(out: &mut Nybbles, dyn_f: u8, count: u32, len: u32) -> Result<(), NoMemory>
     requires form { dyn_f ≤ 13 }
     requires count { count < 2 ^ 30 }
