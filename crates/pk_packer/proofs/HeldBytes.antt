@@ -1,5 +1,5 @@
 -- Nybbles, joined into bytes.
-use Rattle.std.proofs.Common.{◌≡◌, ◌∙◌, ℕ, zero, suc, ◌+◌, ◌*◌, ◌/◌, ◌%◌, ◌<◌, ◌≤◌, Bool, true, false, cond, List, [], ◌∷◌, ◌++◌, length, replicate, refl, sym, ap, arith, append-nil, append_assoc, length-append}
+use Rattle.std.proofs.Common.{◌≡◌, ◌∙◌, ℕ, zero, suc, ◌+◌, ◌-◌, ◌*◌, ◌/◌, ◌%◌, ◌<◌, ◌≤◌, Bool, true, false, cond, List, [], ◌∷◌, ◌++◌, length, replicate, refl, sym, ap, ap₂, arith, append-nil, append_assoc, length-append}
 use Rattle.std.specs.Int.{div_ceil}
 use Rattle.std.proofs.lemmas.List.{length-replicate, replicate_more}
 use Rattle.pk_runs.specs.Numbers.{nybbles_of}
@@ -27,6 +27,30 @@ second_half bytes all high n half e small fits pushed =
     upper = omega (arith, fits)
 
     lower : (16 * high + n) % 16 ≡ n
+    lower = omega (arith, fits)
+
+pub byte_after_whole : (bytes all : List ℕ) (high b : ℕ) (half : Bool) → half ≡ false → all ≡ bytes ++ b ∷ [] → nybbles_with all half high ≡ nybbles_with bytes half high ++ (b / 16) ∷ (b % 16) ∷ []
+byte_after_whole bytes all high b half e pushed =
+    ap (λ h. nybbles_with all h high) e ∙ append-nil (nybbles_of all) ∙ ap nybbles_of pushed ∙ nybbles_push bytes b
+    ∙ ap (λ l. l ++ (b / 16) ∷ (b % 16) ∷ []) (sym (append-nil (nybbles_of bytes)))
+    ∙ ap (λ h. nybbles_with bytes h high ++ (b / 16) ∷ (b % 16) ∷ []) (sym e)
+
+pub byte_after_half : (bytes all : List ℕ) (high b : ℕ) (half : Bool) → half ≡ true → high < 16 → b < 256 → all ≡ bytes ++ (16 * high + b / 16) ∷ []
+    → nybbles_with all half (b % 16) ≡ nybbles_with bytes half high ++ (b / 16) ∷ (b % 16) ∷ []
+byte_after_half bytes all high b half e small fits pushed =
+    ap (λ h. nybbles_with all h (b % 16)) e
+    ∙ ap (λ l. l ++ (b % 16) ∷ [])
+    (ap nybbles_of pushed ∙ nybbles_push bytes (16 * high + b / 16)
+    ∙ ap (λ k. nybbles_of bytes ++ k ∷ ((16 * high + b / 16) % 16) ∷ []) upper
+    ∙ ap (λ k. nybbles_of bytes ++ high ∷ k ∷ []) lower)
+    ∙ append_assoc (nybbles_of bytes) (high ∷ (b / 16) ∷ []) ((b % 16) ∷ [])
+    ∙ sym (append_assoc (nybbles_of bytes) (high ∷ []) ((b / 16) ∷ (b % 16) ∷ []))
+    ∙ ap (λ h. nybbles_with bytes h high ++ (b / 16) ∷ (b % 16) ∷ []) (sym e)
+  where
+    upper : (16 * high + b / 16) / 16 ≡ high
+    upper = omega (arith, fits)
+
+    lower : (16 * high + b / 16) % 16 ≡ b / 16
     lower = omega (arith, fits)
 
 -- ---- the bytes
@@ -72,6 +96,15 @@ bytes_long bytes nybbles hold =
 
 pub two_written : (a b c : List ℕ) (x y : ℕ) → b ≡ a ++ x ∷ [] → c ≡ b ++ y ∷ [] → c ≡ a ++ x ∷ y ∷ []
 two_written a b c x y e f = f ∙ ap (λ l. l ++ y ∷ []) e ∙ append_assoc a (x ∷ []) (y ∷ [])
+
+pub one_byte : (f n b : ℕ) → b ≡ (n - f - 1) + 16 * (f + 1) → (b / 16) ∷ (b % 16) ∷ [] ≡ ((n - f - 1) / 16 + f + 1) ∷ ((n - f - 1) % 16) ∷ []
+one_byte f n b e = ap₂ (λ (x y : ℕ). x ∷ y ∷ []) upper lower
+  where
+    upper : b / 16 ≡ (n - f - 1) / 16 + f + 1
+    upper = omega (arith, e)
+
+    lower : b % 16 ≡ (n - f - 1) % 16
+    lower = omega (arith, e)
 
 pub both_written : (a b c l m : List ℕ) → b ≡ a ++ l → c ≡ b ++ m → c ≡ a ++ (l ++ m)
 both_written a b c l m e f = f ∙ ap (λ k. k ++ m) e ∙ append_assoc a l m

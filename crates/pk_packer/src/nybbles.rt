@@ -1,6 +1,6 @@
 //! Nybbles, joined into bytes.
 
-ghost use Rattle.std.specs.Prelude.{◌≡◌, ◌<◌, ◌≤◌, ◌++◌, ◌∷◌, [], OnOk, IfOk};
+ghost use Rattle.std.specs.Prelude.{◌≡◌, ◌<◌, ◌≤◌, ◌/◌, ◌%◌, ◌++◌, ◌∷◌, [], OnOk, IfOk};
 ghost use Rattle.pk_packer.specs.Spelling.{HoldNybbles};
 ghost use Rattle.pk_packer.specs.Held.{nybbles_written};
 
@@ -42,6 +42,22 @@ impl Nybbles {
             self.high = nybble;
             self.half = true;
         }
+        Ok(())
+    }
+
+    /// Writes the two nybbles of a byte.
+    pub fn push_byte(&mut self, byte: u8) -> Result<(), NoMemory>
+        requires { self.old.high < 16 }
+        ensures written { OnOk result (nybbles_written self.new
+            ≡ nybbles_written self.old ++ (byte / 16) ∷ (byte % 16) ∷ []) }
+        ensures high { self.new.high < 16 }
+    {
+        if self.half {
+            self.bytes.push(16 * self.high + byte / 16)?;
+            self.high = byte % 16;
+            return Ok(());
+        }
+        self.bytes.push(byte)?;
         Ok(())
     }
 

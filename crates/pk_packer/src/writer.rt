@@ -12,36 +12,21 @@ use crate::numbers::{greatest_short, long_value};
 use crate::nybbles::Nybbles;
 use std::alloc::AllocError as NoMemory;
 
-// Writes the digits of a number.
-fn write_digits(value: u32, out: &mut Nybbles, digits: u32) -> Result<(), NoMemory>
-    requires few { digits ≤ 8 }
-    requires digits { digits ≡ length (digits_of 16 value) }
-    requires high { out.old.high < 16 }
-    ensures written { OnOk result (nybbles_written out.new
-        ≡ nybbles_written out.old ++ digits_of 16 value) }
-    ensures high { out.new.high < 16 }
-{
-    for i in 0..digits {
-        let until = value >> (4 * (digits - 1 - i));
-        out.push((until % 16) as u8)?;
-    }
-    Ok(())
-}
-
-// Writes a number of more than two nybbles.
+// Writes a number of more than two nybbles: a zero, and as many bytes as there are further digits.
 fn write_long(out: &mut Nybbles, value: u32) -> Result<(), NoMemory>
-    requires some { 1 ≤ value }
+    requires long { 16 ≤ value }
     requires high { out.old.high < 16 }
     ensures written { OnOk result (nybbles_written out.new
         ≡ nybbles_written out.old ++ long_text value) }
     ensures high { out.new.high < 16 }
 {
-    let digits = digit_count(value);
-    let zeros = digits - 1;
-    for _ in 0..zeros {
-        out.push(0)?;
+    let bytes = digit_count(value) - 1;
+    out.push(0)?;
+    for i in 0..bytes {
+        let until = u64::from(value) >> (8 * (bytes - 1 - i));
+        out.push_byte((until % 256) as u8)?;
     }
-    write_digits(value, out, digits)
+    Ok(())
 }
 
 // Writes a number.
@@ -58,8 +43,7 @@ fn write_number(out: &mut Nybbles, dyn_f: u8, n: u32) -> Result<(), NoMemory>
         out.push(n as u8)
     } else if n <= greatest_short(dyn_f) {
         let more = n - u32::from(dyn_f) - 1;
-        out.push((more / 16) as u8 + dyn_f + 1)?;
-        out.push((more % 16) as u8)
+        out.push_byte(more as u8 + 16 * (dyn_f + 1))
     } else {
         write_long(out, long_value(dyn_f, n))
     }
