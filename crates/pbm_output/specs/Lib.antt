@@ -1,2 +1,3 @@
 pub mod Pbm
 pub mod Examples
+pub mod Pieces

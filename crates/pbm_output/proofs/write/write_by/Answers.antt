@@ -17,7 +17,7 @@ returns g c =
     let height_is : height ≡ decimal c.args.page.now.height = c.as_bytes-2.ensures.value ∙ c.format-2.ensures.text ∙ ap decimal c.height.ensures.value in
     let whole : page_text c.args.page.now ≡ codes "P4\n" ++ width ++ codes " " ++ height ++ codes "\n" ++ flat_map row_text c.args.page.now.rows =
     text_joined (decimal c.args.page.now.width) (decimal c.args.page.now.height) (flat_map row_text c.args.page.now.rows) width height (flat_map row_text c.args.page.now.rows) width_is height_is refl in
-    let t1 = c.put.ensures start before [] (codes "P4\n") (c.requires start before) refl in
+    let t1 = c.put.ensures start before [] (codes "P4\n") (c.requires.nothing start before) refl in
     let t2 = c.put-2.ensures start before (codes "P4\n") (codes "P4\n" ++ width) t1 refl in
     let t3 = c.put-3.ensures start before (codes "P4\n" ++ width) (codes "P4\n" ++ width ++ codes " ") t2 refl in
     let t4 = c.put-4.ensures start before (codes "P4\n" ++ width ++ codes " ") (codes "P4\n" ++ width ++ codes " " ++ height) t3 refl in
@@ -38,7 +38,7 @@ returns-in_err-finish g c =
     let height_is : height ≡ decimal c.args.page.now.height = c.as_bytes-2.ensures.value ∙ c.format-2.ensures.text ∙ ap decimal c.height.ensures.value in
     let whole : page_text c.args.page.now ≡ codes "P4\n" ++ width ++ codes " " ++ height ++ codes "\n" ++ flat_map row_text c.args.page.now.rows =
     text_joined (decimal c.args.page.now.width) (decimal c.args.page.now.height) (flat_map row_text c.args.page.now.rows) width height (flat_map row_text c.args.page.now.rows) width_is height_is refl in
-    let t1 = c.put.ensures start before [] (codes "P4\n") (c.requires start before) refl in
+    let t1 = c.put.ensures start before [] (codes "P4\n") (c.requires.nothing start before) refl in
     let t2 = c.put-2.ensures start before (codes "P4\n") (codes "P4\n" ++ width) t1 refl in
     let t3 = c.put-3.ensures start before (codes "P4\n" ++ width) (codes "P4\n" ++ width ++ codes " ") t2 refl in
     let t4 = c.put-4.ensures start before (codes "P4\n" ++ width ++ codes " ") (codes "P4\n" ++ width ++ codes " " ++ height) t3 refl in
