@@ -113,6 +113,8 @@ pub(crate) fn small_character<'a>(opcode: u8) -> Command<'a>
 }
 
 /// The command with an opcode.
+// Inlined, so that a caller has the fields of a command without a copy of the largest one.
+#[inline(always)]
 pub(crate) fn command_with<'a>(opcode: u8, fields: &[u8], text: &'a [u8]) -> Command<'a>
     requires known { opcode ≤ LAST_OPCODE }
     requires whole { length fields.now ≡ fixed_size opcode }

@@ -62,6 +62,7 @@ fn field_size(opcode: u8) -> usize
 }
 
 // How long the text after the fields is, or `None` where the length of a special is negative.
+#[inline(always)]
 fn text_length(opcode: u8, fields: &[u8]) -> Option<usize>
     requires known { opcode ≤ LAST_OPCODE }
     requires whole { length fields.now ≡ fixed_size opcode }
