@@ -5,7 +5,7 @@ ghost use Rattle.std.specs.Int.{div_ceil};
 ghost use Rattle.pixel_round.specs.Limits.{MAX_RESOLUTION};
 ghost use Rattle.pixel_round.specs.Pixels.{AreEqual, conversion, nearest, round, ceil, IsUsable};
 
-use crate::quotients::{gcd, quotient, quotient_by, quotient_up, reciprocal_of};
+use crate::quotients::{gcd, quotient, quotient_up, reciprocal_of, small_quotient};
 use crate::units::Units;
 use std::error::Error;
 use std::fmt;
@@ -23,9 +23,6 @@ impl fmt::Display for Scale {
 
 impl Error for Scale {}
 
-// Below it, twice a length of at most 2^31 units and half a dot more fit 64 bits.
-const SMALL_TOP: u128 = 1 << 31;
-
 /// How many dots one DVI unit is, as an exact fraction that is at most 512.
 #[derive(Clone, Copy, Debug)]
 pub struct Conv {
@@ -33,10 +30,14 @@ pub struct Conv {
     bottom: u64,
     // 2^64 by twice the bottom, rounded down.
     reciprocal: u64,
+    // Twice the top, or the greatest number of 64 bits where that is less.
+    twice_top: u64,
+    // Sizes below it are converted by products of 64 bits.
+    reach: u64,
 }
 
 impl Model for Conv {
-    ghost use Rattle.std.specs.Prelude.{◌≡◌, ◌<◌, ◌≤◌, ◌*◌, ◌/◌, ◌^◌};
+    ghost use Rattle.std.specs.Prelude.{◌≡◌, ◌<◌, ◌≤◌, ◌*◌, ◌-◌, ◌/◌, ◌^◌, min};
     ghost use Rattle.pixel_round.specs.Pixels.{Fraction};
 
     ghost Value = { Fraction };
@@ -44,12 +45,16 @@ impl Model for Conv {
     ghost view = { λ c. record { top = c.top; bottom = c.bottom } };
 
     ghost invariant = { λ c. (0 < c.top) × (0 < c.bottom) × (c.top ≤ 512 * c.bottom)
-        × (c.bottom < 2 ^ 59) × (c.reciprocal ≡ 2 ^ 64 / (2 * c.bottom)) };
+        × (c.bottom < 2 ^ 59) × (c.reciprocal ≡ 2 ^ 64 / (2 * c.bottom))
+        × (c.twice_top ≡ min (2 * c.top) (2 ^ 64 - 1))
+        × (c.reach ≡ (2 ^ 64 / (2 * c.bottom) - c.bottom) / (2 * c.top)) };
 
     ghost inverse = { λ c. record {
       top = c.top;
       bottom = c.bottom;
       reciprocal = 2 ^ 64 / (2 * c.bottom);
+      twice_top = min (2 * c.top) (2 ^ 64 - 1);
+      reach = (2 ^ 64 / (2 * c.bottom) - c.bottom) / (2 * c.top);
     } };
 }
 
@@ -86,11 +91,25 @@ impl Conv {
         ensures usable { IsUsable result }
     {
         let common = gcd(top, bottom);
-        let bottom = bottom / common;
+        Conv::with_products(top / u128::from(common), bottom / common)
+    }
+
+    // The fraction, with what its products need.
+    fn with_products(top: u128, bottom: u64) -> Conv
+        requires above { 0 < top }
+        requires below { 0 < bottom }
+        requires bounded { top ≤ 512 * bottom }
+        requires small { bottom < 2 ^ 59 }
+        ensures { result ≡ record { top = top; bottom = bottom } }
+    {
+        let reciprocal = reciprocal_of(2 * bottom);
+        let twice = 2 * top;
         Conv {
-            top: top / u128::from(common),
+            top,
             bottom,
-            reciprocal: reciprocal_of(2 * bottom),
+            reciprocal,
+            twice_top: twice.min(u128::from(u64::MAX)) as u64,
+            reach: (u128::from(reciprocal.saturating_sub(bottom)) / twice) as u64,
         }
     }
 
@@ -132,9 +151,9 @@ impl Conv {
         ensures value { result ≡ pos (nearest self.now size) }
         ensures bounded { nearest self.now size ≤ 512 * size + 1 }
     {
-        if self.top < SMALL_TOP {
-            let twice = 2 * size * self.top as u64 + self.bottom;
-            return quotient_by(twice, 2 * self.bottom, self.reciprocal) as i64;
+        if size < self.reach {
+            let twice = size * self.twice_top + self.bottom;
+            return small_quotient(twice, 2 * self.bottom, self.reciprocal) as i64;
         }
         quotient(
             2 * u128::from(size) * self.top + u128::from(self.bottom),

@@ -42,18 +42,15 @@ pub fn reciprocal_of(bottom: u64) -> u64
     (NARROW / u128::from(bottom)) as u64
 }
 
-/// The quotient, rounded down, by a product where the number is below the reciprocal.
+/// The quotient, rounded down, of a number below the reciprocal: by a product.
 #[inline(always)]
-pub fn quotient_by(top: u64, bottom: u64, reciprocal: u64) -> u64
+pub fn small_quotient(top: u64, bottom: u64, reciprocal: u64) -> u64
     requires some { 1 < bottom }
     requires reciprocal { reciprocal ≡ 2 ^ 64 / bottom }
+    requires small { top < reciprocal }
     ensures { result ≡ top / bottom }
 {
-    if top < reciprocal {
-        (u128::from(top) * u128::from(reciprocal + 1) / NARROW) as u64
-    } else {
-        quotient(u128::from(top), bottom) as u64
-    }
+    (u128::from(top) * u128::from(reciprocal + 1) / NARROW) as u64
 }
 
 /// The quotient, rounded up.
