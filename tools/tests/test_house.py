@@ -35,7 +35,7 @@ NEIGHBOURS = {
     'crates/drift_rules/src/motions.rt: at_row',        # v and vv as they are to be
     'crates/drift_rules/src/motions.rt: drift',         # a place in dots, and the rounded one
     'crates/dvi_commands/src/writer/fields.rt: append_post',  # the depth and the pages, as in the command
-    'crates/pixel_round/src/quotients.rt: quotient_by',  # a number and its reciprocal, which a clause ties
+    'crates/pixel_round/src/quotients.rt: small_quotient',  # a number and its reciprocal, which a clause ties
     'crates/packed_rows/src/packed.rt: copy_down',      # a row, and how often
     'crates/gf_reader/src/drawing.rt: move_to',         # rows down, and a column
     'crates/gf_reader/src/head.rt: raster_side',        # a side and the other one
