@@ -101,7 +101,7 @@ class Limits(unittest.TestCase):
         self.limits = ' '.join(page[page.index('.Sh LIMITS'):page.index('.Sh NOTES')].split())
 
     def test_what_memory_grows_by(self):
-        for words in ('Each look-up of a font is kept to the end of the run, in 65 bytes', '1.1 GB', '226 pages', '33 MB', 'one page with one worker, at most 16 with up to eight, and at most 32 with more',
+        for words in ('Each look-up of a font is kept to the end of the run, in 33 bytes', '0.6 GB', '226 pages', '17 MB', 'one page with one worker, at most 16 with up to eight, and at most 32 with more',
                       '.Pq Ql ulimit -v'):
             self.assertIn(words, self.limits)
 

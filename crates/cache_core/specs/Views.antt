@@ -19,7 +19,7 @@ abbrev pub done_of : Act → Done
 done_of act.Hit = done.Hit
 done_of act.Claimed = done.Claimed
 done_of act.Busy = done.Busy
-done_of (act.Filled weight kept gone) = done.Filled weight kept gone
+done_of (act.Filled fill) = done.Filled fill.value.weight fill.value.kept fill.value.gone
 done_of act.Released = done.Released
 
 abbrev pub call_of : Entry → Call

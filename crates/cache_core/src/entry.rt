@@ -3,6 +3,15 @@ use crate::keys::Keys;
 use outside::FontKey;
 use std::sync::Arc;
 
+/// What the history tells of a fill: how many bytes the font weighs, whether the cache keeps it,
+/// and the keys of the fonts that were evicted for it, the least recently used first.
+#[derive(Drop)]
+pub struct WeighedFill {
+    pub weight: u64,
+    pub kept: bool,
+    pub gone: Keys,
+}
+
 /// What a call did.
 #[derive(Drop)]
 pub enum Act {
@@ -12,10 +21,9 @@ pub enum Act {
     Claimed,
     /// A look found no font, and another seat has claimed the key.
     Busy,
-    /// The seat handed in the font that it had claimed, which weighs this many bytes; `kept` says
-    /// whether the cache keeps it, and `gone` has the keys of the fonts that were evicted for it,
-    /// the least recently used first.
-    Filled { weight: u64, kept: bool, gone: Keys },
+    /// The seat handed in the font that it had claimed. What is told of it lies apart, since nearly
+    /// all entries are looks, and each takes as much room as the largest act.
+    Filled(Box<WeighedFill>),
     /// The seat gave its claim up.
     Released,
 }

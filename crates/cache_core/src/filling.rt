@@ -10,8 +10,8 @@ ghost use Rattle.cache_core.specs.Views.{call_of, calls_of, claims_of, fonts_of,
 ghost use Rattle.cache_core.specs.States.{machine_of, call, Takes, AddsFont};
 
 use crate::claims::{Claim, end};
-use crate::entry::{Act, Entry, Fill, Filling};
-use crate::fonts::{Resident, Stored, store};
+use crate::entry::{Act, Entry, Fill, Filling, WeighedFill};
+use crate::fonts::{Resident, Stored, store, told};
 use crate::keys::Keys;
 use crate::limits::Limits;
 use crate::stands::Stands;
@@ -19,10 +19,11 @@ use outside::FontKey;
 use std::sync::Arc;
 
 // The entry of a fill.
-fn filled(seat: u32, key: Arc<FontKey>, weight: u64, kept: bool, gone: Keys) -> Entry
-    ensures { call_of result ≡ call seat (arc_value key) (Filled weight kept gone) }
+fn filled(seat: u32, key: Arc<FontKey>, fill: Box<WeighedFill>) -> Entry
+    ensures { call_of result ≡ call seat (arc_value key)
+        (Filled fill.value.weight fill.value.kept fill.value.gone) }
 {
-    let act = Act::Filled { weight, kept, gone };
+    let act = Act::Filled(fill);
     Entry { seat, key, act }
 }
 
@@ -79,14 +80,16 @@ pub(crate) fn take_in<T: Stands>(
         let Ok(()) = fonts.reserve(1) else {
             return Err(value);
         };
+        let Ok(noted) = told(alloc, weight, false, Vec::new(alloc)) else {
+            return Err(value);
+        };
         fonts.push_reserved(value);
-        let (noted, answered) = (Keys::new(Vec::new(alloc)), Keys::new(Vec::new(alloc)));
         let key = end(claims, seat);
-        entries.push_reserved(filled(seat, key, weight, false, noted));
+        entries.push_reserved(filled(seat, key, noted));
         return Ok(Filling {
             fill: Fill {
                 kept: false,
-                gone: answered,
+                gone: Keys::new(Vec::new(alloc)),
             },
             fonts,
         });
@@ -98,7 +101,7 @@ pub(crate) fn take_in<T: Stands>(
         left,
     } = stored;
     let key = end(claims, seat);
-    entries.push_reserved(filled(seat, key, weight, true, noted));
+    entries.push_reserved(filled(seat, key, noted));
     Ok(Filling {
         fill: Fill {
             kept: true,

@@ -1,5 +1,5 @@
 //! The resident fonts, in the order of their use.
-ghost use Rattle.std.specs.Prelude.{◌≡◌, ◌+◌, ◌-◌, ◌≤◌, leb, ◌&&◌, ◌∷◌, ◌++◌, Some, None, length, map, take, drop, reverse, IfOk, OnOk, OnErr, IfErr, IfSome, OnSome};
+ghost use Rattle.std.specs.Prelude.{◌≡◌, ◌+◌, ◌-◌, ◌≤◌, true, leb, ◌&&◌, ◌∷◌, ◌++◌, Some, None, length, map, take, drop, reverse, IfOk, OnOk, OnErr, IfErr, IfSome, OnSome};
 ghost use Rattle.std.specs.Option.{option_map};
 ghost use Rattle.std.specs.Arc.{arc_value};
 ghost use Rattle.std.specs.Vec.{vec_len, vec_capacity};
@@ -10,6 +10,7 @@ ghost use Rattle.cache_core.specs.Limits.{MAX_CACHED_FONTS};
 ghost use Rattle.cache_core.specs.Machine.{key_eq, weights, stay, gone_of};
 ghost use Rattle.cache_core.specs.Views.{fonts_of, weighed, fonts_to_evict, passes};
 
+use crate::entry::WeighedFill;
 use crate::key_test::same_key;
 use crate::keys::Keys;
 use crate::limits::Limits;
@@ -188,9 +189,26 @@ fn drop_oldest<T: Drop>(fonts: &mut Fonts<T>, stay: usize, left: &mut Vec<Arc<T>
     }
 }
 
-// What was stored: the keys whose fonts left for it, to note and to answer, and these fonts.
+// What the history tells of a fill, in memory of its own.
+pub(crate) fn told(
+    alloc: Global,
+    weight: u64,
+    kept: bool,
+    gone: Vec<Arc<FontKey>>,
+) -> Result<Box<WeighedFill>, NoMemory>
+    ensures { IfOk result (λ told. told.value ≡ record {
+      weight = weight;
+      kept = kept;
+      gone = map arc_value gone.items;
+    }) }
+{
+    let gone = Keys::new(gone);
+    Ok(Box::new(alloc, WeighedFill { weight, kept, gone })?)
+}
+
+// What was stored: what the history tells of it, the keys whose fonts left for it, and these fonts.
 pub(crate) struct Stored<T: Drop> {
-    pub(crate) noted: Keys,
+    pub(crate) noted: Box<WeighedFill>,
     pub(crate) answered: Keys,
     pub(crate) left: Vec<Arc<T>>,
 }
@@ -215,9 +233,13 @@ pub(crate) fn store<T: Stands>(
     requires weight { weight ≡ T.weighs (arc_value font) }
     requires total { resident.old.total
         ≡ weights (weighed T.weighs (fonts_of resident.old.fonts.entries)) }
-    ensures noted { IfOk result (λ s. s.noted ≡ gone_of limits
+    ensures noted { IfOk result (λ s. s.noted.value ≡ record {
+      weight = weight;
+      kept = true;
+      gone = s.answered;
+    }) }
+    ensures answered { IfOk result (λ s. s.answered ≡ gone_of limits
         ((arc_value key.now, weight) ∷ weighed T.weighs (fonts_of resident.old.fonts.entries))) }
-    ensures answered { IfOk result (λ s. s.answered ≡ s.noted) }
     ensures left { IfOk result (λ s. map arc_value s.left.items ≡ fonts_to_evict
         limits T.weighs ((arc_value key.now, arc_value font)
         ∷ fonts_of resident.old.fonts.entries)) }
@@ -247,6 +269,9 @@ pub(crate) fn store<T: Stands>(
     let Ok(()) = left.reserve(noted.len()) else {
         return Err(font);
     };
+    let Ok(noted) = told(alloc, weight, true, noted) else {
+        return Err(font);
+    };
     let Ok(kept) = Arc::try_clone(key) else {
         return Err(font);
     };
@@ -256,7 +281,7 @@ pub(crate) fn store<T: Stands>(
     drop_oldest(&mut resident.fonts, stay + 1, &mut left);
     resident.total = weight + rest;
     Ok(Stored {
-        noted: Keys::new(noted),
+        noted,
         answered: Keys::new(answered),
         left,
     })

@@ -24,7 +24,7 @@ mod told;
 
 pub use calls::{Call, Done};
 pub use common::Common;
-pub use entry::{Act, Entry, Fill, Filling, Look};
+pub use entry::{Act, Entry, Fill, Filling, Look, WeighedFill};
 pub use ghost_common::GhostCommon;
 pub use keys::Keys;
 pub use limits::Limits;

@@ -63,7 +63,7 @@ fn look(entry: &Entry) -> (bool, bool) {
     match &entry.act {
         Act::Hit => (true, false),
         Act::Claimed | Act::Busy => (true, true),
-        Act::Filled { .. } | Act::Released => (false, false),
+        Act::Filled(_) | Act::Released => (false, false),
     }
 }
 

@@ -112,11 +112,11 @@ impl Machine {
             Act::Claimed => self.claim(seat, font),
             Act::Busy => Ok(!self.keeps(font) && !self.holds(seat) && self.is_claimed(font)),
             Act::Released => Ok(self.release(seat, font)),
-            Act::Filled { weight, kept, gone } => {
+            Act::Filled(told) => {
                 let fill = Filled {
-                    weight: *weight,
-                    kept: *kept,
-                    gone: gone.keys(),
+                    weight: told.weight,
+                    kept: told.kept,
+                    gone: told.gone.keys(),
                 };
                 let is_mine = self.release(seat, font);
                 Ok(self.fill(history, font, &fill)? && is_mine)

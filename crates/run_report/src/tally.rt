@@ -29,7 +29,7 @@ fn evicted_by(act: &Act) -> usize
     ensures { result ≡ kinds.evicted_by (done_of act.now) }
 {
     match act {
-        Act::Filled { gone, .. } => gone.keys().len(),
+        Act::Filled(fill) => fill.gone.keys().len(),
         _ => 0,
     }
 }
@@ -62,7 +62,7 @@ impl Tally {
             Act::Hit => self.hits += 1,
             Act::Claimed => self.claims += 1,
             Act::Busy => self.busy += 1,
-            Act::Filled { .. } => self.evictions += evicted_by(act) as u128,
+            Act::Filled(_) => self.evictions += evicted_by(act) as u128,
             Act::Released => self.releases += 1,
         }
     }

@@ -91,12 +91,8 @@ fn put_act<N: Output>(gather: &mut Gather, notes: &mut N, key: &FontKey, act: &A
         Act::Hit => put_look(gather, notes, key, b" hit"),
         Act::Claimed => put_look(gather, notes, key, b" claimed"),
         Act::Busy => put_look(gather, notes, key, b" busy"),
-        Act::Filled {
-            kept: true,
-            gone,
-            ..
-        } => put_fill(gather, notes, key, gone.keys()),
-        Act::Filled { kept: false, .. } => put_not_kept(gather, notes, key),
+        Act::Filled(fill) if fill.kept => put_fill(gather, notes, key, fill.gone.keys()),
+        Act::Filled(_) => put_not_kept(gather, notes, key),
         Act::Released => put_release(gather, notes, key),
     }
 }

@@ -10,8 +10,8 @@ fn kind_of(entry: &Entry) -> &'static str {
         Act::Hit => "hit",
         Act::Claimed => "claimed",
         Act::Busy => "busy",
-        Act::Filled { gone, .. } if gone.keys().is_empty() => "filled",
-        Act::Filled { .. } => "evicted",
+        Act::Filled(fill) if fill.gone.keys().is_empty() => "filled",
+        Act::Filled(_) => "evicted",
         Act::Released => "released",
     }
 }

@@ -56,8 +56,8 @@ fn letters_of(calls: &[Entry]) -> [u8; 10] {
                 Act::Hit => b'h',
                 Act::Claimed => b'c',
                 Act::Busy => b'b',
-                Act::Filled { gone, .. } if gone.keys().is_empty() => b'f',
-                Act::Filled { .. } => b'g',
+                Act::Filled(fill) if fill.gone.keys().is_empty() => b'f',
+                Act::Filled(_) => b'g',
                 Act::Released => b'r',
             };
             letters[2 * at + 1] = call.key.name.bytes().first().copied().unwrap_or(b'?');

@@ -77,12 +77,12 @@ fn counts_of(history: &[Entry]) -> [u32; 6] {
             Act::Hit => 0,
             Act::Claimed => 1,
             Act::Busy => 2,
-            Act::Filled { .. } => 3,
+            Act::Filled(_) => 3,
             Act::Released => 4,
         };
         counts[kind] = counts[kind].saturating_add(1);
-        if let Act::Filled { gone, .. } = &entry.act {
-            let evicted = u32::try_from(gone.keys().len()).unwrap_or(u32::MAX);
+        if let Act::Filled(fill) = &entry.act {
+            let evicted = u32::try_from(fill.gone.keys().len()).unwrap_or(u32::MAX);
             counts[5] = counts[5].saturating_add(evicted);
         }
     }

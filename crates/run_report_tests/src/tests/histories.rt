@@ -1,6 +1,6 @@
 //! Histories of a font cache, written as their calls.
 
-use cache_core::{Act, Entry, Keys};
+use cache_core::{Act, Entry, Keys, WeighedFill};
 use outside::{FontKey, FontName};
 use std::alloc::Global;
 use std::sync::Arc;
@@ -38,11 +38,12 @@ fn fill(alloc: Global, kept: bool, names: &[&[u8]]) -> Result<Act, Fail> {
     for name in names {
         gone.push(sized(alloc, name, 128, 128)?)?;
     }
-    Ok(Act::Filled {
+    let fill = WeighedFill {
         weight: 2,
         kept,
         gone: Keys::new(gone),
-    })
+    };
+    Ok(Act::Filled(Box::new(alloc, fill)?))
 }
 
 fn act_of(alloc: Global, done: Done) -> Result<Act, Fail> {

@@ -59,7 +59,7 @@ fn letters(entry: &Entry) -> (char, char) {
         Act::Hit => 'h',
         Act::Claimed => 'c',
         Act::Busy => 'b',
-        Act::Filled { kept, gone, .. } => filled(*kept, gone.keys()),
+        Act::Filled(fill) => filled(fill.kept, fill.gone.keys()),
         Act::Released => 'r',
     };
     (second_letter(&entry.key), act)

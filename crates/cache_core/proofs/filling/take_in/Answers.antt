@@ -18,8 +18,8 @@ returns-clause-taken g c =
     (sym c.end-key-2.ensures.rest)
     (fill_takes g.T.Stands.weighs c.args.limits (fonts_of c.args.resident.now.fonts.entries) (claims_of c.args.claims.now.items) c.args.seat (arc_value c.args.key.now)
     (fonts_of c.store.new.resident.fonts.entries) (arc_value c.args.value) c.in_ok-stored.stored.answered c.requires.claim (omega arith)
-    (c.in_ok-stored.ensures.answered ∙ (c.in_ok-stored.ensures.noted
-    ∙ ap (λ n. gone_of c.args.limits ((arc_value c.args.key.now, n) ∷ weighed g.T.Stands.weighs (fonts_of c.args.resident.now.fonts.entries))) weight))
+    (c.in_ok-stored.ensures.answered
+    ∙ ap (λ n. gone_of c.args.limits ((arc_value c.args.key.now, n) ∷ weighed g.T.Stands.weighs (fonts_of c.args.resident.now.fonts.entries))) weight)
     (c.in_ok-stored.ensures.kept
     ∙ ap (λ n. take (stay c.args.limits ((arc_value c.args.key.now, n) ∷ weighed g.T.Stands.weighs (fonts_of c.args.resident.now.fonts.entries)))
     ((arc_value c.args.key.now, arc_value c.args.value) ∷ fonts_of c.args.resident.now.fonts.entries)) weight))

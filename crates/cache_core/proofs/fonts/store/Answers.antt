@@ -32,10 +32,10 @@ drop_oldest-requires g c =
     let reserved = c.in-Ok-reserve.ensures.ok in
     record { room = omega arith; some = omega arith }
 
-pub returns-clause-noted : goal.returns-clause-noted
-returns-clause-noted g c =
-    c.new.ensures ∙ (c.in-Ok.ensures.noted ∙ sym (gone_are g.T.Stands.weighs c.args.limits (arc_value c.args.key.now) c.args.weight
-    c.in-Ok.leavers.stay (fonts_of c.args.resident.now.fonts.entries) (c.in-Ok.ensures.stay (arc_value c.args.key.now))))
+pub returns-clause-answered : goal.returns-clause-answered
+returns-clause-answered g c =
+    c.new.ensures ∙ (c.in-Ok.ensures.answered ∙ (c.in-Ok.ensures.noted ∙ sym (gone_are g.T.Stands.weighs c.args.limits (arc_value c.args.key.now) c.args.weight
+    c.in-Ok.leavers.stay (fonts_of c.args.resident.now.fonts.entries) (c.in-Ok.ensures.stay (arc_value c.args.key.now)))))
 
 pub returns-clause-left : goal.returns-clause-left
 returns-clause-left g c =

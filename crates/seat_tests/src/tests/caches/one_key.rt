@@ -7,12 +7,8 @@ fn letter(act: &Act) -> char {
         Act::Hit => 'h',
         Act::Claimed => 'c',
         Act::Busy => 'b',
-        Act::Filled {
-            kept: true,
-            gone,
-            ..
-        } if gone.keys().is_empty() => 'f',
-        Act::Filled { .. } => 'g',
+        Act::Filled(fill) if fill.kept && fill.gone.keys().is_empty() => 'f',
+        Act::Filled(_) => 'g',
         Act::Released => 'r',
     }
 }
@@ -44,10 +40,10 @@ fn fits(state: &mut OneKey, entry: &Entry) -> bool {
             state.claims = Some(entry.seat);
             is_free
         }
-        Act::Filled { kept, gone, .. } => {
+        Act::Filled(fill) => {
             state.claims = None;
             state.is_there = true;
-            is_own && *kept && gone.keys().is_empty()
+            is_own && fill.kept && fill.gone.keys().is_empty()
         }
         Act::Released => {
             state.claims = None;

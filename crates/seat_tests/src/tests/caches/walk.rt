@@ -188,7 +188,7 @@ pub(crate) fn told(entry: &Entry) -> (u32, char, u32) {
         Act::Hit => (entry.key.size, 'h', 0),
         Act::Claimed => (entry.key.size, 'c', 0),
         Act::Busy => (entry.key.size, 'b', 0),
-        Act::Filled { gone, .. } => (entry.key.size, 'f', first_size(gone.keys())),
+        Act::Filled(fill) => (entry.key.size, 'f', first_size(fill.gone.keys())),
         Act::Released => (entry.key.size, 'r', 0),
     }
 }
