@@ -16,3 +16,13 @@ pub trait Told {
     /// In which common parts it stands.
     ghost stands: { Self → Common → Type 0 };
 }
+
+/// The owner of a value takes turns as the value does. What is handed from seat to seat is then no
+/// more than the owner, and the value stays where it is.
+impl<T: Told> Told for Box<T> {
+    ghost history = { λ owner. T.history owner.value };
+
+    ghost turns = { λ owner. T.turns owner.value };
+
+    ghost stands = { λ owner part. T.stands owner.value part };
+}

@@ -24,14 +24,15 @@ use std::marker::Model;
 use std::sync::{Arc, Wait};
 use turn_lock::{Seat, TurnLock};
 
-/// A seat of a font cache.
-pub type CacheSeat<T> = Seat<CacheState<T>>;
+/// A seat of a font cache. What it takes in a turn is the one owner of the state, so that no more
+/// than a pointer moves.
+pub type CacheSeat<T> = Seat<Box<CacheState<T>>>;
 
 /// A font cache that its seats use in turn. Contracts see which lock it is. Each call needs seats
 /// of this same cache.
 #[derive(Drop)]
 pub struct FontCache<T: Stands> {
-    lock: TurnLock<CacheState<T>>,
+    lock: TurnLock<Box<CacheState<T>>>,
 }
 
 impl<T: Stands> Model for FontCache<T> {
@@ -70,7 +71,8 @@ impl<T: Stands> FontCache<T> {
         ensures seat { IfOk result (λ made. made.1.view ≡ opening_view part) }
     {
         let state = CacheState::new(alloc, capacity, budget)?;
-        match TurnLock::make(alloc, state) {
+        let owner = Box::new(alloc, state)?;
+        match TurnLock::make(alloc, owner) {
             Ok((lock, seat)) => Ok((FontCache { lock }, seat)),
             Err(_) => Err(NoMemory),
         }
@@ -218,6 +220,6 @@ impl<T: Stands> FontCache<T> {
     {
         histories();
         let FontCache { lock } = self;
-        lock.close(first).finish()
+        Box::into_inner(lock.close(first)).finish()
     }
 }

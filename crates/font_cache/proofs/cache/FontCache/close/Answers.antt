@@ -5,4 +5,4 @@ use Rattle.font_cache.proofs.cache.FontCache.close.Goals as goal
 
 pub returns-clause-few_claims : goal.returns-clause-few_claims
 returns-clause-few_claims g c =
-    subst FewClaims (sym c.finish.ensures.history) (c.histories.ensures.few_claims c.close.result.limits c.close.result.history (is_legal g.T.Stands.weighs c.close.result c.close.result.limits c.finish.ensures.reached refl))
+    subst FewClaims (sym c.finish.ensures.history) (c.histories.ensures.few_claims c.into_inner.result.limits c.into_inner.result.history (is_legal g.T.Stands.weighs c.into_inner.result c.into_inner.result.limits c.finish.ensures.reached refl))
