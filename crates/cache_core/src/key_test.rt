@@ -25,10 +25,10 @@ fn same_name(a: &[u8], b: &[u8]) -> bool
     true
 }
 
-// Whether two keys are one. Their numbers are compared before their names.
+/// Whether two keys are one. Their numbers are compared before their names.
 #[tactic(auto, using(crate::proofs::SameKeys::numbers_first))]
 #[inline(always)]
-pub(crate) fn same_key(a: &FontKey, b: &FontKey) -> bool
+pub fn same_key(a: &FontKey, b: &FontKey) -> bool
     ensures { result ≡ key_eq a.now b.now }
 {
     a.size == b.size

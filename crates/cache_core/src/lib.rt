@@ -26,6 +26,7 @@ pub use calls::{Call, Done};
 pub use common::Common;
 pub use entry::{Act, Entry, Fill, Filling, Look, WeighedFill};
 pub use ghost_common::GhostCommon;
+pub use key_test::same_key;
 pub use keys::Keys;
 pub use limits::Limits;
 pub use stands::Stands;

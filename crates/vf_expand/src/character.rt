@@ -30,7 +30,7 @@ fn first_current(keys: &mut PageKeys, font: &Font) -> Result<Current, NoMemory>
         return Ok(Current::NoFont);
     };
     match font.local(number) {
-        Some(key) => Ok(Current::Chosen(keys.own(key)?)),
+        Some(key) => Ok(Current::Chosen(keys.own_first(key)?)),
         None => Ok(Current::NoFont),
     }
 }

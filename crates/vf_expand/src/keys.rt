@@ -1,7 +1,9 @@
 //! A page's own copies of the keys of its fonts.
-ghost use Rattle.std.specs.Prelude.{◌≡◌, IfOk};
+ghost use Rattle.std.specs.Prelude.{◌≡◌, IfOk, IsTrue};
 ghost use Rattle.std.specs.Arc.{arc_value};
 
+use cache_core::laws::histories;
+use cache_core::same_key;
 use outside::FontKey;
 use std::alloc::{AllocError as NoMemory, Global};
 use std::collections::BTreeSet;
@@ -13,6 +15,19 @@ use std::sync::Arc;
 pub struct PageKeys {
     alloc: Global,
     keys: BTreeSet<Arc<FontKey>>,
+    // The one with which the packet that was entered last began: all packets of a virtual font
+    // begin with one font.
+    first: Option<Arc<FontKey>>,
+}
+
+// Whether two keys are one.
+#[inline(always)]
+fn is_key(a: &FontKey, b: &FontKey) -> bool
+    ensures { IsTrue result → a.now ≡ b.now }
+{
+    // For the proof: keys that pass the test are equal.
+    histories();
+    same_key(a, b)
 }
 
 impl PageKeys {
@@ -21,6 +36,7 @@ impl PageKeys {
         PageKeys {
             alloc,
             keys: BTreeSet::new(alloc),
+            first: None,
         }
     }
 
@@ -33,6 +49,20 @@ impl PageKeys {
         }
         let own = Arc::new(self.alloc, FontKey::clone(key)?)?;
         self.keys.insert(Arc::try_clone(&own)?)?;
+        Ok(own)
+    }
+
+    /// The page's own copy of the key of the font that a packet begins with.
+    pub fn own_first(&mut self, key: &Arc<FontKey>) -> Result<Arc<FontKey>, NoMemory>
+        ensures { IfOk result (λ own. arc_value own ≡ arc_value key.now) }
+    {
+        if let Some(first) = &self.first {
+            if is_key(first, key) {
+                return Arc::try_clone(first);
+            }
+        }
+        let own = self.own(key)?;
+        self.first = Some(Arc::try_clone(&own)?);
         Ok(own)
     }
 }
