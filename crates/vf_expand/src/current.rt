@@ -30,3 +30,12 @@ pub fn space_of(current: &Current) -> i64
         Current::Known(key, _) => i64::from(key.size / 6),
     }
 }
+
+/// Whether the font was not looked up since it became current. No contract rests on it.
+#[inline(always)]
+pub fn is_chosen(current: &Current) -> bool {
+    match current {
+        Current::Chosen(_) => true,
+        Current::NoFont | Current::Known(_, _) => false,
+    }
+}

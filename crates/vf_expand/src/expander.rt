@@ -24,6 +24,7 @@ use std::marker::Model;
 use std::mem;
 use std::sync::Arc;
 
+mod asking;
 mod steps;
 
 /// A page that is being expanded. The level that is read is the page or a packet; after the packet
@@ -120,7 +121,10 @@ impl<'a> Expander<'a> {
     {
         match self.pending {
             Some(pending) => Ok(self.give_pending(pending)),
-            None => self.expand(),
+            None => match self.key_to_ask()? {
+                Some(key) => Ok(Step::Ask(key)),
+                None => self.expand(),
+            },
         }
     }
 
