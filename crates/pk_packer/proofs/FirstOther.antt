@@ -6,7 +6,7 @@ use Rattle.std.specs.Int.Count.{count_leading_zeros}
 use Rattle.std.specs.Prelude.{bit_and}
 use Rattle.std.proofs.lemmas.Bool.{cases_lt, le-leb, lt-leb}
 use Rattle.std.proofs.lemmas.Nat.{and_le_r, leading_le, leading_length}
-use Rattle.std.proofs.lemmas.Nat.Bits.{bit_at-lt, bit_at_above, bit_at_cat_high, bit_at_not, bit_at_ones, bit_at_ones_above, ones_shr}
+use Rattle.std.proofs.lemmas.Nat.Bits.{bit_at-lt, bit_at-zero, bit_at_above, bit_at_cat_high, bit_at_not, bit_at_ones, bit_at_ones_above, ones_shr}
 use Rattle.packed_rows.specs.Packing.{pixel}
 use Rattle.packed_rows.specs.Stamped.{word_pixel}
 use Rattle.packed_rows.proofs.Bits.{bit_of_and}
@@ -135,3 +135,14 @@ pub seen_in_word : (row : List ℕ) (at word k : ℕ) (black : Bool) → ((i : �
 seen_in_word row at word k black read low high is =
     let place : k ≡ 8 * at + (k - 8 * at) = omega (arith, low) in
     ap (pixel row) place ∙ sym (read (k - 8 * at) (omega (arith, low, high))) ∙ is
+
+-- a word in which no pixel has the other colour
+only_colour : (black p : Bool) → cond black (not p) p ≡ false → p ≡ black
+only_colour true true e = refl
+only_colour false false e = refl
+only_colour true false e = cc
+only_colour false true e = cc
+
+pub none_other : (black : Bool) (word i : ℕ) → word < 2 ^ 64 → i < 64 → others black word ≡ 0 → word_pixel word i ≡ black
+none_other black word i small h none =
+    only_colour black (word_pixel word i) (sym (other_pixel black word i small h) ∙ ap (λ n. word_pixel n i) none ∙ ap (λ n. eqb n 1) (bit_at-zero (63 - i)))

@@ -1,7 +1,7 @@
 -- Nybbles, joined into bytes.
 use Rattle.std.proofs.Common.{◌≡◌, ◌∙◌, ℕ, zero, suc, ◌+◌, ◌-◌, ◌*◌, ◌/◌, ◌%◌, ◌<◌, ◌≤◌, Bool, true, false, cond, List, [], ◌∷◌, ◌++◌, length, replicate, refl, sym, ap, ap₂, arith, append-nil, append_assoc, length-append}
 use Rattle.std.specs.Int.{div_ceil}
-use Rattle.std.proofs.lemmas.List.{length-replicate, replicate_more}
+use Rattle.std.proofs.lemmas.List.{length-replicate}
 use Rattle.pk_runs.specs.Numbers.{nybbles_of}
 use Rattle.pk_runs.proofs.Hex.{length-nybbles_of}
 use Rattle.pk_packer.specs.Spelling.{HoldNybbles, items_text, number_text}
@@ -92,10 +92,7 @@ pub bytes_long : (bytes nybbles : List ℕ) → HoldNybbles bytes nybbles → le
 bytes_long bytes nybbles hold =
     omega (arith, length-nybbles_of bytes, ap length hold, length-append nybbles (zeros (length nybbles % 2)), zeros_long (length nybbles % 2))
 
--- ---- what is written, one after another
-
-pub two_written : (a b c : List ℕ) (x y : ℕ) → b ≡ a ++ x ∷ [] → c ≡ b ++ y ∷ [] → c ≡ a ++ x ∷ y ∷ []
-two_written a b c x y e f = f ∙ ap (λ l. l ++ y ∷ []) e ∙ append_assoc a (x ∷ []) (y ∷ [])
+-- ---- numbers of two nybbles, and repeat counts
 
 pub one_byte : (f n b : ℕ) → b ≡ (n - f - 1) + 16 * (f + 1) → (b / 16) ∷ (b % 16) ∷ [] ≡ ((n - f - 1) / 16 + f + 1) ∷ ((n - f - 1) % 16) ∷ []
 one_byte f n b e = ap₂ (λ (x y : ℕ). x ∷ y ∷ []) upper lower
@@ -105,12 +102,6 @@ one_byte f n b e = ap₂ (λ (x y : ℕ). x ∷ y ∷ []) upper lower
 
     lower : b % 16 ≡ (n - f - 1) % 16
     lower = omega (arith, e)
-
-pub both_written : (a b c l m : List ℕ) → b ≡ a ++ l → c ≡ b ++ m → c ≡ a ++ (l ++ m)
-both_written a b c l m e f = f ∙ ap (λ k. k ++ m) e ∙ append_assoc a l m
-
-pub zero_written : (a b c : List ℕ) (n : ℕ) → b ≡ a ++ replicate n 0 → c ≡ b ++ 0 ∷ [] → c ≡ a ++ replicate (n + 1) 0
-zero_written a b c n e f = both_written a b c (replicate n 0) (0 ∷ []) e f ∙ ap (λ l. a ++ l) (replicate_more n 0)
 
 pub count_text : (f n : ℕ) → 2 ≤ n → items_text f (with_count n []) ≡ 14 ∷ number_text f n
 count_text f zero many = absurd (omega (arith, many))

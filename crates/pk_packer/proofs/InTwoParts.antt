@@ -1,9 +1,12 @@
 -- How many nybbles numbers take by each dyn_f.
-use Rattle.std.proofs.Common.{◌≡◌, ◌∙◌, inl, inr, ℕ, zero, suc, ◌+◌, ◌-◌, ◌*◌, ◌/◌, ◌^◌, ◌<◌, ◌≤◌, cond, ltb, length, sym, ap, arith}
+use Rattle.std.proofs.Common.{◌≡◌, ◌∙◌, inl, inr, ℕ, zero, suc, ◌+◌, ◌-◌, ◌*◌, ◌/◌, ◌^◌, ◌<◌, ◌≤◌, cond, ltb, length, refl, sym, ap, arith}
 use Rattle.std.proofs.Math.Nat.{pow-suc}
+use Rattle.std.proofs.Math.Pow.{pow_mono}
+use Rattle.std.specs.Int.Count.{count_leading_zeros}
 use Rattle.std.specs.Int.Digits.{digits_of}
 use Rattle.std.proofs.lemmas.Bool.{cases_lt, cond-false, cond-true, le-ltb, lt-ltb}
 use Rattle.std.proofs.lemmas.Int.Digits.{length-digits_of-le, length-digits_of_step}
+use Rattle.std.proofs.lemmas.Nat.{leading_length, pow-add}
 use Rattle.pk_packer.specs.Spelling.{greatest_short, long_text, number_text, repeat_text}
 use Rattle.pk_packer.proofs.HexDigits.{length-long_text, two_digits}
 use Rattle.pk_packer.proofs.Spelled.{many_nybbles, one_nybble, two_nybbles}
@@ -60,6 +63,26 @@ digits_exact zero v some low high = absurd (omega (arith, some))
 digits_exact (suc k) v some low high =
     let less : suc k - 1 ≡ k = omega arith in
     digits_between k v (omega (arith, low, ap (λ (j : ℕ). 16 ^ j) less)) high
+
+-- as many digits as there are groups of four bits from the highest one on
+sixteens : (k : ℕ) → 16 ^ k ≡ 2 ^ (4 * k)
+sixteens zero = refl
+sixteens (suc k) =
+    let four : 4 * suc k ≡ 4 * k + 4 = omega arith in
+    omega (arith, pow-suc 16 k, sixteens k, ap (λ (j : ℕ). 2 ^ j) four, pow-add 2 (4 * k) 4)
+
+by_bits : (v c m : ℕ) → c + m ≡ 32 → v < 2 ^ m → 2 ^ m ≤ 2 * v + 1 → length (digits_of 16 v) ≡ 8 - c / 4
+by_bits v c zero sum high low = omega (arith, length-digits_of-le 16 0 v (omega arith) (omega (arith, high)), sum)
+by_bits v c (suc j) sum high low =
+    let d : ℕ = 8 - c / 4 in
+    let less : 2 ^ (4 * (d - 1)) ≤ 2 ^ j = pow_mono (omega (arith, sum)) in
+    let more : 2 ^ suc j ≤ 2 ^ (4 * d) = pow_mono (omega (arith, sum)) in
+    digits_exact d v (omega (arith, sum)) (omega (arith, less, sixteens (d - 1), low, pow-suc 2 j)) (omega (arith, more, sixteens d, high))
+
+pub digits_by_zeros : (v : ℕ) → v < 2 ^ 32 → (count_leading_zeros 32 v ≤ 32) × (length (digits_of 16 v) ≡ 8 - count_leading_zeros 32 v / 4)
+digits_by_zeros v small =
+    let len = leading_length 32 v small in
+    (omega (arith, len.1), by_bits v (count_leading_zeros 32 v) len.0 len.1 len.2 len.3)
 
 -- with one digit less than the power has, and with as many
 pub long_before : (d v w : ℕ) → 2 ≤ d → 16 ≤ v → 16 ^ (d - 1) ≤ v → v ≤ w → w < 16 ^ d → 2 * d - 1 ≡ length (long_text w)

@@ -5,6 +5,7 @@ pub mod InTwoParts
 pub mod Groups
 pub mod Expanded
 pub mod FirstOther
+pub mod JoinedWords
 pub mod Added
 pub mod ReadAgain
 pub mod PlainBits

@@ -2,6 +2,7 @@
 //! takes fewer bytes.
 #![tactic(auto)]
 
+mod blocks;
 mod counted;
 mod digits;
 mod kept;
@@ -17,6 +18,7 @@ mod row;
 mod rows;
 mod runs;
 mod tally;
+mod words;
 mod writer;
 
 pub use laws::{plain_bitmaps, runs_written, written_examples};

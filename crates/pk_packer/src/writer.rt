@@ -13,6 +13,7 @@ use crate::nybbles::Nybbles;
 use std::alloc::AllocError as NoMemory;
 
 // Writes a number of more than two nybbles: a zero, and as many bytes as there are further digits.
+#[inline(always)]
 fn write_long(out: &mut Nybbles, value: u32) -> Result<(), NoMemory>
     requires long { 16 ≤ value }
     requires high { out.old.high < 16 }
@@ -50,6 +51,7 @@ fn write_number(out: &mut Nybbles, dyn_f: u8, n: u32) -> Result<(), NoMemory>
 }
 
 // Writes a repeat count, and nothing for 0.
+#[inline(always)]
 fn write_count(out: &mut Nybbles, dyn_f: u8, n: u32) -> Result<(), NoMemory>
     requires form { dyn_f ≤ 13 }
     requires small { n < 2 ^ 30 }
@@ -61,11 +63,22 @@ fn write_count(out: &mut Nybbles, dyn_f: u8, n: u32) -> Result<(), NoMemory>
     match n {
         0 => Ok(()),
         1 => out.push(15),
-        _ => {
-            out.push(14)?;
-            write_number(out, dyn_f, n)
-        }
+        _ => write_many(out, dyn_f, n),
     }
+}
+
+// Writes a repeat count of several copies.
+fn write_many(out: &mut Nybbles, dyn_f: u8, n: u32) -> Result<(), NoMemory>
+    requires form { dyn_f ≤ 13 }
+    requires some { 2 ≤ n }
+    requires small { n < 2 ^ 30 }
+    requires high { out.old.high < 16 }
+    ensures written { OnOk result (nybbles_written out.new
+        ≡ nybbles_written out.old ++ items_text dyn_f (with_count n [])) }
+    ensures high { out.new.high < 16 }
+{
+    out.push(14)?;
+    write_number(out, dyn_f, n)
 }
 
 /// Writes a run, after the repeat count before it, or 0.

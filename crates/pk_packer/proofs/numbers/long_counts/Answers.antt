@@ -1,4 +1,4 @@
-use Rattle.std.proofs.Common.{◌+◌, ◌*◌, ◌-◌, ◌^◌, ℕ, length, ap, arith}
+use Rattle.std.proofs.Common.{◌+◌, ◌*◌, ◌/◌, ◌-◌, ◌^◌, ℕ, length, ap, arith}
 use Rattle.pk_packer.specs.Spelling.{long_text}
 use Rattle.pk_packer.proofs.InTwoParts.{by_turn, less, long_before, long_from, next_power, power_above}
 use Rattle.pk_packer.proofs.numbers.long_counts.Goals as goal
@@ -20,7 +20,7 @@ returns-clause-counts c = λ f form.
     let d : ℕ = c.loop-beyond.digits in
     let v : ℕ = c.args.value in
     let i = c.loop-beyond.invariant in
-    by_turn f c.div_ceil.result (2 * d - 1) (2 * d + 1) (length (long_text (v + 15 * f)))
-    (λ below. long_before d v (v + 15 * f) i.some c.requires.long i.low (omega arith) (omega (arith, below, c.div_ceil.ensures, c.from-2.ensures, i.power, c.loop-beyond-test.false, c.from.ensures)))
-    (λ above. long_from d (v + 15 * f) i.some (omega (arith, i.large, i.power)) (omega (arith, above, c.div_ceil.ensures, c.from-2.ensures, i.power, c.loop-beyond-test.false, c.from.ensures))
+    by_turn f ((c.loop-beyond.beyond + 14 - c.from-2.result) / 15) (2 * d - 1) (2 * d + 1) (length (long_text (v + 15 * f)))
+    (λ below. long_before d v (v + 15 * f) i.some c.requires.long i.low (omega arith) (omega (arith, below, c.from-2.ensures, i.power, c.loop-beyond-test.false, c.from.ensures)))
+    (λ above. long_from d (v + 15 * f) i.some (omega (arith, i.large, i.power)) (omega (arith, above, c.from-2.ensures, i.power, c.loop-beyond-test.false, c.from.ensures))
     (omega (arith, form, i.power, c.loop-beyond-test.false, c.from.ensures)))

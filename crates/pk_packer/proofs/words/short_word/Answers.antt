@@ -1,7 +1,7 @@
 use Rattle.std.proofs.Common.{◌≡◌, ◌∙◌, ◌+◌, ◌*◌, ap, arith}
 use Rattle.packed_rows.specs.Packing.{pixel}
 use Rattle.packed_rows.proofs.EightBytes.{word_read}
-use Rattle.pk_packer.proofs.row.short_word.Goals as goal
+use Rattle.pk_packer.proofs.words.short_word.Goals as goal
 
 pub returns : goal.returns
 returns c = λ i h.
