@@ -19,6 +19,7 @@ use packed_rows::PackedBitmap;
 use std::alloc::{AllocError as NoMemory, Global};
 
 /// The length of the runs by each `dyn_f`. The runs are kept, as far as there is room.
+#[inline(never)]
 pub fn lengths_of(bits: &PackedBitmap, kept: &mut Kept) -> Lengths
     requires none { AreKept kept.old [] }
     requires narrow { bits.now.width ≤ MAX_GLYPH_SIDE }
@@ -43,6 +44,7 @@ pub fn lengths_of(bits: &PackedBitmap, kept: &mut Kept) -> Lengths
 }
 
 /// Runs in nybbles, joined into bytes; `size` is how many bytes to make room for.
+#[inline(never)]
 pub fn kept_in_bytes(
     alloc: Global,
     runs: &[CountedRun],
@@ -62,6 +64,7 @@ pub fn kept_in_bytes(
 }
 
 /// The runs of a raster in nybbles, joined into bytes; `size` is how many bytes to make room for.
+#[inline(never)]
 pub fn runs_in_bytes(
     alloc: Global,
     bits: &PackedBitmap,

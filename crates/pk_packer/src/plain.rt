@@ -60,6 +60,7 @@ fn byte_at(bits: &PackedBitmap, start: usize) -> u8
 /// Appends the plain bitmap: the pixels row after row without padding between them, eight a byte,
 /// the first in the high bit, and zero bits after the last one (Rokicki, PKtype, "Packed file
 /// format").
+#[inline(never)]
 pub fn append_plain(bits: &PackedBitmap, out: &mut Vec<u8>) -> Result<(), NoMemory>
     requires narrow { bits.now.width ≤ MAX_GLYPH_SIDE }
     requires short { bits.now.height ≤ MAX_GLYPH_SIDE }

@@ -1,6 +1,6 @@
 //! The written runs, one after another.
 
-ghost use Rattle.std.specs.Prelude.{◌≡◌, ◌+◌, ◌*◌, ◌^◌, ◌<◌, ◌≤◌, ◌∷◌, ℕ, List, [], MatchOption};
+ghost use Rattle.std.specs.Prelude.{◌≡◌, ◌+◌, ◌*◌, ◌^◌, ◌<◌, ◌≤◌, ◌∷◌, ℕ, List, [], IsTrue, MatchOption, false, not};
 ghost use Rattle.pk_runs.specs.Numbers.{Item, Run};
 ghost use Rattle.pk_runs.specs.Limits.{MAX_GLYPH_SIDE};
 ghost use Rattle.pk_packer.specs.Written.{pixel_rows, with_count, written_runs};
@@ -39,7 +39,7 @@ pub fn next_run(bits: &PackedBitmap, place: Place) -> Option<Step>
     }
     let mut len = 0;
     let mut after = Place { due: 0, ..place };
-    while after.row < bits.height() && after.black == place.black {
+    while goes_on(bits, after, place.black) {
         len += after.end - after.column;
         if after.end < bits.width() {
             return Some(Step {
@@ -57,6 +57,16 @@ pub fn next_run(bits: &PackedBitmap, place: Place) -> Option<Step>
         len,
         after,
     })
+}
+
+// Whether the colour of a run begins at a place.
+#[inline(always)]
+fn goes_on(bits: &PackedBitmap, place: Place, black: bool) -> bool
+    ensures row { IsTrue result → place.row < bits.now.height }
+    ensures colour { IsTrue result → place.black ≡ black }
+    ensures ends { result ≡ false → place.row < bits.now.height → place.black ≡ not black }
+{
+    place.row < bits.height() && place.black == black
 }
 
 // Rows that go on with a run, and how many pixels they have.
