@@ -92,10 +92,10 @@ fn same_below(bits: &PackedBitmap, place: Place) -> Below
     ensures pixels { result.pixels ≡ result.rows * bits.now.width }
 {
     let next = place.row + 1;
-    if next < bits.height() && bits.is_black(0, next) != place.black {
+    if place.column > 0 || place.copies > 0 {
         return Below { rows: 0, pixels: 0 };
     }
-    if place.column > 0 || place.copies > 0 {
+    if next < bits.height() && bits.is_black(0, next) != place.black {
         return Below { rows: 0, pixels: 0 };
     }
     let rows = equal_below(bits, 0, place.row);
