@@ -5,9 +5,8 @@ mod files;
 use cache_core::{Act, Entry};
 use files::{ONE_CHARACTER, THREE_CHARACTERS, dot_and_bar};
 use font_decode::{Decoded, Desk};
-use page_draw::{PageStop, PlainDesk, Sheet, SoloDesk, draw};
+use page_draw::{Drawn, PageStop, PlainDesk, Sheet, SoloDesk, draw};
 use page_index::Index;
-use raster_page::Page;
 use std::alloc::Global;
 use std::sync::Wait;
 use std::test::Fail;
@@ -17,14 +16,15 @@ static SHEET: Sheet = Sheet {
     height: 2,
     left: 0,
     top: 1,
+    tolerant: false,
 };
 
 // The bytes of all rows, one after another, as one number, or 0 where there is no page.
-fn dots_of(drawn: &Result<Page, PageStop>) -> u64 {
+fn dots_of(drawn: &Result<Drawn, PageStop>) -> u64 {
     let mut dots = 0u64;
-    if let Ok(page) = drawn {
-        for y in 0..page.height() {
-            for byte in page.row(y) {
+    if let Ok(drawn) = drawn {
+        for y in 0..drawn.page.height() {
+            for byte in drawn.page.row(y) {
                 dots = dots.wrapping_mul(256) | u64::from(*byte);
             }
         }

@@ -1,5 +1,5 @@
 -- What was followed of a page that was broken off is the beginning of what leads to its value.
-use Rattle.std.proofs.Common.{◌≡◌, ℕ, false, List, [], ◌∷◌, ◌++◌, ◌⊎◌, inl, inr, refl, sym, ap, subst, ◌∙◌, append_assoc, Option, Some, Ok}
+use Rattle.std.proofs.Common.{◌≡◌, ℕ, List, [], ◌∷◌, ◌++◌, ◌⊎◌, inl, inr, refl, sym, ap, subst, ◌∙◌, append_assoc, Option, Some, Ok}
 use Rattle.outside.specs.declared.keys.FontKey.{FontKey}
 use Rattle.pixel_round.specs.Pixels.{conversion, Fraction}
 use Rattle.pixel_round.specs.declared.units.Units.{Units}
@@ -98,8 +98,8 @@ broken_pages_begin l u indexed sheet i value looks old new has broken =
     let whole = has.has in
     let alike = λ (k : FontKey) (d : Decoded) (e : Decoded) (a : IsFontIn l u k d) (b : IsFontIn l u k e). one_in_a_library l u k d e a b in
     let ends = at_end c _ _ _ value whole.ends in
-    let begun = begins (IsFontIn l u) c alike (course_of false indexed.reading i) (course_of false indexed.reading i) at_origin whole.members broken.members whole.to broken.to whole.state broken.state
-    (course_similar false indexed.reading i) whole.leads broken.leads whole.moved
+    let begun = begins (IsFontIn l u) c alike (course_of sheet.tolerant indexed.reading i) (course_of sheet.tolerant indexed.reading i) at_origin whole.members broken.members whole.to broken.to whole.state broken.state
+    (course_similar sheet.tolerant indexed.reading i) whole.leads broken.leads whole.moved
     (subst (λ (x : Units). last_state (conversion x) at_origin broken.members ≡ Ok broken.state) same broken.moved) ends in
     asked_first (IsFontIn l u) c alike begun.2 whole.to broken.to broken.members begun.0 whole.state looks old new begun.3 begun.4 ends
     (whole.looked ∙ ap looks_of begun.1 ∙ looks_append broken.members begun.0) broken.asked

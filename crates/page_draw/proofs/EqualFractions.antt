@@ -15,7 +15,8 @@ use Rattle.raster_page.specs.Ink.{Inked, page_of}
 use Rattle.vf_expand.specs.Course.{Course, Gives, Asks, Lacks, Ends, Stops}
 use Rattle.page_draw.specs.Members.{Finding, Flat, LookUp, Lack, Member, and_then, marks_after, last_state, marks_from}
 use Rattle.page_draw.specs.Sheets.{inks_of}
-use Rattle.page_draw.specs.Values.{EndsIn, HasValue, PageValue, bitmap_of}
+use Rattle.page_draw.specs.Values.{DrawnValue, EndsIn, HasValue, PageValue, drawn_of}
+use Rattle.page_draw.specs.Lacks.{each_once, lacks_of}
 use Rattle.page_draw.specs.declared.sheet.Sheet.{Sheet}
 
 module _ (c d : Fraction) (same : AreEqual c d) where
@@ -112,7 +113,7 @@ module _ (c d : Fraction) (same : AreEqual c d) where
   marks_alike sheet s (LookUp k at ∷ members) = marks_alike sheet s members
   marks_alike sheet s (Lack f at ∷ members) = marks_alike sheet s members
 
-  ends_alike : (s : State) (page : Bitmap) (to : Course) (value : PageValue) → EndsIn c s page to value → EndsIn d s page to value
+  ends_alike : (s : State) (page : DrawnValue) (to : Course) (value : PageValue) → EndsIn c s page to value → EndsIn d s page to value
   ends_alike s page (Gives f g at rest) value h = (h.0, sym (after_alike s f) ∙ h.1, h.2)
   ends_alike s page (Asks k at rest) value h = h
   ends_alike s page (Lacks f at rest) value h = h
@@ -128,7 +129,7 @@ value_alike Finds c d sheet from value looks same h = record {
   state = h.state;
   leads = h.leads;
   moved = sym (states_alike c d same at_origin h.members) ∙ h.moved;
-  ends = subst (λ (page : Bitmap). EndsIn d h.state page h.to value) (ap (page_of sheet.width sheet.height) (marks_alike c d same sheet at_origin h.members))
-      (ends_alike c d same h.state (bitmap_of c sheet h.members) h.to value h.ends);
+  ends = subst (λ (page : Bitmap). EndsIn d h.state (record { page = page; lacks = each_once (lacks_of h.members) }) h.to value) (ap (page_of sheet.width sheet.height) (marks_alike c d same sheet at_origin h.members))
+      (ends_alike c d same h.state (drawn_of c sheet h.members) h.to value h.ends);
   looked = h.looked;
 }

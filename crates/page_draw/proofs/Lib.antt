@@ -1,4 +1,7 @@
 pub mod EqualFractions
+pub mod EachOnce
+pub mod Tolerance
+pub mod Known
 pub mod Lists
 pub mod Inks
 pub mod Ends

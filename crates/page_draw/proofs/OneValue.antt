@@ -1,18 +1,17 @@
 -- A page has one value over a library.
-use Rattle.std.proofs.Common.{◌≡◌, ℕ, false, List, [], ◌∷◌, refl, sym, ap, ap₂, subst, ◌∙◌, Option, Some, Ok, Err}
+use Rattle.std.proofs.Common.{◌≡◌, ℕ, List, [], ◌∷◌, refl, sym, ap, ap₂, subst, ◌∙◌, Option, Some, Ok, Err}
 use Rattle.outside.specs.declared.keys.FontKey.{FontKey}
 use Rattle.pixel_round.specs.Pixels.{conversion, Fraction}
 use Rattle.pixel_round.specs.declared.units.Units.{Units}
 use Rattle.drift_rules.specs.Position.{FlatCommand, State, state_after, at_origin}
 use Rattle.drift_rules.specs.declared.faults.PenFault.{PenFault}
-use Rattle.packed_rows.specs.Bitmap.{Bitmap}
 use Rattle.pk_runs.specs.declared.glyph.Glyph.{Glyph}
 use Rattle.font_decode.specs.Decoding.{AreAlike, IsFontIn}
 use Rattle.font_decode.specs.declared.font_or_fault.Decoded.{Decoded}
 use Rattle.vf_expand.specs.Course.{Course, Gives, Asks, Lacks, Ends, Stops, course_of}
 use Rattle.vf_expand.specs.Faults.{PageFaultValue, Pen}
 use Rattle.page_draw.specs.Members.{Member, Flat, LookUp, Lack, Finding, Unfolds, looks_of, last_state}
-use Rattle.page_draw.specs.Values.{EndsIn, HasValue, PageValue, bitmap_of, ended_with, fault_at}
+use Rattle.page_draw.specs.Values.{DrawnValue, EndsIn, HasValue, PageValue, drawn_of, ended_with, fault_at}
 use Rattle.page_draw.specs.declared.sheet.Sheet.{Sheet}
 use Rattle.page_draw.proofs.Lists.{apart}
 use Rattle.font_decode.proofs.Alike.{one_in_a_library}
@@ -28,7 +27,7 @@ IsAtEnd c s (Lacks f at rest) = ⊥
 IsAtEnd c s (Ends at) = Unit {0}
 IsAtEnd c s (Stops fault at) = Unit {0}
 
-pub at_end : (c : Fraction) (s : State) (page : Bitmap) (to : Course) (value : PageValue) → EndsIn c s page to value → IsAtEnd c s to
+pub at_end : (c : Fraction) (s : State) (page : DrawnValue) (to : Course) (value : PageValue) → EndsIn c s page to value → IsAtEnd c s to
 at_end c s page (Gives f g at rest) value ends = (ends.0, ends.1)
 at_end c s page (Asks k at rest) value ends = absurd ends
 at_end c s page (Lacks f at rest) value ends = absurd ends
@@ -125,7 +124,7 @@ module _ (Finds : Finding) (c : Fraction) (alike : (k : FontKey) (d e : Decoded)
       (same_look k k' at at' ms ns next.0 next.1 others.0, others.1)
 
   -- so a course has one value, and one list of look-ups
-  ends_once : (s : State) (page : Bitmap) (to to' : Course) (v w : PageValue) → Similar to to' → EndsIn c s page to v → EndsIn c s page to' w → v ≡ w
+  ends_once : (s : State) (page : DrawnValue) (to to' : Course) (v w : PageValue) → Similar to to' → EndsIn c s page to v → EndsIn c s page to' w → v ≡ w
   ends_once s page (Gives f g at x) (Gives f2 g2 at2 y) v w h first second =
       let faults : Err first.0 ≡ Err second.0 = sym first.1 ∙ ap (λ (x : FlatCommand). state_after c s x) h.0 ∙ second.1 in
       let same : first.0 ≡ second.0 = cc in
@@ -143,15 +142,15 @@ module _ (Finds : Finding) (c : Fraction) (alike : (k : FontKey) (d e : Decoded)
       first.moved second.moved (at_end c _ _ _ v first.ends) (at_end c _ _ _ w second.ends) in
       let states : Ok first.state ≡ Ok second.state = sym first.moved ∙ ap (last_state c at_origin) same.0 ∙ second.moved in
       let state : second.state ≡ first.state = cc in
-      let ends : EndsIn c first.state (bitmap_of c sheet first.members) second.to w =
-      subst (λ (x : State). EndsIn c x (bitmap_of c sheet first.members) second.to w) state
-      (subst (λ (ms : List Member). EndsIn c second.state (bitmap_of c sheet ms) second.to w) (sym same.0) second.ends) in
-      (ends_once first.state (bitmap_of c sheet first.members) first.to second.to v w same.1 first.ends ends, first.looked ∙ ap looks_of same.0 ∙ sym second.looked)
+      let ends : EndsIn c first.state (drawn_of c sheet first.members) second.to w =
+      subst (λ (x : State). EndsIn c x (drawn_of c sheet first.members) second.to w) state
+      (subst (λ (ms : List Member). EndsIn c second.state (drawn_of c sheet ms) second.to w) (sym same.0) second.ends) in
+      (ends_once first.state (drawn_of c sheet first.members) first.to second.to v w same.1 first.ends ends, first.looked ∙ ap looks_of same.0 ∙ sym second.looked)
 
 -- of a page of an index
 pub pages_have_one_value : PagesHaveOneValue
 pages_have_one_value l u indexed sheet i v w looks others first second =
     let units : Some second.units ≡ Some first.units = sym second.of_document ∙ first.of_document in
     let same : second.units ≡ first.units = cc in
-    one_value (IsFontIn l u) (conversion first.units) (λ k d e a b. one_in_a_library l u k d e a b) sheet (course_of false indexed.reading i) v w looks others
-    (course_similar false indexed.reading i) first.has (subst (λ (x : Units). HasValue (IsFontIn l u) (conversion x) sheet (course_of false indexed.reading i) w others) same second.has)
+    one_value (IsFontIn l u) (conversion first.units) (λ k d e a b. one_in_a_library l u k d e a b) sheet (course_of sheet.tolerant indexed.reading i) v w looks others
+    (course_similar sheet.tolerant indexed.reading i) first.has (subst (λ (x : Units). HasValue (IsFontIn l u) (conversion x) sheet (course_of sheet.tolerant indexed.reading i) w others) same second.has)

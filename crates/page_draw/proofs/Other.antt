@@ -7,9 +7,8 @@ use Rattle.drift_rules.specs.declared.faults.PenFault.{PenFault}
 use Rattle.drift_rules.specs.declared.flat.Flat.{Flat}
 use Rattle.pk_runs.specs.declared.glyph.Glyph.{Glyph}
 use Rattle.font_decode.specs.declared.font_or_fault.Decoded.{Decoded}
-use Rattle.vf_expand.specs.Course.{Course, Asks, Gives, Lacks}
-use Rattle.vf_expand.specs.Expansion.{Expansion, GivesNoPackedChar, HasNoLack, after_answer, asks_left, rest_of, marked_font, steps_left}
-use Rattle.vf_expand.specs.Faults.{PageFaultValue}
+use Rattle.vf_expand.specs.Course.{Course, Asks, Gives}
+use Rattle.vf_expand.specs.Expansion.{Expansion, GivesNoPackedChar, after_answer, asks_left, rest_of, marked_font, steps_left}
 use Rattle.vf_expand.specs.Steps.{GivesOne, HasItsGlyph, Steps}
 use Rattle.vf_expand.specs.declared.lack.Lack.{Lack}
 use Rattle.vf_expand.specs.declared.step.Step.{Step}
@@ -52,15 +51,6 @@ other_stays old new step.End other none h =
     record { left = h.1.left; next = (h.1.left ∙ h.0, record { left = refl; unmarked = h.1.unmarked; asks = refl }); asks = h.1.asks; fewer = tt }
 other_stays old new (step.Stop fault) other none h =
     record { left = h.1.left; next = (h.1.left ∙ h.0, record { left = refl; unmarked = h.1.unmarked; asks = refl }); asks = h.1.asks; fewer = tt }
-
--- ---- a page without lacks
-
-pub no_lack_here : (x rest : Course) (f : PageFaultValue) (at : ℕ) → x ≡ Lacks f at rest → HasNoLack x → ⊥
-no_lack_here x rest f at e h = subst HasNoLack e h
-
-pub no_lack_after : (x : Course) (d : Decoded) → HasNoLack x → HasNoLack (after_answer x d)
-no_lack_after (Asks k at rest) d h = h d
-no_lack_after _ d h = h
 
 -- a look-up that comes later has no more steps left
 pub fewer_still : (first old new : Expansion) (given : Step) → steps_left old ≤ steps_left first → HasFewerAtLook old given new → HasFewerAtLook first given new

@@ -1,17 +1,16 @@
 -- Each page has exactly one value over a library.
-use Rattle.std.proofs.Common.{◌≡◌, false, List, [], ◌∷◌, Result, Ok, Err, refl, sym, subst}
+use Rattle.std.proofs.Common.{◌≡◌, List, [], ◌∷◌, Result, Ok, Err, refl, sym, subst}
 use Rattle.outside.specs.declared.keys.FontKey.{FontKey}
 use Rattle.pixel_round.specs.Pixels.{conversion, Fraction}
 use Rattle.drift_rules.specs.Position.{State, state_after, at_origin}
 use Rattle.drift_rules.specs.declared.faults.PenFault.{PenFault}
-use Rattle.packed_rows.specs.Bitmap.{Bitmap}
 use Rattle.font_decode.specs.Decoding.{IsFontIn}
 use Rattle.font_decode.specs.declared.font_or_fault.Decoded.{Decoded}
 use Rattle.font_decode.proofs.Total.{each_key_is_decoded}
 use Rattle.vf_expand.specs.Course.{Course, Gives, Asks, Lacks, Ends, Stops, course_of}
 use Rattle.vf_expand.specs.Faults.{Pen}
 use Rattle.page_draw.specs.Members.{Member, Flat, LookUp, Lack, Finding, Unfolds, and_then, looks_of, last_state}
-use Rattle.page_draw.specs.Values.{EndsIn, PageValue, bitmap_of, ended_with, fault_at}
+use Rattle.page_draw.specs.Values.{DrawnValue, EndsIn, PageValue, drawn_of, ended_with, fault_at}
 use Rattle.page_draw.specs.Laws.{EachPageHasOneValue}
 use Rattle.page_draw.specs.Drawn.{IsPageValue}
 use Rattle.page_draw.proofs.OneValue.{pages_have_one_value}
@@ -23,7 +22,7 @@ record Followed (Finds : Finding) (c : Fraction) (s : State) (from : Course) : T
   pub state : State
   pub leads : Unfolds Finds from members to
   pub moved : last_state c s members ≡ Ok state
-  pub ends : (page : Bitmap) → (value : PageValue) × EndsIn c state page to value
+  pub ends : (page : DrawnValue) → (value : PageValue) × EndsIn c state page to value
 
 follow : (Finds : Finding) → ((k : FontKey) → (d : Decoded) × Finds k d) → (c : Fraction) (s : State) (from : Course) → Followed Finds c s from
 follow Finds each c s (Gives f g at rest) = by (λ t. follow Finds each c t rest) (state_after c s f) refl
@@ -52,8 +51,8 @@ follow Finds each c s (Stops fault at) = record { members = []; to = Stops fault
 
 pub each_page_has_one_value : EachPageHasOneValue
 each_page_has_one_value l u indexed sheet i bytes units =
-    let f = follow (IsFontIn l u) (λ k. each_key_is_decoded l u k bytes) (conversion u) at_origin (course_of false indexed.reading i) in
-    let v = f.ends (bitmap_of (conversion u) sheet f.members) in
+    let f = follow (IsFontIn l u) (λ k. each_key_is_decoded l u k bytes) (conversion u) at_origin (course_of sheet.tolerant indexed.reading i) in
+    let v = f.ends (drawn_of (conversion u) sheet f.members) in
     let has : IsPageValue (IsFontIn l u) indexed sheet i v.0 (looks_of f.members) = record {
       units = u;
       of_document = units;

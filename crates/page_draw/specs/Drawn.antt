@@ -1,6 +1,6 @@
 -- What a drawn page, and one that wasn't drawn, say of the page's value and of the keys that were
 -- asked for.
-use Rattle.std.specs.Prelude.{◌≡◌, ◌⊎◌, ℕ, false, List, [], ◌∷◌, ◌++◌, Option, Some, Result, Ok, Err}
+use Rattle.std.specs.Prelude.{◌≡◌, ◌⊎◌, ℕ, List, [], ◌∷◌, ◌++◌, Option, Some, Result, Ok, Err}
 use Rattle.outside.specs.declared.keys.FontKey.{FontKey}
 use Rattle.pixel_round.specs.Pixels.{conversion}
 use Rattle.pixel_round.specs.declared.units.Units.{Units}
@@ -22,7 +22,8 @@ pub record IsPageValue (Finds : Finding) (indexed : Indexed) (sheet : Sheet) (i 
     (value : PageValue) (looks : List FontKey) : Type 0 where
   pub units : Units
   pub of_document : document_units indexed.res indexed.reading ≡ Some units
-  pub has : HasValue Finds (conversion units) sheet (course_of false indexed.reading i) value looks
+  pub has : HasValue Finds (conversion units) sheet (course_of sheet.tolerant indexed.reading i)
+      value looks
 
 -- the page has this value, and the keys asked for are its look-ups, in order
 abbrev pub IsDrawn : Finding → Indexed → Sheet → ℕ → PageValue → Option (List FontKey)
@@ -32,14 +33,14 @@ IsDrawn Finds indexed sheet i value old new =
 
 -- the page was followed up to a look-up or a want of memory: the keys asked for are its look-ups so
 -- far, and perhaps the one that stands next
-pub record IsBroken (Finds : Finding) (indexed : Indexed) (i : ℕ)
+pub record IsBroken (Finds : Finding) (indexed : Indexed) (sheet : Sheet) (i : ℕ)
     (old new : Option (List FontKey)) : Type 0 where
   pub members : List Member
   pub to : Course
   pub units : Units
   pub state : State
   pub of_document : document_units indexed.res indexed.reading ≡ Some units
-  pub leads : Unfolds Finds (course_of false indexed.reading i) members to
+  pub leads : Unfolds Finds (course_of sheet.tolerant indexed.reading i) members to
   pub moved : last_state (conversion units) at_origin members ≡ Ok state
   pub asked : GrewBy old new (looks_of members)
       ⊎ ((k : FontKey) × (at : ℕ) × (rest : Decoded → Course) × (to ≡ Asks k at rest)
@@ -50,8 +51,8 @@ abbrev pub IsStop : Finding → Indexed → Sheet → ℕ → PageStop → Optio
     → Option (List FontKey) → Type 0
 IsStop Finds indexed sheet i (stop.Fault fault at) old new =
     IsDrawn Finds indexed sheet i (fault_at (value_of_fault fault) at) old new
-IsStop Finds indexed sheet i stop.SourceFault old new = IsBroken Finds indexed i old new
-IsStop Finds indexed sheet i stop.NoMemory old new = IsBroken Finds indexed i old new
+IsStop Finds indexed sheet i stop.SourceFault old new = IsBroken Finds indexed sheet i old new
+IsStop Finds indexed sheet i stop.NoMemory old new = IsBroken Finds indexed sheet i old new
 
 -- a page that came to its value, and wasn't broken off
 abbrev pub IsOwnStop : PageStop → Type 0

@@ -23,7 +23,7 @@ letter = record { raster = stem; hoff = negsuc 0; voff = pos 2 }
 
 -- eight columns and six rows, two columns of which are the left margin, and one row the top margin
 abbrev pub sheet : Sheet
-sheet = record { width = 8; height = 6; left = 2; top = 1 }
+sheet = record { width = 8; height = 6; left = 2; top = 1; tolerant = false }
 
 -- in column hh of row vv
 abbrev pub standing : ℤ → ℤ → Registers

@@ -50,7 +50,7 @@ BrokenPagesBegin =
     (value : PageValue)
     (looks : List FontKey) (old new : Option (List FontKey))
     → IsPageValue (IsFontIn l u) indexed sheet i value looks
-    → IsBroken (IsFontIn l u) indexed i old new
+    → IsBroken (IsFontIn l u) indexed sheet i old new
     → (asked : List FontKey) × (later : List FontKey) × (looks ≡ asked ++ later)
     × GrewBy old new asked
 

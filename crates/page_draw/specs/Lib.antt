@@ -1,7 +1,10 @@
 pub mod Sheets
+pub mod Lacks
+pub mod Known
 pub mod Members
 pub mod Values
 pub mod Drawn
+pub mod Tolerance
 pub mod Stops
 pub mod PlainDesks
 pub mod Laws

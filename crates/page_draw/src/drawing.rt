@@ -12,13 +12,15 @@ ghost use Rattle.vf_expand.specs.Expansion.{IsAtLook, after_answer, asks_left, r
 ghost use Rattle.vf_expand.specs.Steps.{Steps};
 ghost use Rattle.vf_expand.specs.declared.step.Step.TheVariants.{Ask};
 ghost use Rattle.page_draw.specs.Sheets.{IsDrawable};
-ghost use Rattle.page_draw.specs.Values.{EndsIn, ended_with};
+ghost use Rattle.page_draw.specs.Values.{EndsIn, ended_with, value_of_drawn};
 ghost use Rattle.font_decode.specs.Desks.{GrewBy, GrewByAtMost, TrailGrew};
 ghost use Rattle.page_draw.specs.Drawn.{IsDrawn, IsFaultOf, IsLeft, IsOwnStop, IsStop, IsWhole};
 ghost use Rattle.vf_expand.specs.Limits.{MAX_FLAT_COMMANDS};
 
+use crate::drawn::Drawn;
 use crate::flats::draw_flats;
 use crate::indexed_page::IndexedPage;
+use crate::lacks::Lacks;
 use crate::sheet::Sheet;
 use crate::stop::PageStop;
 use drift_rules::Pen;
@@ -31,12 +33,14 @@ use std::sync::{Arc, Wait};
 use vf_expand::{Expander, PageFault, Step};
 
 // The page at its end, where no registers may be saved.
-fn finish_page(page: Page, pen: &Pen, at: usize) -> Result<Page, PageStop>
-    ensures whole { IfOk result (λ done. ended_with pen.now.state.saved at page ≡ Ok done) }
-    ensures left { IfErr result (λ stop. IsLeft stop (ended_with pen.now.state.saved at page)) }
+fn finish_page(drawn: Drawn, pen: &Pen, at: usize) -> Result<Drawn, PageStop>
+    ensures whole { IfOk result (λ done. ended_with pen.now.state.saved at (value_of_drawn drawn)
+        ≡ Ok (value_of_drawn done)) }
+    ensures left { IfErr result (λ stop.
+        IsLeft stop (ended_with pen.now.state.saved at (value_of_drawn drawn))) }
 {
     match pen.finish() {
-        Ok(()) => Ok(page),
+        Ok(()) => Ok(drawn),
         Err(fault) => Err(PageStop::Fault {
             fault: PageFault::Pen(fault),
             at,
@@ -45,16 +49,16 @@ fn finish_page(page: Page, pen: &Pen, at: usize) -> Result<Page, PageStop>
 }
 
 // The page where nothing of it is left, or the fault at which its commands stop.
-fn end_page(page: Page, pen: &Pen, expander: &Expander, step: Step) -> Result<Page, PageStop>
+fn end_page(drawn: Drawn, pen: &Pen, expander: &Expander, step: Step) -> Result<Drawn, PageStop>
     requires next { Steps expander.now step expander.now }
     requires no_look { (key : _) → step ≡ Ask key → ⊥ }
-    ensures whole { IfOk result (λ done.
-        EndsIn pen.now.conv pen.now.state page (rest_of expander.now) (Ok done)) }
+    ensures whole { IfOk result (λ done. EndsIn pen.now.conv pen.now.state (value_of_drawn drawn)
+        (rest_of expander.now) (Ok (value_of_drawn done))) }
     ensures stop { IfErr result (λ stop. IsFaultOf stop
-        (EndsIn pen.now.conv pen.now.state page (rest_of expander.now))) }
+        (EndsIn pen.now.conv pen.now.state (value_of_drawn drawn) (rest_of expander.now))) }
 {
     match step {
-        Step::End => finish_page(page, pen, expander.at()),
+        Step::End => finish_page(drawn, pen, expander.at()),
         Step::Stop(fault) => Err(PageStop::Fault {
             fault,
             at: expander.at(),
@@ -109,8 +113,9 @@ fn look_up<R: Wait, D: Desk>(
 ///
 /// A page's fault is the first of its list: a fault of the page's commands or fonts where it
 /// stands, or a command that the pen can't take, or registers that are still saved at the page's
-/// end. `SourceFault` comes only where the desk's source failed in this call, and `NoMemory` where
-/// memory ran out.
+/// end. On a tolerant sheet a missing font, character, glyph or packet is no fault but a lack, and
+/// its character marks nothing. `SourceFault` comes only where the desk's source failed in this
+/// call, and `NoMemory` where memory ran out.
 ///
 /// Knuth, DVItype, "Translation to symbolic form".
 pub fn draw_on<R: Wait, D: Desk>(
@@ -121,7 +126,7 @@ pub fn draw_on<R: Wait, D: Desk>(
     wanted: IndexedPage,
     sheet: &Sheet,
     mut page: Page,
-) -> Result<Page, PageStop>
+) -> Result<Drawn, PageStop>
     requires page { wanted.number < pages_begun wanted.index.now.reading }
     requires sheet { IsDrawable sheet.now }
     requires fits { D.fits desk.old shared.now }
@@ -138,10 +143,12 @@ pub fn draw_on<R: Wait, D: Desk>(
     ensures cause { HasCause (D.faults desk.old) (D.faults desk.new)
         (IsErrOf result PageStop.SourceFault) }
 
-    // The bitmap or the first fault is the page's, and the keys asked for are its look-ups.
-    ensures drawn { IfOk result (λ page. IsDrawn (IsFontOf (D.library desk.old) (D.units desk.old))
+    // The bitmap and the lacks, or the first fault, are the page's, and the keys asked for are its
+    // look-ups.
+    ensures drawn { IfOk result (λ drawn. IsDrawn
+        (IsFontOf (D.library desk.old) (D.units desk.old))
         wanted.entry.index.now sheet.now wanted.entry.number
-        (Ok page) (D.asked desk.old) (D.asked desk.new)) }
+        (Ok (value_of_drawn drawn)) (D.asked desk.old) (D.asked desk.new)) }
     ensures stop { IfErr result (λ stop. IsStop (IsFontOf (D.library desk.old) (D.units desk.old))
         wanted.entry.index.now sheet.now wanted.entry.number
         stop (D.asked desk.old) (D.asked desk.new)) }
@@ -151,11 +158,15 @@ pub fn draw_on<R: Wait, D: Desk>(
         (D.trail desk.old) (D.trail desk.new) }
 {
     let mut pen = Pen::new(alloc, wanted.index.conv());
-    let mut expander = Expander::new(alloc, wanted.index, wanted.number, false)?;
+    let mut expander = Expander::new(alloc, wanted.index, wanted.number, sheet.tolerant)?;
+    let mut lacks = Lacks::new(alloc);
     'steps: loop {
-        match draw_flats(&mut page, &mut pen, sheet, &mut expander)? {
+        match draw_flats(&mut page, &mut pen, sheet, &mut expander, &mut lacks)? {
             Step::Ask(key) => look_up(rt, alloc, desk, shared, &mut expander, &key)?,
-            step => return end_page(page, &pen, &expander, step),
+            step => {
+                let lacks = lacks.finish();
+                return end_page(Drawn { page, lacks }, &pen, &expander, step);
+            }
         }
     }
 }
@@ -164,8 +175,9 @@ pub fn draw_on<R: Wait, D: Desk>(
 ///
 /// A page's fault is the first of its list: a fault of the page's commands or fonts where it
 /// stands, or a command that the pen can't take, or registers that are still saved at the page's
-/// end. `SourceFault` comes only where the desk's source failed in this call, and `NoMemory` where
-/// memory ran out.
+/// end. On a tolerant sheet a missing font, character, glyph or packet is no fault but a lack, and
+/// its character marks nothing. `SourceFault` comes only where the desk's source failed in this
+/// call, and `NoMemory` where memory ran out.
 ///
 /// Knuth, DVItype, "Translation to symbolic form".
 pub fn draw<R: Wait, D: Desk>(
@@ -176,7 +188,7 @@ pub fn draw<R: Wait, D: Desk>(
     index: &Index,
     i: usize,
     sheet: &Sheet,
-) -> Result<Page, PageStop>
+) -> Result<Drawn, PageStop>
     requires page { i < pages_begun index.now.reading }
     requires sheet { IsDrawable sheet.now }
     requires fits { D.fits desk.old shared.now }
@@ -192,10 +204,11 @@ pub fn draw<R: Wait, D: Desk>(
     ensures cause { HasCause (D.faults desk.old) (D.faults desk.new)
         (IsErrOf result PageStop.SourceFault) }
 
-    // The bitmap or the first fault is the page's, and the keys asked for are its look-ups.
-    ensures drawn { IfOk result (λ page. IsDrawn (IsFontOf (D.library desk.old) (D.units desk.old))
-        index.now sheet.now i
-        (Ok page) (D.asked desk.old) (D.asked desk.new)) }
+    // The bitmap and the lacks, or the first fault, are the page's, and the keys asked for are its
+    // look-ups.
+    ensures drawn { IfOk result (λ drawn. IsDrawn
+        (IsFontOf (D.library desk.old) (D.units desk.old)) index.now sheet.now i
+        (Ok (value_of_drawn drawn)) (D.asked desk.old) (D.asked desk.new)) }
     ensures stop { IfErr result (λ stop. IsStop (IsFontOf (D.library desk.old) (D.units desk.old))
         index.now sheet.now i
         stop (D.asked desk.old) (D.asked desk.new)) }

@@ -6,15 +6,17 @@ ghost use Rattle.outside.specs.declared.keys.FontKey.{FontKey};
 ghost use Rattle.drift_rules.specs.Position.{value_of_flat};
 ghost use Rattle.drift_rules.specs.Bounds.{IsInReach, IsNumber, IsPaintable, IsPlaceable};
 ghost use Rattle.raster_page.specs.Ink.{Inked, page_of};
-ghost use Rattle.vf_expand.specs.Expansion.{HasNoLack, asks_left, rest_of};
+ghost use Rattle.vf_expand.specs.Expansion.{asks_left, rest_of};
 ghost use Rattle.vf_expand.specs.Steps.{StepFits, Steps};
 ghost use Rattle.packed_rows.specs.declared.offset.TheConstants.{MAX_COORDINATE};
 ghost use Rattle.page_draw.specs.Inking.{Inks, Moves, step_of, set_in};
+ghost use Rattle.page_draw.specs.Lacks.{values_of};
 ghost use Rattle.page_draw.specs.Sheets.{IsDrawable, inks_of};
 ghost use Rattle.page_draw.specs.DrawnUpTo.{Continues, HasFewerAtLook, StopsWith};
 ghost use Rattle.page_draw.specs.Drawn.{IsPenStop};
 ghost use Rattle.raster_page.specs.Limits.{MAX_PAGE_SIDE};
 
+use crate::lacks::Lacks;
 use crate::sheet::Sheet;
 use crate::stop::PageStop;
 use drift_rules::{Flat, Mark, Pen, PenStop};
@@ -122,32 +124,34 @@ fn draw_packed_char(
     }
 }
 
-/// Draws the flat commands that come next, up to a step of another kind. A page's commands are
-/// almost all of them flat ones: this loop is the same for all desks, and what a command passes
-/// through is inlined into it.
+/// Draws the flat commands that come next, and takes the lacks, up to a step of another kind. A
+/// page's commands are almost all of them flat ones: this loop is the same for all desks, and what
+/// a command passes through is inlined into it.
 #[inline(never)]
 pub fn draw_flats(
     page: &mut Page,
     pen: &mut Pen,
     sheet: &Sheet,
     expander: &mut Expander,
+    lacks: &mut Lacks,
 ) -> Result<Step, PageStop>
     requires sheet { IsDrawable sheet.now }
-    requires no_lack { HasNoLack (rest_of expander.old) }
     ensures drawn { OnOk result (Continues pen.old.conv sheet.now
-        (rest_of expander.old) pen.old.state page.old (rest_of expander.new) pen.new.state
-        page.new) }
+        (rest_of expander.old) pen.old.state
+        (record { page = page.old; lacks = values_of lacks.old })
+        (rest_of expander.new) pen.new.state
+        (record { page = page.new; lacks = values_of lacks.new })) }
     ensures conv { OnOk result (pen.new.conv ≡ pen.old.conv) }
-    ensures no_lack { OnOk result (HasNoLack (rest_of expander.new)) }
     ensures asks { OnOk result (asks_left expander.new ≤ asks_left expander.old) }
     ensures steps { IfOk result (λ step. HasFewerAtLook expander.old step expander.new) }
 
-    // The step that stands next is no flat command: it leaves the same to do.
+    // The step that stands next is no flat command and no lack: it leaves the same to do.
     ensures next { IfOk result (λ step. Steps expander.new step expander.new) }
     ensures fits { IfOk result StepFits }
     ensures source { IsErrOf result PageStop.SourceFault → ⊥ }
     ensures stop { IfErr result (StopsWith pen.old.conv sheet.now
-        (rest_of expander.old) pen.old.state page.old) }
+        (rest_of expander.old) pen.old.state
+        (record { page = page.old; lacks = values_of lacks.old })) }
 {
     'flats: loop {
         if let Some(packed) = expander.next_packed_char() {
@@ -156,7 +160,7 @@ pub fn draw_flats(
         }
         match expander.next()? {
             Step::Flat(flat) => draw_one(page, pen, sheet, expander, &flat)?,
-            Step::Lack(_) => unreachable!(),
+            Step::Lack(lack) => lacks.add(lack)?,
             other => return Ok(other),
         }
     }

@@ -1,4 +1,5 @@
 //! Laws of the values of pages.
+ghost use Rattle.page_draw.specs.Tolerance.{EqualLacksAreOne, LacksEndNoTolerantPage, PagesLackWhatIsMissing, WholePagesAgree};
 ghost use Rattle.page_draw.specs.Laws.{PagesHaveOneValue, EachPageHasOneValue, BrokenPagesBegin, PacketsAreSetInPlace, FontsPacketsAreSetInPlace};
 
 /// Over a library a page has exactly one value, and its keys are looked up in one order; a page
@@ -7,6 +8,16 @@ pub fn values()
     ensures one { PagesHaveOneValue }
     ensures exactly { EachPageHasOneValue }
     ensures begun { BrokenPagesBegin }
+{}
+
+/// What a page on a tolerant sheet lacks are missing fonts, characters, glyphs and packets, of which
+/// those with equal faults are one, and no such fault ends it; on any other sheet it lacks nothing.
+/// A page that is whole and lacks nothing is one page on both.
+pub fn lacks()
+    ensures equal { EqualLacksAreOne }
+    ensures missing { PagesLackWhatIsMissing }
+    ensures otherwise { LacksEndNoTolerantPage }
+    ensures agree { WholePagesAgree }
 {}
 
 /// The packet of a virtual character, whatever the font, is set where the character is, and moves

@@ -4,10 +4,12 @@
 #![tactic(auto)]
 
 mod drawing;
+mod drawn;
 pub mod examples;
 mod flats;
 mod indexed_page;
 mod keeping;
+mod lacks;
 pub mod laws;
 mod plain_desk;
 mod sheet;
@@ -15,6 +17,7 @@ mod solo_desk;
 mod stop;
 
 pub use drawing::{draw, draw_on};
+pub use drawn::Drawn;
 pub use indexed_page::IndexedPage;
 pub use plain_desk::PlainDesk;
 pub use sheet::Sheet;

@@ -7,9 +7,10 @@ mod files;
 use desks::told;
 use std::test::Fail;
 
-/// What a page came to: `drawn`, or why it stopped, with the number that the fault names and its
-/// place; its dots, row after row; how many loads were asked for; a letter for each of the first
-/// five calls of its seat, with the first one of the key's name; and how many calls there were.
+/// What a page came to: `drawn`, or `lacks` with how many it has and the place of the first, or why
+/// it stopped, with the number that the fault names and its place; its dots, row after row; how
+/// many loads were asked for; a letter for each of the first five calls of its seat, with the first
+/// one of the key's name; and how many calls there were.
 type Told = (&'static str, i32, usize, u64, usize, [u8; 10], usize);
 
 // The desk without a cache has no calls.
@@ -44,7 +45,34 @@ static ROWS: [(&'static [u8], Option<&'static [u64]>, Told); 6] = [
 #[test]
 fn pages_over_both_desks(rt: HostRuntime) -> Result<(), Fail> {
     for (row, (page, cached, expected)) in ROWS.iter().enumerate() {
-        let found = told(&rt, rt.alloc(), page, *cached)?;
+        let found = told(&rt, rt.alloc(), page, *cached, false)?;
+        assert_eq!(rt; found, *expected, "row {row}");
+    }
+    Ok(())
+}
+
+// On a tolerant sheet: the commands of a page, and what is expected over the desk without a cache.
+static LACKING: [(&'static [u8], Told); 5] = [
+    // A code without a width moves nothing, and one without a glyph moves by its width.
+    (&[0xab, 66, 65], ("lacks", 1, 118, 0xc000_c000, 3, NONE, 0)),
+    (
+        &[0xad, 65, 0xab, 65],
+        ("lacks", 1, 118, 0x0c00_0c00, 6, NONE, 0),
+    ),
+    // Of lacks with one fault the first is told: here are two codes, one of them three times.
+    (
+        &[0xab, 66, 67, 66, 66, 65],
+        ("lacks", 2, 118, 0xc000_c000, 3, NONE, 0),
+    ),
+    // A page without lacks is drawn as on another sheet, and one that stops has none.
+    (&FIVE, ("drawn", 0, 0, 0xcccc_cccc, 9, NONE, 0)),
+    (&[0xab, 66, 0xb4, 65], ("no font", 9, 119, 0, 3, NONE, 0)),
+];
+
+#[test]
+fn pages_that_lack_something(rt: HostRuntime) -> Result<(), Fail> {
+    for (row, (page, expected)) in LACKING.iter().enumerate() {
+        let found = told(&rt, rt.alloc(), page, None, true)?;
         assert_eq!(rt; found, *expected, "row {row}");
     }
     Ok(())

@@ -22,7 +22,7 @@ use Rattle.vf_expand.proofs.PageLists.{course_is_list}
 
 -- ---- along a course
 
-abbrev Tolerates : Course → Type 0
+abbrev pub Tolerates : Course → Type 0
 Tolerates (Gives f g at rest) = Tolerates rest
 Tolerates (Asks k at rest) = (d : Decoded) → Tolerates (rest d)
 Tolerates (Lacks f at rest) = IsTrue (is_lack f) × Tolerates rest
@@ -147,11 +147,14 @@ of_list fonts (Lacks f at rest) h = let r = of_list fonts rest h.1 in record { l
 of_list fonts (Ends at) h = record { lacks = tt; ending = tt }
 of_list fonts (Stops f at) h = record { lacks = tt; ending = h }
 
+pub tolerant_page : (reading : Reading) (i : ℕ) → Tolerates (course_of true reading i)
+tolerant_page reading i =
+    let page = page_from reading (unwrap_or (eop_at i reading) 0) NoFont (page_commands i reading) in
+    of_cut MAX_FLAT_COMMANDS page (of_page reading (unwrap_or (eop_at i reading) 0) (page_commands i reading) NoFont)
+
 pub tolerant_pages_go_on : TolerantPagesGoOn
 tolerant_pages_go_on fonts reading i =
-    let page = page_from reading (unwrap_or (eop_at i reading) 0) NoFont (page_commands i reading) in
-    subst IsTolerant (course_is_list true fonts reading i)
-    (of_list fonts (course_of true reading i) (of_cut MAX_FLAT_COMMANDS page (of_page reading (unwrap_or (eop_at i reading) 0) (page_commands i reading) NoFont)))
+    subst IsTolerant (course_is_list true fonts reading i) (of_list fonts (course_of true reading i) (tolerant_page reading i))
 
 -- ---- where lacks aren't tolerated
 

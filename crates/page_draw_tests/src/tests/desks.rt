@@ -4,9 +4,8 @@ use super::Told;
 use super::files::{document, fonts};
 use cache_core::{Act, Entry};
 use outside::MemFonts;
-use page_draw::{PageStop, PlainDesk, Sheet, SoloDesk, draw};
+use page_draw::{Drawn, PageStop, PlainDesk, Sheet, SoloDesk, draw};
 use page_index::Index;
-use raster_page::Page;
 use std::alloc::Global;
 use std::sync::Wait;
 use std::test::Fail;
@@ -17,12 +16,29 @@ static SHEET: Sheet = Sheet {
     height: 2,
     left: 0,
     top: 1,
+    tolerant: false,
 };
 
-// How a page ended: why and where it stopped, with the number that the fault names.
-fn end_of(drawn: &Result<Page, PageStop>) -> (&'static str, i32, usize) {
+static TOLERANT: Sheet = Sheet {
+    width: 16,
+    height: 2,
+    left: 0,
+    top: 1,
+    tolerant: true,
+};
+
+// How a page ended: why and where it stopped, with the number that the fault names; or how many
+// lacks it has, with the place of the first.
+fn end_of(drawn: &Result<Drawn, PageStop>) -> (&'static str, i32, usize) {
     match drawn {
-        Ok(_) => ("drawn", 0, 0),
+        Ok(drawn) => match drawn.lacks.first() {
+            None => ("drawn", 0, 0),
+            Some(lack) => (
+                "lacks",
+                i32::try_from(drawn.lacks.len()).unwrap_or(-1),
+                lack.at,
+            ),
+        },
         Err(PageStop::Fault { fault, at }) => match fault {
             PageFault::NoFont(number) => ("no font", *number, *at),
             PageFault::NoCharacter(_, code) => ("no character", *code, *at),
@@ -35,11 +51,11 @@ fn end_of(drawn: &Result<Page, PageStop>) -> (&'static str, i32, usize) {
 }
 
 // The bytes of all rows, one after another, as one number, or 0 where there is no page.
-fn dots_of(drawn: &Result<Page, PageStop>) -> u64 {
+fn dots_of(drawn: &Result<Drawn, PageStop>) -> u64 {
     let mut dots = 0u64;
-    if let Ok(page) = drawn {
-        for y in 0..page.height() {
-            for byte in page.row(y) {
+    if let Ok(drawn) = drawn {
+        for y in 0..drawn.page.height() {
+            for byte in drawn.page.row(y) {
                 dots = dots.wrapping_mul(256) | u64::from(*byte);
             }
         }
@@ -73,7 +89,7 @@ fn loads_of(source: &MemFonts) -> usize {
     }
 }
 
-fn told_of(drawn: &Result<Page, PageStop>, source: &MemFonts, calls: &[Entry]) -> Told {
+fn told_of(drawn: &Result<Drawn, PageStop>, source: &MemFonts, calls: &[Entry]) -> Told {
     let (end, number, at) = end_of(drawn);
     (
         end,
@@ -87,12 +103,12 @@ fn told_of(drawn: &Result<Page, PageStop>, source: &MemFonts, calls: &[Entry]) -
 }
 
 // What the first page comes to over the desk without a cache.
-fn over_plain<R: Wait>(rt: &R, alloc: Global, index: &Index) -> Result<Told, Fail> {
+fn over_plain<R: Wait>(rt: &R, alloc: Global, index: &Index, sheet: &Sheet) -> Result<Told, Fail> {
     if index.pages() == 0 {
         return Err(Fail::from("no page"));
     }
     let mut desk = PlainDesk::new(fonts(alloc, &[])?, index.units());
-    let drawn = draw(rt, alloc, &mut desk, &(), index, 0, &SHEET);
+    let drawn = draw(rt, alloc, &mut desk, &(), index, 0, sheet);
     Ok(told_of(&drawn, &desk.finish(), &[]))
 }
 
@@ -108,19 +124,20 @@ fn over_solo<R: Wait>(rt: &R, alloc: Global, index: &Index, fails: &[u64]) -> Re
 }
 
 /// What a page with these commands comes to, over the desk without a cache, or over the one with a
-/// cache of one font where these loads fail.
+/// cache of one font where these loads fail; on a tolerant sheet over the first.
 pub fn told<R: Wait>(
     rt: &R,
     alloc: Global,
     page: &[u8],
     cached: Option<&[u64]>,
+    tolerant: bool,
 ) -> Result<Told, Fail> {
     let bytes = document(alloc, page)?;
     let Ok(index) = Index::read(alloc, &bytes, 300) else {
         return Err(Fail::from("no document"));
     };
     match cached {
-        None => over_plain(rt, alloc, &index),
+        None => over_plain(rt, alloc, &index, if tolerant { &TOLERANT } else { &SHEET }),
         Some(fails) => over_solo(rt, alloc, &index, fails),
     }
 }

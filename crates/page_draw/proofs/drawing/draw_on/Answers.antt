@@ -1,22 +1,24 @@
-use Rattle.std.proofs.Common.{◌≡◌, false, IfOk, IfErr, Ok, refl, sym, ap, subst, ◌∙◌, arith}
+use Rattle.std.proofs.Common.{◌≡◌, List, IfOk, IfErr, Ok, refl, sym, ap, subst, ◌∙◌, arith}
 use Rattle.std.proofs.lemmas.Result.{err_from_is_err_and}
 use Rattle.pixel_round.specs.Pixels.{Fraction}
 use Rattle.page_index.specs.Pages.{IsConversionOf, document_units}
 use Rattle.font_decode.specs.Decoding.{IsFontOf}
 use Rattle.font_decode.proofs.Trails.{trail_none, trail_more, trail_as}
 use Rattle.vf_expand.specs.Course.{course_of}
-use Rattle.vf_expand.specs.Expansion.{HasNoLack, rest_of}
-use Rattle.page_draw.proofs.Lists.{IsDrawnUpTo, so_far_look, so_far_none, so_far_same}
+use Rattle.vf_expand.specs.Expansion.{rest_of}
+use Rattle.page_draw.proofs.Lists.{IsDrawnUpTo, made, so_far_look, so_far_none, so_far_same}
 use Rattle.page_draw.specs.Drawn.{IsFaultOf, IsWhole}
-use Rattle.page_draw.specs.Values.{EndsIn}
+use Rattle.page_draw.specs.Values.{EndsIn, value_of_drawn}
+use Rattle.page_draw.specs.Lacks.{values_of}
+use Rattle.vf_expand.specs.declared.lack.Lack.{Lack}
 use Rattle.page_draw.proofs.Ends.{broken_at_first, broken_at_look, broken_stop, ended_drawn, ended_stop, rose_on}
-use Rattle.page_draw.proofs.Other.{handed_on, no_lack_after}
+use Rattle.page_draw.proofs.Other.{handed_on}
 use Rattle.page_draw.proofs.drawing.draw_on.Goals as goal
 
 pub returns-in_err-expander-clause-stop : goal.returns-in_err-expander-clause-stop
 returns-in_err-expander-clause-stop g c =
     let p = err_from_is_err_and c.from_residual.result c.from_residual.ensures.1 in
-    rw (p.1, p.2) (broken_at_first _ c.args.wanted.index.now c.args.wanted.number c.conv.result _ c.conv.ensures)
+    rw (p.1, p.2) (broken_at_first _ c.args.wanted.index.now c.args.sheet.now c.args.wanted.number c.conv.result _ c.conv.ensures)
 
 pub steps-init : goal.steps-init
 steps-init g c =
@@ -24,15 +26,17 @@ steps-init g c =
     let conv : c.new-pen.result.conv ≡ c.conv.result = ap (λ p. p.conv) c.new-pen.ensures in
     record {
       conv = subst (λ (x : Fraction). IsConversionOf (document_units c.args.wanted.index.now.res c.args.wanted.index.now.reading) x) (sym conv) c.conv.ensures;
-      no_lack = c.in_ok-expander.ensures.strict refl;
       fits = c.requires.fits;
       room = omega (arith, c.in_ok-expander.ensures.asks);
       library = refl;
       units = refl;
       faults = omega arith;
       trail = trail_none (Unit {0}) (desk.asked c.args.desk.now) (desk.trail c.args.desk.now);
-      so_far = so_far_none _ c.new-pen.result.conv c.args.sheet.now (course_of false c.args.wanted.index.now.reading c.args.wanted.number) (rest_of c.in_ok-expander.expander) c.new-pen.result.state
-          c.args.page (desk.asked c.args.desk.now) c.in_ok-expander.ensures.page (ap (λ p. p.state) c.new-pen.ensures) c.requires.blank;
+      so_far = subst (λ (ls : List Lack). IsDrawnUpTo (IsFontOf (desk.library c.args.desk.now) (desk.units c.args.desk.now)) c.new-pen.result.conv c.args.sheet.now
+          (course_of c.args.sheet.now.tolerant c.args.wanted.index.now.reading c.args.wanted.number) (rest_of c.in_ok-expander.expander) c.new-pen.result.state
+          (made c.args.page (values_of ls)) (desk.asked c.args.desk.now) (desk.asked c.args.desk.now)) (sym c.new-lacks.ensures)
+          (so_far_none _ c.new-pen.result.conv c.args.sheet.now (course_of c.args.sheet.now.tolerant c.args.wanted.index.now.reading c.args.wanted.number) (rest_of c.in_ok-expander.expander)
+          c.new-pen.result.state c.args.page (desk.asked c.args.desk.now) c.in_ok-expander.ensures.page (ap (λ p. p.state) c.new-pen.ensures) c.requires.blank);
     }
 
 pub returns-in_err-step-clause-stop : goal.returns-in_err-step-clause-stop
@@ -53,7 +57,7 @@ returns-in_err-look_up-in-Ask-clause-stop g c =
     let r = c.from_residual-in_err-look_up-in-Ask in
     let p = err_from_is_err_and r.result r.ensures.1 in
     rw (p.1, p.2) (broken_stop _ c.args.wanted.index.now c.args.sheet.now c.args.wanted.number _ _ _ failed.broken
-    (broken_at_look _ c.steps.pen.conv c.args.sheet.now c.args.wanted.index.now c.args.wanted.number (rest_of new.expander) new.pen.state new.page _ _ far i.conv
+    (broken_at_look _ c.steps.pen.conv c.args.sheet.now c.args.wanted.index.now c.args.wanted.number (rest_of new.expander) new.pen.state (made new.page (values_of new.lacks)) _ _ far i.conv
     _ _ _ _ step.asked failed.refused))
 
 pub steps-preserved : goal.steps-preserved
@@ -69,7 +73,6 @@ steps-preserved g c =
     let found = rw (i.library, i.units) at answer.1 in
     record {
       conv = subst (λ (x : Fraction). IsConversionOf (document_units c.args.wanted.index.now.res c.args.wanted.index.now.reading) x) (sym conv) i.conv;
-      no_lack = subst HasNoLack (sym answer.2) (no_lack_after (rest_of new.expander) answer.0 c.in_ok-step.ensures.no_lack);
       fits = font.fits;
       room = omega (arith, i.room, font.room, font.asks, c.in_ok-step.ensures.asks);
       library = font.library ∙ i.library;
@@ -79,9 +82,9 @@ steps-preserved g c =
           (desk.trail c.args.desk.now) (desk.trail c.steps.desk) (desk.trail c.look_up.new.desk) i.trail
           (trail_as (Unit {0}) _ (desk.asked c.steps.desk) (desk.asked c.look_up.new.desk) (desk.trail c.steps.desk) (desk.trail c.look_up.new.desk) (λ w. refl) font.trail);
       so_far = subst (λ (x : Fraction). IsDrawnUpTo (IsFontOf (desk.library c.args.desk.now) (desk.units c.args.desk.now)) x c.args.sheet.now
-          (course_of false c.args.wanted.index.now.reading c.args.wanted.number) (rest_of c.look_up.new.expander) new.pen.state new.page (desk.asked c.args.desk.now) (desk.asked c.look_up.new.desk)) (sym conv)
+          (course_of c.args.sheet.now.tolerant c.args.wanted.index.now.reading c.args.wanted.number) (rest_of c.look_up.new.expander) new.pen.state (made new.page (values_of new.lacks)) (desk.asked c.args.desk.now) (desk.asked c.look_up.new.desk)) (sym conv)
           (so_far_same _ _ _ _ _ _ _ _ _
-          (so_far_look _ c.steps.pen.conv c.args.sheet.now _ (rest_of new.expander) new.pen.state new.page _ _ far _ _ _ answer.0 _ step.asked found font.asked)
+          (so_far_look _ c.steps.pen.conv c.args.sheet.now _ (rest_of new.expander) new.pen.state (made new.page (values_of new.lacks)) _ _ far _ _ _ answer.0 _ step.asked found font.asked)
           (rest_of c.look_up.new.expander) answer.2);
     }
 
@@ -96,8 +99,10 @@ returns-in_default-clause-drawn g c =
     let i = c.steps.invariant in
     let new = c.draw_flats.new in
     let far = c.in_ok-step.ensures.drawn (desk.library c.args.desk.now) (desk.units c.args.desk.now) _ _ _ i.so_far in
-    ended_drawn _ c.steps.pen.conv c.args.sheet.now c.args.wanted.index.now c.args.wanted.number (rest_of new.expander) new.pen.state new.page _ _ far i.conv _
-    (subst (λ (x : Fraction). IfOk c.end_page.result (λ done. EndsIn x new.pen.state new.page (rest_of new.expander) (Ok done))) c.in_ok-step.ensures.conv c.end_page.ensures.whole)
+    ended_drawn _ c.steps.pen.conv c.args.sheet.now c.args.wanted.index.now c.args.wanted.number (rest_of new.expander) new.pen.state (made new.page (values_of new.lacks)) _ _ far i.conv _
+    (subst (λ (x : Fraction). IfOk c.end_page.result (λ done. EndsIn x new.pen.state (made new.page (values_of new.lacks)) (rest_of new.expander) (Ok (value_of_drawn done)))) c.in_ok-step.ensures.conv
+    (subst (λ (ls : List Lack). IfOk c.end_page.result (λ done. EndsIn new.pen.conv new.pen.state (made new.page (values_of ls)) (rest_of new.expander) (Ok (value_of_drawn done)))) c.finish-lacks.ensures
+    c.end_page.ensures.whole))
 
 pub returns-in_default-clause-stop : goal.returns-in_default-clause-stop
 returns-in_default-clause-stop g c =
@@ -105,8 +110,10 @@ returns-in_default-clause-stop g c =
     let i = c.steps.invariant in
     let new = c.draw_flats.new in
     let far = c.in_ok-step.ensures.drawn (desk.library c.args.desk.now) (desk.units c.args.desk.now) _ _ _ i.so_far in
-    ended_stop _ c.steps.pen.conv c.args.sheet.now c.args.wanted.index.now c.args.wanted.number (rest_of new.expander) new.pen.state new.page _ _ far i.conv _
-    (subst (λ (x : Fraction). IfErr c.end_page.result (λ why. IsFaultOf why (EndsIn x new.pen.state new.page (rest_of new.expander)))) c.in_ok-step.ensures.conv c.end_page.ensures.stop)
+    ended_stop _ c.steps.pen.conv c.args.sheet.now c.args.wanted.index.now c.args.wanted.number (rest_of new.expander) new.pen.state (made new.page (values_of new.lacks)) _ _ far i.conv _
+    (subst (λ (x : Fraction). IfErr c.end_page.result (λ why. IsFaultOf why (EndsIn x new.pen.state (made new.page (values_of new.lacks)) (rest_of new.expander)))) c.in_ok-step.ensures.conv
+    (subst (λ (ls : List Lack). IfErr c.end_page.result (λ why. IsFaultOf why (EndsIn new.pen.conv new.pen.state (made new.page (values_of ls)) (rest_of new.expander)))) c.finish-lacks.ensures
+    c.end_page.ensures.stop))
 
 pub returns-in_err-step-clause-cause : goal.returns-in_err-step-clause-cause
 returns-in_err-step-clause-cause g c =
