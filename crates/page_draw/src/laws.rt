@@ -10,8 +10,8 @@ pub fn values()
     ensures begun { BrokenPagesBegin }
 {}
 
-/// What a page on a tolerant sheet lacks are missing fonts, characters, glyphs and packets, of which
-/// those with equal faults are one, and no such fault ends it; on any other sheet it lacks nothing.
+/// What a page on a tolerant sheet lacks are missing fonts, characters, glyphs and packets. Those
+/// with equal faults are one, and none of them ends the page; on any other sheet it lacks nothing.
 /// A page that is whole and lacks nothing is one page on both.
 pub fn lacks()
     ensures equal { EqualLacksAreOne }

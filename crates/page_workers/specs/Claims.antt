@@ -4,11 +4,11 @@ use Rattle.std.specs.List.Sorted.{IsStrictlyIncreasing}
 use Rattle.std.specs.Vec.{vec_len, vec_capacity}
 use Rattle.atomic_table.specs.Seated.{TableId}
 use Rattle.outside.specs.Library.{FileTable}
-use Rattle.packed_rows.specs.Bitmap.{Bitmap}
 use Rattle.page_counter.specs.declared.view.SeatClaims.{SeatClaims}
 use Rattle.page_counter.specs.Seats.{SeatView}
 use Rattle.page_counter.specs.Views.{claimed_view}
 use Rattle.page_index.specs.Pages.{Indexed}
+use Rattle.page_draw.specs.declared.drawn.Drawn.{Drawn}
 use Rattle.page_draw.specs.declared.sheet.Sheet.{Sheet}
 use Rattle.page_draw.specs.declared.stop.PageStop.{PageStop}
 use Rattle.page_workers.specs.declared.bench.Bench.{Bench}
@@ -98,7 +98,7 @@ module _ {F : Type 0} (library : F → Option FileTable) (faults loads : F → �
   -- the worker drew the page with this number, from 0, and it has a bitmap or not
   pub record DrewNext (bench : Bench) (indexed : Indexed) (sheet : Sheet) (page : ℕ)
       (has_bitmap : Bool) (before after : Worker F) : Type 0 where
-    pub outcome : Result Bitmap PageStop
+    pub outcome : Result Drawn PageStop
     pub bitmap : has_bitmap ≡ is_ok outcome
     pub drew : DrewPage library faults loads bench indexed sheet
         (record { page = page; outcome = outcome }) before after

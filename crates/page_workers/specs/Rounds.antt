@@ -4,12 +4,13 @@ use Rattle.std.specs.List.Sorted.{IsStrictlyIncreasing}
 use Rattle.outside.specs.Counts.{HasCause}
 use Rattle.outside.specs.Library.{FileTable}
 use Rattle.outside.specs.declared.keys.FontKey.{FontKey}
-use Rattle.packed_rows.specs.Bitmap.{Bitmap}
 use Rattle.page_index.specs.Pages.{Indexed}
 use Rattle.font_decode.specs.Decoding.{IsFontOf}
 use Rattle.font_decode.specs.Desks.{Trail, TrailGrew}
 use Rattle.page_draw.specs.Members.{Finding}
 use Rattle.page_draw.specs.Drawn.{IsDrawn, IsStop, IsWhole}
+use Rattle.page_draw.specs.Values.{value_of_drawn}
+use Rattle.page_draw.specs.declared.drawn.Drawn.{Drawn}
 use Rattle.page_draw.specs.declared.sheet.Sheet.{Sheet}
 use Rattle.page_draw.specs.declared.stop.PageStop.{PageStop}
 use Rattle.page_draw.specs.declared.stop.PageStop.TheVariants.{SourceFault}
@@ -20,9 +21,10 @@ use Rattle.page_workers.specs.Seats.{BenchFits, library_at, units_at, asked_at, 
 use Rattle.vf_expand.specs.Limits.{MAX_FLAT_COMMANDS}
 
 -- what came of a page is what its drawing says
-abbrev pub IsOutcome : Finding → Indexed → Sheet → ℕ → Result Bitmap PageStop
+abbrev pub IsOutcome : Finding → Indexed → Sheet → ℕ → Result Drawn PageStop
     → Option (List FontKey) → Option (List FontKey) → Type 0
-IsOutcome Finds indexed sheet i (Ok page) old new = IsDrawn Finds indexed sheet i (Ok page) old new
+IsOutcome Finds indexed sheet i (Ok drawn) old new =
+    IsDrawn Finds indexed sheet i (Ok (value_of_drawn drawn)) old new
 IsOutcome Finds indexed sheet i (Err stop) old new = IsStop Finds indexed sheet i stop old new
 
 -- ---- results

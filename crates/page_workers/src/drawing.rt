@@ -16,7 +16,7 @@ use crate::spare_pages::blank_page;
 use crate::worker::{PageResult, Worker};
 use font_decode::Desk;
 use outside::FontSource;
-use page_draw::{IndexedPage, PageStop, draw_on};
+use page_draw::{Drawn, IndexedPage, PageStop, draw_on};
 use raster_page::Page;
 use std::alloc::Global;
 use std::mem;
@@ -30,7 +30,7 @@ fn draw_on_spare_page<R: Wait, F: FontSource>(
     spare_pages: &mut Vec<Page>,
     job: &Job,
     page: usize,
-) -> Result<Page, PageStop>
+) -> Result<Drawn, PageStop>
     requires page { page < pages_begun job.now.index.now.reading }
     requires fits { BenchFits (F.library worker.old.source) job.now.bench.now worker.old.seat }
     requires look_ups { MAX_FLAT_COMMANDS ≤ room_at worker.old.loads worker.old.seat }

@@ -17,16 +17,17 @@ use font_cache::CacheSeat;
 use font_decode::{Decoded, Desk, DeskStop};
 use outside::{FontKey, FontSource};
 use page_counter::CounterSeat;
-use page_draw::PageStop;
+use page_draw::{Drawn, PageStop};
 use raster_page::Page;
 use std::alloc::Global;
 use std::sync::{Arc, Wait};
 
-/// What came of a page: its number, counted from 0, and its bitmap or why there is none.
+/// What came of a page: its number, counted from 0, and its bitmap and what it lacks, or why there
+/// is none.
 #[derive(Drop)]
 pub struct PageResult {
     pub page: usize,
-    pub outcome: Result<Page, PageStop>,
+    pub outcome: Result<Drawn, PageStop>,
 }
 
 /// Who draws pages, by a source of font files of its own and a seat at the shared cache of fonts.

@@ -23,6 +23,7 @@ pub static SHEET: Sheet = Sheet {
     height: 2,
     left: 0,
     top: 1,
+    tolerant: false,
 };
 
 // A page whose dots are all black.

@@ -21,7 +21,8 @@ pub type OfRound = (OfPages, usize, [u32; 6], u64, u64, bool);
 // The first eight dots of a result, how many are black, and the letter of what stopped it.
 fn outcome_of(drawn: &PageResult) -> (u8, u64, char) {
     match &drawn.outcome {
-        Ok(page) => {
+        Ok(whole) => {
+            let page = &whole.page;
             let dots = if page.height() == 0 {
                 0
             } else {
