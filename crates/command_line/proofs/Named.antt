@@ -1,6 +1,6 @@
 -- All settings within their limits can be given.
 use Rattle.std.proofs.Common.{◌≡◌, ◌∙◌, ◌≤◌, ◌<◌, ◌^◌, ◌&&◌, ℕ, Bool, cond, true, false, List}
-use Rattle.std.proofs.Common.{[], ◌∷◌, ◌++◌, length, Option, Some, None, codes, decimal, refl, ap}
+use Rattle.std.proofs.Common.{[], ◌∷◌, ◌++◌, length, Option, Some, None, codes, decimal, refl, sym, ap}
 use Rattle.std.proofs.Common.{arith, le-leb}
 use Rattle.std.specs.Prelude.{IfSome, IsSome, IsTrue, find, nat_le, option_and_then}
 use Rattle.std.specs.List.{list_all}
@@ -208,6 +208,7 @@ record AreTold (s : Settings) : Type 0 where
   height : digits_value 10 (decimal s.sheet.height) ≡ s.sheet.height
   left : digits_value 10 (decimal s.sheet.left) ≡ s.sheet.left
   top : digits_value 10 (decimal s.sheet.top) ≡ s.sheet.top
+  strict : false ≡ s.sheet.tolerant
   workers : digits_value 10 (decimal s.workers) ≡ s.workers
   cache : digits_value 10 (decimal s.cache) ≡ s.cache
   room : digits_value 10 (decimal s.room) ≡ s.room
@@ -220,6 +221,7 @@ all_told s h = record {
   height = told s.sheet.height (omega (arith, h.sheet.height));
   left = told s.sheet.left (omega (arith, h.sheet.left));
   top = told s.sheet.top (omega (arith, h.sheet.top));
+  strict = sym h.strict;
   workers = told s.workers (omega (arith, h.workers.1));
   cache = told s.cache (omega (arith, h.cache.1));
   room = told s.room (omega (arith, h.room));
@@ -286,7 +288,13 @@ same s t =
     let summary = summary_is s.sample s.packed s.trace s.summary in
     λ i. record {
       res = t.res i;
-      sheet = record { width = t.width i; height = t.height i; left = t.left i; top = t.top i };
+      sheet = record {
+        width = t.width i;
+        height = t.height i;
+        left = t.left i;
+        top = t.top i;
+        tolerant = t.strict i;
+      };
       workers = t.workers i;
       cache = t.cache i;
       room = t.room i;

@@ -1,5 +1,5 @@
 -- The settings that a list of arguments gives.
-use Rattle.std.specs.Prelude.{◌*◌, ◌/◌, ◌==◌, ◌&&◌, ◌||◌, ℕ, Bool, true, not, min, nat_le}
+use Rattle.std.specs.Prelude.{◌*◌, ◌/◌, ◌==◌, ◌&&◌, ◌||◌, ℕ, Bool, true, false, not, min, nat_le}
 use Rattle.std.specs.Prelude.{List, [], ◌∷◌, length, find, codes, bytes_eq, if◌then◌else◌}
 use Rattle.std.specs.Prelude.{Option, Some, None, is_some, is_none, option_map, option_and_then}
 use Rattle.std.specs.Prelude.{unwrap_or}
@@ -180,6 +180,7 @@ settings_from us = let res = number_or 300 (codes "res") us in record {
     height = number_or (min MAX_PAGE_SIDE (11 * res)) (codes "height") us;
     left = number_or res (codes "left") us;
     top = number_or res (codes "top") us;
+    tolerant = false;
   };
   workers = number_or 1 (codes "workers") us;
   cache = number_or 16 (codes "cache") us;

@@ -1,5 +1,5 @@
 -- The matches of a line, by its uses.
-use Rattle.std.specs.Prelude.{◌≡◌, ◌/◌, ◌*◌, ◌&&◌, ℕ, Bool, true, min, List, Option, Some, codes}
+use Rattle.std.specs.Prelude.{◌≡◌, ◌/◌, ◌*◌, ◌&&◌, ℕ, Bool, true, false, min, List, Option, Some, codes}
 use Rattle.std.specs.Prelude.{find, if◌then◌else◌, length, nat_le, option_map, unwrap_or}
 use Rattle.std.specs.Option.{option_map_or}
 use Rattle.clap.specs.Words.{first_value, one_text}
@@ -62,6 +62,7 @@ settings_with g = let res = unwrap_or g.res 300 in record {
     height = unwrap_or g.height (min MAX_PAGE_SIDE (11 * res));
     left = unwrap_or g.left res;
     top = unwrap_or g.top res;
+    tolerant = false;
   };
   workers = unwrap_or g.workers 1;
   cache = unwrap_or g.cache 16;

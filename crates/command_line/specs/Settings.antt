@@ -1,5 +1,5 @@
 -- What a run is given besides its input and its fonts.
-use Rattle.std.specs.Prelude.{◌≤◌, false, None, IfSome, IsSome, IsTrue}
+use Rattle.std.specs.Prelude.{◌≤◌, false, None, IfSome, IsFalse, IsSome, IsTrue}
 use Rattle.pixel_round.specs.Limits.{MAX_RESOLUTION}
 use Rattle.page_draw.specs.Sheets.{IsDrawable}
 use Rattle.page_draw.specs.declared.sheet.Sheet.{Sheet}
@@ -10,7 +10,7 @@ use Rattle.command_line.specs.Limits.{MAX_CACHED_FONTS, MAX_ROOM}
 -- the sheet where no option names another, at 300 dots for an inch: 8.5 by 11 inches, and margins
 -- of one inch
 unfoldable pub default_sheet : Sheet
-default_sheet = record { width = 2550; height = 3300; left = 300; top = 300 }
+default_sheet = record { width = 2550; height = 3300; left = 300; top = 300; tolerant = false }
 
 -- the settings where no option names others
 unfoldable pub default_settings : Settings
@@ -30,6 +30,8 @@ default_settings = record {
 pub record AreSettings (settings : Settings) : Type 0 where
   pub resolution : (1 ≤ settings.res) × (settings.res ≤ MAX_RESOLUTION)
   pub sheet : IsDrawable settings.sheet
+  -- no run goes past what a page lacks
+  pub strict : IsFalse settings.sheet.tolerant
   pub workers : (1 ≤ settings.workers) × (settings.workers ≤ MAX_WORKERS)
   pub cache : (1 ≤ settings.cache) × (settings.cache ≤ MAX_CACHED_FONTS)
   pub room : settings.room ≤ MAX_ROOM

@@ -24,7 +24,7 @@ pub fn forms()
 pub fn worked_lines()
     ensures none { settings_of 32 [] ≡ Some (record {
       res = 300;
-      sheet = record { width = 2550; height = 3300; left = 300; top = 300 };
+      sheet = record { width = 2550; height = 3300; left = 300; top = 300; tolerant = false };
       workers = 1;
       cache = 16;
       room = 2147483648;
@@ -39,7 +39,7 @@ pub fn worked_lines()
     ensures zeros { settings_of 32 (codes "--res" ∷ codes "0000300" ∷ []) ≡ settings_of 32 [] }
     ensures fine { settings_of 32 (codes "--res=4800" ∷ []) ≡ Some (record {
       res = 4800;
-      sheet = record { width = 20000; height = 20000; left = 4800; top = 4800 };
+      sheet = record { width = 20000; height = 20000; left = 4800; top = 4800; tolerant = false };
       workers = 1;
       cache = 16;
       room = 2147483648;
@@ -50,7 +50,7 @@ pub fn worked_lines()
     }) }
     ensures odd { settings_of 1 (codes "--res=1" ∷ codes "--summary" ∷ []) ≡ Some (record {
       res = 1;
-      sheet = record { width = 8; height = 11; left = 1; top = 1 };
+      sheet = record { width = 8; height = 11; left = 1; top = 1; tolerant = false };
       workers = 1;
       cache = 16;
       room = 2147483648;
@@ -64,7 +64,7 @@ pub fn worked_lines()
         ∷ codes "--room" ∷ codes "0000000006" ∷ [])
         ≡ Some (record {
           res = 4800;
-          sheet = record { width = 8; height = 20000; left = 4800; top = 4800 };
+          sheet = record { width = 8; height = 20000; left = 4800; top = 4800; tolerant = false };
           workers = 2;
           cache = 16;
           room = 6;
@@ -80,7 +80,7 @@ pub fn worked_lines()
         ∷ codes "--res=1" ∷ [])
         ≡ Some (record {
           res = 1;
-          sheet = record { width = 1; height = 20000; left = 20000; top = 0 };
+          sheet = record { width = 1; height = 20000; left = 20000; top = 0; tolerant = false };
           workers = 32;
           cache = 256;
           room = 0;

@@ -180,6 +180,7 @@ fn settings(given: &LineValues, workers: usize) -> Option<Settings>
             height: given.height.unwrap_or((11 * res).min(MAX_PAGE_SIDE)),
             left: given.left.unwrap_or(res),
             top: given.top.unwrap_or(res),
+            tolerant: false,
         },
         workers: given.workers.unwrap_or(defaults.workers),
         cache: given.cache.unwrap_or(defaults.cache),

@@ -1,5 +1,5 @@
 //! What a run is given besides its input and its fonts.
-ghost use Rattle.std.specs.Prelude.{◌≡◌};
+ghost use Rattle.std.specs.Prelude.{◌≡◌, IsFalse};
 ghost use Rattle.page_draw.specs.Sheets.{IsDrawable};
 ghost use Rattle.command_line.specs.Settings.{AreSettings};
 ghost use Rattle.command_line.specs.Settings.{default_settings as the_default_settings};
@@ -39,12 +39,14 @@ pub struct Settings {
 pub fn default_sheet() -> Sheet
     ensures value { result ≡ the_default_sheet }
     ensures drawable { IsDrawable result }
+    ensures strict { IsFalse result.tolerant }
 {
     Sheet {
         width: 2550,
         height: 3300,
         left: 300,
         top: 300,
+        tolerant: false,
     }
 }
 

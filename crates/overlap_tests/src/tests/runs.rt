@@ -31,6 +31,7 @@ fn settings() -> Settings
             height: 2,
             left: 0,
             top: 1,
+            tolerant: false,
         },
         workers: 2,
         cache: 4,
