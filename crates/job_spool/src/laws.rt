@@ -1,0 +1,33 @@
+//! Laws over the definition of a spool's arguments, each a clause of a function without a body.
+ghost use Rattle.std.specs.Prelude.{◌≡◌, [], ◌∷◌, None, Some, codes};
+ghost use Rattle.job_spool.specs.Laws.{PairsAreGiven};
+ghost use Rattle.job_spool.specs.Words.{pairs_of_words, spool_numbers};
+
+/// What arguments give lies within its limits, and the arguments after the third are the names of
+/// the pairs in their order.
+pub fn given_pairs()
+    ensures given { PairsAreGiven }
+{}
+
+/// What some arguments give.
+#[tactic(auto, unfolding(crate::specs::Words::spool_numbers, crate::specs::Words::pairs_of_words))]
+pub fn worked_words()
+    ensures two { spool_numbers (codes "300" ∷ codes "1" ∷ codes "3" ∷ codes "a" ∷ codes "b"
+        ∷ codes "c" ∷ codes "d" ∷ []) ≡ Some (record { res = 300; workers = 1; cache = 3 }) }
+    ensures pairs { pairs_of_words (codes "300" ∷ codes "1" ∷ codes "3" ∷ codes "a" ∷ codes "b"
+        ∷ codes "c" ∷ codes "d" ∷ []) ≡ record { source = codes "a"; target = codes "b" }
+        ∷ record { source = codes "c"; target = codes "d" } ∷ [] }
+    ensures zeros { spool_numbers (codes "0004800" ∷ codes "0000032" ∷ codes "0000256" ∷ codes "a"
+        ∷ codes "a" ∷ []) ≡ Some (record { res = 4800; workers = 32; cache = 256 }) }
+    ensures digits { spool_numbers (codes "00000300" ∷ codes "1" ∷ codes "3" ∷ codes "a"
+        ∷ codes "b" ∷ []) ≡ None }
+    ensures coarse { spool_numbers (codes "0" ∷ codes "1" ∷ codes "3" ∷ codes "a" ∷ codes "b" ∷ [])
+        ≡ None }
+    ensures fine { spool_numbers (codes "4801" ∷ codes "1" ∷ codes "3" ∷ codes "a" ∷ codes "b"
+        ∷ []) ≡ None }
+    ensures odd { spool_numbers (codes "300" ∷ codes "1" ∷ codes "3" ∷ codes "a" ∷ codes "b"
+        ∷ codes "c" ∷ []) ≡ None }
+    ensures unnamed { spool_numbers (codes "300" ∷ codes "1" ∷ codes "3" ∷ codes "a" ∷ [] ∷ [])
+        ≡ None }
+    ensures none { spool_numbers (codes "300" ∷ codes "1" ∷ codes "3" ∷ []) ≡ None }
+{}
