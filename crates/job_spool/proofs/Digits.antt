@@ -7,13 +7,13 @@ use Rattle.std.proofs.lemmas.Bool.{and_parts}
 use Rattle.std.proofs.lemmas.Str.Parse.{IsDigitsTest, IsNumeralModel, digits_value_short, numerals_by_value, parse_gives}
 use Rattle.job_spool.specs.Words.{Text, is_number}
 
-abbrev AreDigits : Text → Type 0
+abbrev pub AreDigits : Text → Type 0
 AreDigits ds = list_all is_ascii_digit ds ≡ true
 
 tells_digits : IsDigitsTest AreDigits
 tells_digits = search rules
 
-own : IsNumeralModel AreDigits (digits_value 10)
+pub own : IsNumeralModel AreDigits (digits_value 10)
 own = numerals_by_value AreDigits tells_digits
 
 pub value_read : {E : Type 0} (t : Text) (r : Result ℕ E) → is_number t ≡ true → ParsesUnsigned 32 10 t r → r ≡ Ok (digits_value 10 t)

@@ -1,5 +1,5 @@
 -- Laws over the arguments of a spool.
-use Rattle.std.specs.Prelude.{◌≡◌, ◌≤◌, ◌&&◌, true, List, [], ◌∷◌, length, Some}
+use Rattle.std.specs.Prelude.{◌≡◌, ◌≤◌, ◌&&◌, true, List, [], ◌∷◌, length, Some, decimal}
 use Rattle.std.specs.List.{flat_map, list_all}
 use Rattle.pixel_round.specs.Limits.{MAX_RESOLUTION}
 use Rattle.cache_core.specs.Limits.{MAX_CACHED_FONTS}
@@ -34,3 +34,11 @@ abbrev pub PairsAreGiven : Type 0
 PairsAreGiven = (arguments : List Text) (n : SpoolNumbers) → spool_numbers arguments ≡ Some n
     → AreNumbers n × ArePairs (pairs_of_words arguments)
     × IsSpool arguments (pairs_of_words arguments)
+
+-- all numbers in their ranges, and all such pairs, can be given
+abbrev pub AllPairsCanBeGiven : Type 0
+AllPairsCanBeGiven = (n : SpoolNumbers) (pairs : List Names) → AreNumbers n → ArePairs pairs
+    → (spool_numbers (decimal n.res ∷ decimal n.workers ∷ decimal n.cache ∷ words_of pairs)
+    ≡ Some n)
+    × (pairs_of_words (decimal n.res ∷ decimal n.workers ∷ decimal n.cache ∷ words_of pairs)
+    ≡ pairs)

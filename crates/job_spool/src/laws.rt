@@ -1,12 +1,13 @@
 //! Laws over the definition of a spool's arguments, each a clause of a function without a body.
 ghost use Rattle.std.specs.Prelude.{◌≡◌, [], ◌∷◌, None, Some, codes};
-ghost use Rattle.job_spool.specs.Laws.{PairsAreGiven};
+ghost use Rattle.job_spool.specs.Laws.{AllPairsCanBeGiven, PairsAreGiven};
 ghost use Rattle.job_spool.specs.Words.{pairs_of_words, spool_numbers};
 
 /// What arguments give lies within its limits, and the arguments after the third are the names of
-/// the pairs in their order.
+/// the pairs in their order; and all such numbers and pairs can be given.
 pub fn given_pairs()
     ensures given { PairsAreGiven }
+    ensures all { AllPairsCanBeGiven }
 {}
 
 /// What some arguments give.

@@ -2,7 +2,7 @@
 ghost use Rattle.std.specs.Prelude.{◌≡◌, map, string_bytes};
 ghost use Rattle.std.specs.List.{list_all};
 ghost use Rattle.std.specs.Char.{is_ascii_digit};
-ghost use Rattle.job_spool.specs.Words.{is_number as is_number_text, number_in, number_text, numbers_of, spool_numbers as numbers_of_words};
+ghost use Rattle.job_spool.specs.Words.{is_number as is_number_text, number_in, number_text, spool_numbers as numbers_of_words};
 
 use crate::words::are_names;
 
@@ -72,17 +72,6 @@ fn number(text: &str, most: u32) -> Option<u32>
     }
 }
 
-// The numbers that three arguments spell.
-fn three(res: &str, workers: &str, cache: &str) -> Option<SpoolNumbers>
-    ensures { result ≡ numbers_of res.now workers.now cache.now }
-{
-    Some(SpoolNumbers {
-        res: number(res, MAX_RESOLUTION)?,
-        workers: number(workers, MAX_WORKERS)?,
-        cache: number(cache, MAX_CACHED_FONTS)?,
-    })
-}
-
 /// The numbers of a spool's arguments, `RES WORKERS CACHE IN OUT [IN OUT ..]`, where they are such:
 /// dots to the inch, how many pages are drawn at a time, and how many fonts a cache keeps, in one
 /// to seven decimal digits each, and then the names of 1 to 16 pairs of files, none of them empty.
@@ -94,7 +83,11 @@ pub fn spool_numbers(words: &[String]) -> Option<SpoolNumbers>
             if !are_names(names) {
                 return None;
             }
-            three(res.as_str(), workers.as_str(), cache.as_str())
+            Some(SpoolNumbers {
+                res: number(res.as_str(), MAX_RESOLUTION)?,
+                workers: number(workers.as_str(), MAX_WORKERS)?,
+                cache: number(cache.as_str(), MAX_CACHED_FONTS)?,
+            })
         }
         _ => None,
     }
