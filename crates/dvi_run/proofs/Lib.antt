@@ -9,6 +9,7 @@ pub mod Outcomes
 pub mod Clauses
 pub mod Looks
 pub mod PagesDrawn
+pub mod Since
 pub mod WorkersInRounds
 pub mod Shares
 pub mod ResultsToWrite
@@ -19,6 +20,8 @@ pub mod WorkersAfterRounds
 pub mod RoundPressed
 pub mod FilesLoaded
 pub mod WorkerSeats
+pub mod JobCauses
+pub mod Jobs
 pub mod PromisesKept
 pub mod CountedPages
 pub mod RunOfWorkers

@@ -54,7 +54,7 @@ module _ (one : PagesHaveOneValue) (g : Setup) (files : FileTable) (known : g.li
       let is = a.1.of_document in
       (one files u (indexed r) g.sheet i v w a.0 b.0 (found r i v a.0 u is a.1) (found r i w b.0 u is b.1)).0
 
-  longer : (r : Reading) (i : ℕ) (v w : List PageValue) → HaveValues g r i v → HaveValues g r i w → length v ≤ length w → (rest : List PageValue) × (w ≡ v ++ rest)
+  pub longer : (r : Reading) (i : ℕ) (v w : List PageValue) → HaveValues g r i v → HaveValues g r i w → length v ≤ length w → (rest : List PageValue) × (w ≡ v ++ rest)
   longer r i [] w a b le = (w, refl)
   longer r i (x ∷ v) [] a b le = absurd (omega (arith, le))
   longer r i (x ∷ v) (y ∷ w) a b le =

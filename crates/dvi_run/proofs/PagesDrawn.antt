@@ -43,32 +43,41 @@ LooksTo i (Err (draw.Fault fault at)) Finds indexed g pages keys = WholeLooks Fi
 LooksTo i (Err draw.SourceFault) Finds indexed g pages keys = BrokenLooks (λ p. p ≡ i) Finds indexed g.sheet pages keys
 LooksTo i (Err draw.NoMemory) Finds indexed g pages keys = BrokenLooks (λ p. p ≡ i) Finds indexed g.sheet pages keys
 
-pub looks_to : (g : Setup) (reading : Reading) (i : ℕ) (outcome : Result Bitmap PageStop) (old new : Option SeatView) (before after : List ℕ) → asked_at old ≡ Some (keys_of old)
+pub looks_to : (g : Setup) (reading : Reading) (i : ℕ) (outcome : Result Bitmap PageStop) (old new : Option SeatView) (before after : List ℕ) (so_far keys : List FontKey) → asked_at old ≡ Some (keys_of old)
     → asked_at new ≡ Some (keys_of new) → IsOutcome (finding g reading) (indexed_of g reading) g.sheet i outcome (asked_at old) (asked_at new)
-    → WholeLooks (finding g reading) (indexed_of g reading) g.sheet before (keys_of old) → after ≡ before ++ i ∷ []
-    → LooksTo i outcome (finding g reading) (indexed_of g reading) g after (keys_of new)
-looks_to g reading i (Ok page) old new before after e h o w is =
+    → WholeLooks (finding g reading) (indexed_of g reading) g.sheet before so_far → after ≡ before ++ i ∷ []
+    → ((more : List FontKey) → keys_of new ≡ keys_of old ++ more → keys ≡ so_far ++ more)
+    → LooksTo i outcome (finding g reading) (indexed_of g reading) g after keys
+looks_to g reading i (Ok page) old new before after so_far keys e h o w is grows =
     let Finds = finding g reading in
     let ix = indexed_of g reading in
-    subst (λ (ps : List ℕ). WholeLooks Finds ix g.sheet ps (keys_of new)) (sym is)
-    (subst (λ (ks : List FontKey). WholeLooks Finds ix g.sheet (before ++ i ∷ []) ks) (sym (keys_grew old new o.0 e h o.2)) (whole_more Finds ix g.sheet before (keys_of old) i o.0 w (Ok page, o.1)))
-looks_to g reading i (Err (draw.Fault fault at)) old new before after e h o w is =
+    subst (λ (ps : List ℕ). WholeLooks Finds ix g.sheet ps keys) (sym is)
+    (subst (λ (ks : List FontKey). WholeLooks Finds ix g.sheet (before ++ i ∷ []) ks) (sym (grows o.0 (keys_grew old new o.0 e h o.2))) (whole_more Finds ix g.sheet before so_far i o.0 w (Ok page, o.1)))
+looks_to g reading i (Err (draw.Fault fault at)) old new before after so_far keys e h o w is grows =
     let Finds = finding g reading in
     let ix = indexed_of g reading in
-    subst (λ (ps : List ℕ). WholeLooks Finds ix g.sheet ps (keys_of new)) (sym is)
-    (subst (λ (ks : List FontKey). WholeLooks Finds ix g.sheet (before ++ i ∷ []) ks) (sym (keys_grew old new o.0 e h o.2)) (whole_more Finds ix g.sheet before (keys_of old) i o.0 w (_, o.1)))
-looks_to g reading i (Err draw.SourceFault) old new before after e h o w is =
-    let Finds = finding g reading in
-    let ix = indexed_of g reading in
-    let b = broken_keys Finds ix i old new e h o in
-    subst (λ (ps : List ℕ). BrokenLooks (λ p. p ≡ i) Finds ix g.sheet ps (keys_of new)) (sym is)
-    (subst (λ (ks : List FontKey). BrokenLooks (λ p. p ≡ i) Finds ix g.sheet (before ++ i ∷ []) ks) (sym b.1) (broken_more (λ p. p ≡ i) Finds ix g.sheet before (keys_of old) i b.0 refl w b.2))
-looks_to g reading i (Err draw.NoMemory) old new before after e h o w is =
+    subst (λ (ps : List ℕ). WholeLooks Finds ix g.sheet ps keys) (sym is)
+    (subst (λ (ks : List FontKey). WholeLooks Finds ix g.sheet (before ++ i ∷ []) ks) (sym (grows o.0 (keys_grew old new o.0 e h o.2))) (whole_more Finds ix g.sheet before so_far i o.0 w (_, o.1)))
+looks_to g reading i (Err draw.SourceFault) old new before after so_far keys e h o w is grows =
     let Finds = finding g reading in
     let ix = indexed_of g reading in
     let b = broken_keys Finds ix i old new e h o in
-    subst (λ (ps : List ℕ). BrokenLooks (λ p. p ≡ i) Finds ix g.sheet ps (keys_of new)) (sym is)
-    (subst (λ (ks : List FontKey). BrokenLooks (λ p. p ≡ i) Finds ix g.sheet (before ++ i ∷ []) ks) (sym b.1) (broken_more (λ p. p ≡ i) Finds ix g.sheet before (keys_of old) i b.0 refl w b.2))
+    subst (λ (ps : List ℕ). BrokenLooks (λ p. p ≡ i) Finds ix g.sheet ps keys) (sym is)
+    (subst (λ (ks : List FontKey). BrokenLooks (λ p. p ≡ i) Finds ix g.sheet (before ++ i ∷ []) ks) (sym (grows b.0 b.1)) (broken_more (λ p. p ≡ i) Finds ix g.sheet before so_far i b.0 refl w b.2))
+looks_to g reading i (Err draw.NoMemory) old new before after so_far keys e h o w is grows =
+    let Finds = finding g reading in
+    let ix = indexed_of g reading in
+    let b = broken_keys Finds ix i old new e h o in
+    subst (λ (ps : List ℕ). BrokenLooks (λ p. p ≡ i) Finds ix g.sheet ps keys) (sym is)
+    (subst (λ (ks : List FontKey). BrokenLooks (λ p. p ≡ i) Finds ix g.sheet (before ++ i ∷ []) ks) (sym (grows b.0 b.1)) (broken_more (λ p. p ≡ i) Finds ix g.sheet before so_far i b.0 refl w b.2))
+
+-- the keys by which those of its seat grew
+pub keys_by : (g : Setup) (reading : Reading) (i : ℕ) (outcome : Result Bitmap PageStop) (old new : Option SeatView) → asked_at old ≡ Some (keys_of old) → asked_at new ≡ Some (keys_of new)
+    → IsOutcome (finding g reading) (indexed_of g reading) g.sheet i outcome (asked_at old) (asked_at new) → (more : List FontKey) × (keys_of new ≡ keys_of old ++ more)
+keys_by g reading i (Ok page) old new e h o = (o.0, keys_grew old new o.0 e h o.2)
+keys_by g reading i (Err (draw.Fault fault at)) old new e h o = (o.0, keys_grew old new o.0 e h o.2)
+keys_by g reading i (Err draw.SourceFault) old new e h o = let b = broken_keys (finding g reading) (indexed_of g reading) i old new e h o in (b.0, b.1)
+keys_by g reading i (Err draw.NoMemory) old new e h o = let b = broken_keys (finding g reading) (indexed_of g reading) i old new e h o in (b.0, b.1)
 
 -- why a page isn't written, by what came of it
 module _ (counted : Bool) (before after : Option (List ℕ)) (OutputFails SourceFails : Type 0) (g : Setup) (reading : Reading) (i : ℕ) where
@@ -116,6 +125,23 @@ whole_outcome counted before after OutputFails page (Err draw.NoMemory) (stop.Dr
 whole_outcome counted before after OutputFails page (Err draw.NoMemory) (stop.Draw draw.SourceFault) wrote u = absurd u
 whole_outcome counted before after OutputFails page (Err draw.NoMemory) (stop.Draw draw.NoMemory) wrote u = absurd u
 whole_outcome counted before after OutputFails page (Err draw.NoMemory) stop.Output wrote u = absurd wrote
+
+-- want of memory at a page that isn't written ends the run so
+pub memory_ends : (counted : Bool) (before after : Option (List ℕ)) (OutputFails : Type 0) (page : ℕ) (outcome : Result Bitmap PageStop) (why : WriteStop) → outcome ≡ Err draw.NoMemory
+    → WroteOutcome counted before after OutputFails outcome (Err why) → ending_at page why ≡ Memory
+memory_ends counted before after OutputFails page (Ok p) why is wrote = absurd cc
+memory_ends counted before after OutputFails page (Err reason) (stop.Draw cause) is wrote =
+    let same = wrote.0 in
+    let memory : cause ≡ draw.NoMemory = cc in
+    ap (λ (x : PageStop). ending_at page (stop.Draw x)) memory
+memory_ends counted before after OutputFails page (Err reason) stop.Output is wrote = absurd wrote
+
+-- a page that was broken off was so by its source or for want of memory
+pub cut_cases : (outcome : Result Bitmap PageStop) → (IsWhole outcome → ⊥) → IsErrOf outcome draw.SourceFault ⊎ (outcome ≡ Err draw.NoMemory)
+cut_cases (Ok page) cut = absurd (cut tt)
+cut_cases (Err (draw.Fault fault at)) cut = absurd (cut tt)
+cut_cases (Err draw.SourceFault) cut = inl refl
+cut_cases (Err draw.NoMemory) cut = inr refl
 
 -- of the pages that surely came to their end none is one that was broken off
 pub sure_where_cut : (counted : Bool) (before after : Option (List ℕ)) (OutputFails : Type 0) (page written : ℕ) (outcome : Result Bitmap PageStop) (why : WriteStop) → WroteOutcome counted before after OutputFails outcome (Err why)

@@ -174,14 +174,19 @@ module _ (g : Setup) (reading : Reading) (SomeFailed : ℕ → Type 0) where
             ]
           ]
 
-      -- one page alone, that wasn't broken off
-      pub whole_alone : length rs ≤ 1 → WasNotCutOff (ending_at (u.pages + 1) why) → AreWhole rs
-      whole_alone one unbroken r has =
+      -- one page alone is that one
+      pub refused_alone : length rs ≤ 1 → (r : PageResult) → Contains rs r → up.refused ≡ r
+      refused_alone one r has =
           let all = ap length up.are in
           let parts = length-append up.written (up.refused ∷ up.rest) in
           let none : length up.written ≡ 0 = omega (arith, all, parts) in
           let last : length up.rest ≡ 0 = omega (arith, all, parts) in
           let alone : rs ≡ up.refused ∷ [] = up.are ∙ (ap (λ (l : List PageResult). l ++ up.refused ∷ up.rest) (is_empty up.written none) ∙ ap (λ (l : List PageResult). up.refused ∷ l) (is_empty up.rest last)) in
           let here : Contains (up.refused ∷ []) r = subst (λ (l : List PageResult). Contains l r) alone has in
+          only up.refused r here.0 here.1 here.2
+
+      -- which wasn't broken off
+      pub whole_alone : length rs ≤ 1 → WasNotCutOff (ending_at (u.pages + 1) why) → AreWhole rs
+      whole_alone one unbroken r has =
           let whole = whole_outcome counted up.mid new P (u.pages + 1) up.refused.outcome why up.cause unbroken in
-          subst (λ (q : PageResult). IsWhole q.outcome) (only up.refused r here.0 here.1 here.2) whole
+          subst (λ (q : PageResult). IsWhole q.outcome) (refused_alone one r has) whole

@@ -1,6 +1,6 @@
 -- A round whose results are at hand, with the workers that drew it, and the round after it.
 use Rattle.std.proofs.Common.{◌≡◌, ◌⊎◌, inl, inr, ℕ, zero, suc, ◌+◌, ◌-◌, ◌*◌, ◌%◌, min, ◌<◌, ◌≤◌, List, [], ◌∷◌, ◌++◌, length, get_or, Contains, Result, IsErr, IsOk, Ok, Err, refl, sym, ap, subst, ◌∙◌, arith}
-use Rattle.std.specs.Prelude.{◌^◌, None}
+use Rattle.std.specs.Prelude.{◌^◌, IsErrOf, None}
 use Rattle.std.specs.List.Sorted.{IsStrictlyIncreasing}
 use Rattle.std.proofs.lemmas.Bool.{cases_lt}
 use Rattle.std.proofs.lemmas.List.{length-map}
@@ -13,13 +13,16 @@ use Rattle.page_workers.specs.Seats.{room_at}
 use Rattle.page_workers.specs.declared.worker.PageResult.{PageResult}
 use Rattle.page_workers.specs.declared.worker.Worker.{Worker}
 use Rattle.page_workers.proofs.Drawn.{drew_pages, drew_results}
-use Rattle.dvi_run.specs.Shares.{PartitionPages}
+use Rattle.dvi_run.specs.Shares.{PartitionPagesSince, pages_since}
 use Rattle.page_workers.specs.Handing.{AreFrom, HandedRound}
 use Rattle.dvi_run.specs.Rounds.{FailedAt, IsOutcomeOf, MayBegin, Site, indexed_of}
 use Rattle.dvi_run.proofs.ResultsToWrite.{AreHeld}
 use Rattle.dvi_run.proofs.Shares.{none_shared, shared_more}
 use Rattle.dvi_run.proofs.PagesDrawn.{AreWhole, CutAmong, NeverCut, bitmap_whole, none_cut}
+use Rattle.outside.specs.Counts.{Rose}
+use Rattle.page_draw.specs.declared.stop.PageStop.TheVariants as draw
 use Rattle.dvi_run.proofs.WorkersInRounds.{Came, Stood, begins, came_so, room_so, stood_as, stood_on}
+use Rattle.dvi_run.proofs.Since.{more_since, none_since}
 
 -- ---- how many pages the next round has
 
@@ -78,8 +81,12 @@ module _ {F : Type 0} (s : Site F) (n : ℕ) (xs : List (Worker F)) where
   abbrev pub SomeFailed : List (Worker F) → ℕ → Type 0
   SomeFailed ws page = (k : ℕ) × (k < n) × ((d : Worker F) → FailedAt s.faults page (get_or xs k d) (get_or ws k d))
 
-  abbrev pub AllStood : (ℕ → Type 0) → List (Worker F) → Type 0
-  AllStood Cut ws = (k : ℕ) (d : Worker F) → k < n → Stood s Cut (get_or xs k d) (get_or ws k d)
+  -- the page of one of these results was broken off, where it may have been
+  abbrev pub CutHere : List PageResult → Worker F → Worker F → ℕ → Type 0
+  CutHere rs start now p = (cut : CutAmong rs p) × (IsErrOf cut.0.outcome draw.SourceFault → Rose (s.faults start.source) (s.faults now.source))
+
+  abbrev pub AllStood : List PageResult → List (Worker F) → Type 0
+  AllStood rs ws = (k : ℕ) (d : Worker F) → k < n → Stood s (CutHere rs (get_or xs k d) (get_or ws k d)) (get_or xs k d) (get_or ws k d)
 
   -- the results of the pages from `done` on are at hand, and the rounds before page `next` were
   -- drawn
@@ -91,10 +98,10 @@ module _ {F : Type 0} (s : Site F) (n : ℕ) (xs : List (Worker F)) where
     pub near : next ≤ done + 32
     pub even : 2 ≤ n → done % 32 ≡ 0
     pub steps : 2 ≤ n → (next % 32 ≡ 0) ⊎ (next ≡ pages_begun s.reading)
-    pub stand : AllStood (CutAmong rs) ws
+    pub stand : AllStood rs ws
     pub room : (k : ℕ) (d : Worker F) → k < n
         → room_at (get_or xs k d).loads (get_or xs k d).seat ≤ room_at (get_or ws k d).loads (get_or ws k d).seat + next * 2 ^ 24
-    pub shares : PartitionPages (done + length rs) n ws
+    pub shares : PartitionPagesSince (done + length rs) n xs ws
     pub held : AreHeld s.given s.reading (SomeFailed ws) done rs
 
   module _ (ready : (k : ℕ) (d : Worker F) → k < n → MayBegin s (get_or xs k d)) where
@@ -107,9 +114,9 @@ module _ {F : Type 0} (s : Site F) (n : ℕ) (xs : List (Worker F)) where
       near = omega arith;
       even = λ two. omega arith;
       steps = λ two. inl (omega arith);
-      stand = λ k d lt. stood_as s NeverCut (CutAmong []) (get_or xs k d) (get_or xs k d) (λ p cut. absurd cut) (begins s (get_or xs k d) (ready k d lt));
+      stand = λ k d lt. stood_as s NeverCut (CutHere [] (get_or xs k d) (get_or xs k d)) (get_or xs k d) (get_or xs k d) (λ p cut. absurd cut) (begins s (get_or xs k d) (ready k d lt));
       room = λ k d lt. omega arith;
-      shares = λ d. none_shared n (λ k. (get_or xs k d).pages.items) (λ k lt. (ready k d lt).pages);
+      shares = λ d. none_shared n (λ k. pages_since (get_or xs k d) (get_or xs k d)) (λ k lt. none_since (get_or xs k d).pages.items);
       held = tt;
     }
 
@@ -117,7 +124,7 @@ module _ {F : Type 0} (s : Site F) (n : ℕ) (xs : List (Worker F)) where
       whole : AreWhole rs
       whole r has = bitmap_whole r.outcome (good r has)
 
-      pub may_draw : next + count ≤ 1000000 → (k : ℕ) (d : Worker F) → k < n → MayDraw s.library s.bench count (get_or ws k d)
+      pub may_draw : next + count ≤ pages_begun s.reading → (k : ℕ) (d : Worker F) → k < n → MayDraw s.library s.bench count (get_or ws k d)
       may_draw below k d lt =
           let st = h.stand k d lt in
           let room = h.room k d lt in
@@ -147,16 +154,27 @@ module _ {F : Type 0} (s : Site F) (n : ℕ) (xs : List (Worker F)) where
             drew_results s.library s.faults s.loads s.bench (indexed_of s.given s.reading) s.given.sheet (drawn k) (get_or ws k d) (get_or mid k d) (drew.round.each k d (in_ws k lt))
             ∙ ap (λ (l : List PageResult). l ++ drawn k) (h.stand k d lt).none
 
-        drawn_pages : (k : ℕ) (d : Worker F) → k < n → (get_or now k d).pages.items ≡ (get_or ws k d).pages.items ++ pages_of (drawn k)
-        drawn_pages k d lt =
+        grown : (k : ℕ) (d : Worker F) → k < n → (get_or now k d).pages.items ≡ (get_or ws k d).pages.items ++ pages_of (drawn k)
+        grown k d lt =
             (drew.taken.cleared k d (in_mid k lt)).same.pages
             ∙ drew_pages s.library s.faults s.loads s.bench (indexed_of s.given s.reading) s.given.sheet (drawn k) (get_or ws k d) (get_or mid k d) (drew.round.each k d (in_ws k lt))
+
+        drawn_pages : (k : ℕ) (d : Worker F) → k < n → pages_since (get_or xs k d) (get_or now k d) ≡ pages_since (get_or xs k d) (get_or ws k d) ++ pages_of (drawn k)
+        drawn_pages k d lt = more_since (get_or xs k d).pages.items (get_or ws k d).pages.items (get_or now k d).pages.items (pages_of (drawn k)) (h.stand k d lt).drawn.pages (grown k d lt)
 
         -- each result of a worker is at hand
         in_results : (k : ℕ) (r : PageResult) → k < n → Contains (drawn k) r → Contains results r
         in_results k r lt has =
             let d : Worker F = some_of ws (omega arith) in
             drew.taken.all k d r (in_mid k lt) (subst (λ (l : List PageResult). Contains l r) (sym (drawn_results k d lt)) has)
+
+        none_was_cut : (k : ℕ) (d : Worker F) (p : ℕ) → CutHere rs (get_or xs k d) (get_or ws k d) p → ⊥
+        none_was_cut k d p cut = none_cut rs whole p cut.0
+
+        came_to : (k : ℕ) (d : Worker F) → k < n → (r : PageResult) → Contains (drawn k) r → Came s (get_or xs k d) (get_or now k d) r
+        came_to k d lt =
+            came_so s (get_or xs k d) (get_or ws k d) (get_or mid k d) (get_or now k d) (ready k d lt) (drawn k) (drew.round.each k d (in_ws k lt)) (drew.round.stopped k (in_ws k lt)) (drew.taken.cleared k d (in_mid k lt))
+            (CutHere rs (get_or xs k d) (get_or ws k d)) (none_was_cut k d) (h.stand k d lt)
 
         came : (r : PageResult) → Contains results r → (k : ℕ) × (k < n) × ((d : Worker F) → Came s (get_or xs k d) (get_or now k d) r)
         came r has =
@@ -165,8 +183,7 @@ module _ {F : Type 0} (s : Site F) (n : ℕ) (xs : List (Worker F)) where
             let lt : k < n = from_mid k own.1 in (
               k,
               lt,
-              λ d. came_so s (get_or xs k d) (get_or ws k d) (get_or mid k d) (get_or now k d) (ready k d lt) (drawn k) (drew.round.each k d (in_ws k lt)) (drew.round.stopped k (in_ws k lt)) (drew.taken.cleared k d (in_mid k lt))
-                  (CutAmong rs) (none_cut rs whole) (h.stand k d lt) r (subst (λ (l : List PageResult). Contains l r) (drawn_results k d lt) (own.2 d)),
+              λ d. came_to k d lt r (subst (λ (l : List PageResult). Contains l r) (drawn_results k d lt) (own.2 d)),
             )
 
         held_from : (page : ℕ) (qs : List PageResult) → AreFrom page qs → ((r : PageResult) → Contains qs r → Contains results r) → AreHeld s.given s.reading (SomeFailed now) page qs
@@ -192,10 +209,10 @@ module _ {F : Type 0} (s : Site F) (n : ℕ) (xs : List (Worker F)) where
         next_is : done + length rs ≡ next
         next_is = h.full good
 
-        shares_now : PartitionPages (next + drew.round.pages) n now
+        shares_now : PartitionPagesSince (next + drew.round.pages) n xs now
         shares_now d =
-            shared_more next drew.round.pages n (λ k. (get_or ws k d).pages.items) (λ k. (get_or now k d).pages.items) (λ k. pages_of (drawn k)) (λ k lt. drawn_pages k d lt)
-            (subst (λ (m : ℕ). PartitionPages m n ws) next_is h.shares d) (λ k lt. drew.round.rising k (in_ws k lt)) (λ k page lt has. drew.round.inside k page (in_ws k lt) has)
+            shared_more next drew.round.pages n (λ k. pages_since (get_or xs k d) (get_or ws k d)) (λ k. pages_since (get_or xs k d) (get_or now k d)) (λ k. pages_of (drawn k)) (λ k lt. drawn_pages k d lt)
+            (subst (λ (m : ℕ). PartitionPagesSince m n xs ws) next_is h.shares d) (λ k lt. drew.round.rising k (in_ws k lt)) (λ k page lt has. drew.round.inside k page (in_ws k lt) has)
             (λ i lt. let one = drew.round.shared i lt in (one.0, omega (arith, one.1), one.2, λ j below has. one.3 j (in_ws j below) has))
 
         full_now : ((r : PageResult) → Contains results r → HasBitmap r) → next + length results ≡ next + count
@@ -225,15 +242,15 @@ module _ {F : Type 0} (s : Site F) (n : ℕ) (xs : List (Worker F)) where
             even = even_now;
             steps = λ two. elim (sized.more two) [ inl all ↦ inl (let even = even_now two in omega (arith, even, all)) | inr last ↦ inr last ];
             stand = λ k d lt.
-                stood_as s (CutAmong (drawn k)) (CutAmong results) (get_or xs k d) (get_or now k d) (λ p cut. (cut.0, in_results k cut.0 lt cut.1, cut.2, cut.3))
+                stood_as s (CutAmong (drawn k)) (CutHere results (get_or xs k d) (get_or now k d)) (get_or xs k d) (get_or now k d) (λ p cut. ((cut.0, in_results k cut.0 lt cut.1, cut.2, cut.3), λ failed. ((came_to k d lt cut.0 cut.1).failed failed).rose))
                 (stood_on s (get_or xs k d) (get_or ws k d) (get_or mid k d) (get_or now k d) (ready k d lt) (drawn k) (drew.round.each k d (in_ws k lt)) (drew.round.stopped k (in_ws k lt)) (drew.taken.cleared k d (in_mid k lt))
-                (CutAmong rs) (none_cut rs whole) (counters k d lt) (h.stand k d lt));
+                (CutHere rs (get_or xs k d) (get_or ws k d)) (none_was_cut k d) (counters k d lt) (h.stand k d lt));
             room = λ k d lt.
                 let before = h.room k d lt in
                 let here = room_so s (get_or xs k d) (get_or ws k d) (get_or mid k d) (get_or now k d) (ready k d lt) (drawn k) (drew.round.each k d (in_ws k lt)) (drew.round.stopped k (in_ws k lt)) (drew.taken.cleared k d (in_mid k lt)) in
                 let few = few_drawn k lt in
                 omega (arith, before, here, few);
-            shares = let size = drew.taken.long in let same : next + drew.round.pages ≡ next + length results = omega (arith, size) in subst (λ (m : ℕ). PartitionPages m n now) same shares_now;
+            shares = let size = drew.taken.long in let same : next + drew.round.pages ≡ next + length results = omega (arith, size) in subst (λ (m : ℕ). PartitionPagesSince m n xs now) same shares_now;
             held = held_from next results drew.taken.are (λ r has. has);
           }
 

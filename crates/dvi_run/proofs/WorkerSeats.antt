@@ -1,12 +1,12 @@
 -- A worker from its seat to the end of the run.
-use Rattle.std.proofs.Common.{◌≡◌, ◌⊎◌, inl, inr, ℕ, ◌*◌, ◌≤◌, List, [], ◌++◌, Option, Some, None, refl, sym, ap, subst, ◌∙◌, arith}
+use Rattle.std.proofs.Common.{length, drop, ◌≡◌, ◌⊎◌, inl, inr, ℕ, ◌*◌, ◌≤◌, List, [], ◌++◌, Option, Some, None, refl, sym, ap, subst, ◌∙◌, arith}
 use Rattle.std.specs.Prelude.{IfSome}
 use Rattle.outside.specs.Library.{FileTable}
 use Rattle.outside.specs.declared.keys.FontKey.{FontKey}
 use Rattle.cache_core.specs.declared.calls.Call.{Call}
 use Rattle.cache_core.specs.declared.common.Common.{Common}
 use Rattle.cache_core.specs.Histories.{AllWeigh, own, open_claim, SeatCalls, NoneReleased, looks}
-use Rattle.page_index.specs.Document.{Reading}
+use Rattle.page_index.specs.Document.{Reading, pages_begun}
 use Rattle.page_index.specs.Pages.{document_units}
 use Rattle.turn_lock.specs.Seats.{SeatView}
 use Rattle.pixel_round.specs.Preamble.{AreUnits}
@@ -21,7 +21,9 @@ use Rattle.page_workers.specs.SparePages.{HasNoSparePages}
 use Rattle.page_workers.specs.Rounds.{trail_of}
 use Rattle.dvi_run.specs.Pages.{Setup, finding}
 use Rattle.dvi_run.specs.Looked.{WholeLooks, BrokenLooks}
-use Rattle.dvi_run.specs.Rounds.{Site, AfterRounds, LoadsAreOf, MayBegin, IsFresh, WorkerRan, keys_of, indexed_of, Trails}
+use Rattle.dvi_run.specs.Shares.{pages_since}
+use Rattle.dvi_run.specs.Rounds.{Site, AfterRounds, AllLooked, LoadsAreOf, MayBegin, IsFresh, WasCut, WorkerRan, keys_of, keys_since, indexed_of, Trails}
+use Rattle.dvi_run.proofs.Looks.{broken_as}
 use Rattle.dvi_run.proofs.FilesLoaded.{loads_settled, no_loads}
 
 module _ {F : Type 0} (s : Site F) (part : Common) (known : part.library ≡ s.given.library) (same_units : part.units ≡ s.bench.units)
@@ -47,20 +49,28 @@ module _ {F : Type 0} (s : Site F) (part : Common) (known : part.library ≡ s.g
     knows_library = knows_library seated.seat.view.part.library (ap (λ (p : Common). p.library) seated.new.part ∙ known);
   }
 
-  pub may_begin : MayBegin s start
-  may_begin = record {
+  of_library : library_at start.seat ≡ s.given.library
+  of_library = at_seat library_at ∙ ap (λ (p : Common). p.library) seated.new.part ∙ known
+
+  -- nothing was drawn or asked for before
+  pages_all : (now : Worker F) → pages_since start now ≡ now.pages.items
+  pages_all now = ap (λ (l : List ℕ). drop (length l) now.pages.items) (seated.same.pages ∙ fresh.pages)
+
+  keys_all : (now : Worker F) → keys_since start now ≡ keys_of now.seat
+  keys_all now = ap (λ (l : List FontKey). drop (length l) (keys_of now.seat)) (at_seat keys_of ∙ no_keys)
+
+  pub may_begin : pages_begun s.reading ≤ 1000000 → MayBegin s start
+  may_begin few = record {
     fits = subst (λ (o : Option SeatView). BenchFits (s.library start.source) s.bench o) (sym seated.is) is_at;
-    library = at_seat library_at ∙ ap (λ (p : Common). p.library) seated.new.part ∙ known;
+    library = of_library;
     units = at_seat units_at ∙ ap (λ (p : Common). Some p.units) seated.new.part ∙ ap Some same_units ∙ sym of_document;
     none = seated.same.results ∙ fresh.none;
     counter = seated.same.counter ∙ fresh.counter;
-    pages = seated.same.pages ∙ fresh.pages;
-    keys = at_seat keys_of ∙ no_keys;
     room =
         let drawn = seated.new.drawn in
         let loads : start.loads ≡ 0 = seated.same.loads ∙ fresh.loads in
         let room : room_at start.loads start.seat ≡ room_at 0 (Some seated.seat) = ap (λ (n : ℕ). room_at n start.seat) loads ∙ at_seat (room_at 0) in
-        omega (arith, room, drawn);
+        omega (arith, room, drawn, few);
   }
 
   -- where each page had a bitmap, no claim was given up
@@ -94,7 +104,7 @@ module _ {F : Type 0} (s : Site F) (part : Common) (known : part.library ≡ s.g
 
   -- ---- at the end
 
-  module _ (MayBreak : ℕ → Type 0) (now : Worker F) (ended : AfterRounds s MayBreak start now) (t : SeatView) (is : now.seat ≡ Some t) where
+  module _ (MayBreak : ℕ → Type 0) (MayWant : Type 0) (now : Worker F) (ended : AfterRounds s MayBreak MayWant start now) (t : SeatView) (is : now.seat ≡ Some t) where
     trail_here : TrailGrew ⊥ (asked_at (Some seated.seat)) (asked_at (Some t)) (trail_at (s.loads start.source) start.loads (Some seated.seat)) (trail_at (s.loads now.source) now.loads (Some t))
     trail_here =
         subst (λ (o : Option SeatView). TrailGrew ⊥ (asked_at (Some seated.seat)) (asked_at o) (trail_at (s.loads start.source) start.loads (Some seated.seat)) (trail_at (s.loads now.source) now.loads o)) is
@@ -115,29 +125,37 @@ module _ {F : Type 0} (s : Site F) (part : Common) (known : part.library ≡ s.g
     calls_are : own_calls t ≡ answers.answers.calls
     calls_are = answers.answers.grew ∙ ap (λ (l : List Call). l ++ answers.answers.calls) seated.new.no_call
 
-    keys_here : keys_of now.seat ≡ answers.keys
+    keys_here : keys_since start now ≡ answers.keys
     keys_here =
         let there : Some (keys_of (Some t)) ≡ Some ([] ++ answers.keys) = answers.grew ∙ ap (λ (l : List FontKey). Some (l ++ answers.keys)) no_keys in
-        ap keys_of is ∙ cc there
+        keys_all now ∙ ap keys_of is ∙ cc there
 
     module _ (history : List Call) (after : Worker F) (left : own k history ≡ own_calls t) (none : after.seat ≡ None) (source : after.source ≡ now.source) (loads : after.loads ≡ now.loads)
         (pages : after.pages.items ≡ now.pages.items) (results : after.results.items ≡ now.results.items) (counter : after.counter ≡ now.counter) (spare_pages : HasNoSparePages after) where
       own_here : own k history ≡ answers.answers.calls
       own_here = left ∙ calls_are
 
-      abbrev AllLooked : List ℕ → List FontKey → Type 0
-      AllLooked ps ks = WholeLooks (finding s.given s.reading) (indexed_of s.given s.reading) s.given.sheet ps ks
+      abbrev Whole : List ℕ → List FontKey → Type 0
+      Whole ps ks = WholeLooks (finding s.given s.reading) (indexed_of s.given s.reading) s.given.sheet ps ks
 
       abbrev Broke : List ℕ → List FontKey → Type 0
       Broke ps ks = BrokenLooks MayBreak (finding s.given s.reading) (indexed_of s.given s.reading) s.given.sheet ps ks
 
-      looked_here : (NoneReleased (own k history) × AllLooked after.pages.items answers.keys) ⊎ Broke after.pages.items answers.keys
+      pages_here : pages_since start now ≡ after.pages.items
+      pages_here = pages_all now ∙ sym pages
+
+      all_here : AllLooked s start now → Whole after.pages.items answers.keys
+      all_here w = subst (λ (ps : List ℕ). Whole ps answers.keys) pages_here (subst (λ (ks : List FontKey). Whole (pages_since start now) ks) keys_here w)
+
+      looked_here : (NoneReleased (own k history) × Whole after.pages.items answers.keys) ⊎ Broke after.pages.items answers.keys
       looked_here = elim ended.looked [
         | inl w ↦ inl (
           subst NoneReleased (sym left) (none_released now w.0 t is),
-          subst (λ (ps : List ℕ). AllLooked ps answers.keys) (sym pages) (subst (λ (ks : List FontKey). AllLooked now.pages.items ks) keys_here w.1),
+          all_here w.1,
         )
-        | inr b ↦ inr (subst (λ (ps : List ℕ). Broke ps answers.keys) (sym pages) (subst (λ (ks : List FontKey). Broke now.pages.items ks) keys_here b))
+        | inr b ↦
+            let may = broken_as (λ p. MayBreak p × WasCut s MayWant start now) MayBreak (finding s.given s.reading) (indexed_of s.given s.reading) s.given.sheet (pages_since start now) (keys_since start now) (λ p cut. cut.0) b in
+            inr (subst (λ (ps : List ℕ). Broke ps answers.keys) pages_here (subst (λ (ks : List FontKey). Broke (pages_since start now) ks) keys_here may))
       ]
 
       weighed_here : AllWeigh (IsWeightOf s.given.library (document_units s.given.res s.reading)) (own k history)
@@ -147,7 +165,7 @@ module _ {F : Type 0} (s : Site F) (part : Common) (known : part.library ≡ s.g
           (subst (λ (u : Option Units). AllWeigh (IsWeightOf seated.seat.view.part.library u) answers.answers.calls) (ap (λ (p : Common). Some p.units) seated.new.part ∙ ap Some same_units ∙ sym of_document) answers.answers.weighed))
 
       told_here : t.view.part.library ≡ s.given.library
-      told_here = sym (ap library_at is) ∙ ended.kept.library ∙ may_begin.library
+      told_here = sym (ap library_at is) ∙ ended.kept.library ∙ of_library
 
       still_tells : IfSome s.given.library (λ l. s.library after.source ≡ Some l)
       still_tells =
@@ -155,9 +173,8 @@ module _ {F : Type 0} (s : Site F) (part : Common) (known : part.library ≡ s.g
           subst (λ (x : F). IfSome s.given.library (λ l. s.library x ≡ Some l)) (sym source)
           (subst (λ (o : Option FileTable). IfSome o (λ l. s.library now.source ≡ Some l)) told_here fits.knows_library)
 
-      pub ran : (Whole : Type 0) → (Whole → Trails s (Unit {0}) start now)
-          → (Whole → WholeLooks (finding s.given s.reading) (indexed_of s.given s.reading) s.given.sheet now.pages.items (keys_of now.seat)) → WorkerRan MayBreak Whole s.library s.faults s.loads s.given s.reading history k w after
-      ran Whole settled through = record {
+      pub ran : (AllDone : Type 0) → (AllDone → Trails s (Unit {0}) start now) → (AllDone → AllLooked s start now) → WorkerRan MayBreak AllDone s.library s.faults s.loads s.given s.reading history k w after
+      ran AllDone settled through = record {
         seat = none;
         none = results ∙ ended.none;
         counter = counter ∙ ended.counter;
@@ -170,9 +187,7 @@ module _ {F : Type 0} (s : Site F) (part : Common) (known : part.library ≡ s.g
         weighed = weighed_here;
         last = subst ReleasedLast (sym own_here) answers.answers.last;
         whole = λ e. subst NoneReleased (sym left) (none_released now (settled e) t is);
-        drawn_out = λ e.
-            subst (λ (ps : List ℕ). WholeLooks (finding s.given s.reading) (indexed_of s.given s.reading) s.given.sheet ps answers.keys) (sym pages)
-            (subst (λ (ks : List FontKey). WholeLooks (finding s.given s.reading) (indexed_of s.given s.reading) s.given.sheet now.pages.items ks) keys_here (through e));
+        drawn_out = λ e. all_here (through e);
         loaded =
             subst (λ (l : List Call). Loaded (MAX_LOADS * misses l) (s.loads w.source) (s.loads after.source) w.loads after.loads) (sym own_here)
             (subst (λ (x : F). Loaded (MAX_LOADS * misses answers.answers.calls) (s.loads w.source) (s.loads x) w.loads after.loads) (sym source)
@@ -180,17 +195,17 @@ module _ {F : Type 0} (s : Site F) (part : Common) (known : part.library ≡ s.g
             (subst (λ (n : ℕ). Loaded (MAX_LOADS * misses answers.answers.calls) (s.loads start.source) (s.loads now.source) w.loads n) (sym loads)
             (subst (λ (n : ℕ). Loaded (MAX_LOADS * misses answers.answers.calls) (s.loads start.source) (s.loads now.source) n now.loads) seated.same.loads answers.answers.loaded))));
         loads_are =
-            subst (λ (l : List Call). LoadsAreOf Whole s.given s.reading l after.loads) (sym left) (subst (λ (n : ℕ). LoadsAreOf Whole s.given s.reading (own_calls t) n) (sym loads)
-            (loads_settled s.given s.reading Whole (own_calls t) now.loads (loads_in ⊥ now ended.trail t is) (λ e. loads_in (Unit {0}) now (settled e) t is)));
+            subst (λ (l : List Call). LoadsAreOf AllDone s.given s.reading l after.loads) (sym left) (subst (λ (n : ℕ). LoadsAreOf AllDone s.given s.reading (own_calls t) n) (sym loads)
+            (loads_settled s.given s.reading AllDone (own_calls t) now.loads (loads_in ⊥ now ended.trail t is) (λ e. loads_in (Unit {0}) now (settled e) t is)));
       }
 
-  leaves : (MayBreak : ℕ → Type 0) (now : Worker F) (ended : AfterRounds s MayBreak start now) (o : Option SeatView) → now.seat ≡ o → BenchFits (s.library now.source) s.bench o → MayLeave s.bench.cache k now
-  leaves MayBreak now ended None is fits = absurd fits
-  leaves MayBreak now ended (Some t) is fits = record { seat = t; is = is; lock = fits.lock; number = number MayBreak now ended t is; idle = fits.idle }
+  leaves : (MayBreak : ℕ → Type 0) (MayWant : Type 0) (now : Worker F) (ended : AfterRounds s MayBreak MayWant start now) (o : Option SeatView) → now.seat ≡ o → BenchFits (s.library now.source) s.bench o → MayLeave s.bench.cache k now
+  leaves MayBreak MayWant now ended None is fits = absurd fits
+  leaves MayBreak MayWant now ended (Some t) is fits = record { seat = t; is = is; lock = fits.lock; number = number MayBreak MayWant now ended t is; idle = fits.idle }
 
   -- a seat that the bench fits is one that may be taken in
-  pub may_leave : (MayBreak : ℕ → Type 0) (now : Worker F) → AfterRounds s MayBreak start now → MayLeave s.bench.cache k now
-  may_leave MayBreak now ended = leaves MayBreak now ended now.seat refl ended.kept.fits
+  pub may_leave : (MayBreak : ℕ → Type 0) (MayWant : Type 0) (now : Worker F) → AfterRounds s MayBreak MayWant start now → MayLeave s.bench.cache k now
+  may_leave MayBreak MayWant now ended = leaves MayBreak MayWant now ended now.seat refl ended.kept.fits
 
 -- a worker of a run in which no cache was made
 pub unused : {F : Type 0} (library : F → Option FileTable) (faults loads : F → ℕ) (g : Setup) (reading : Reading) (number : ℕ) (w : Worker F) → IsFresh library g.library w → w.seat ≡ None

@@ -1,5 +1,5 @@
 -- Workers through the rounds.
-use Rattle.std.proofs.Common.{length, ◌≡◌, ◌⊎◌, inl, inr, ℕ, ◌+◌, ◌<◌, ◌≤◌, List, [], ◌∷◌, Option, Result, Ok, Err, refl, sym, ap, subst, ◌∙◌, arith}
+use Rattle.std.proofs.Common.{length, drop, ◌≡◌, ◌⊎◌, inl, inr, ℕ, ◌+◌, ◌<◌, ◌≤◌, List, [], ◌∷◌, ◌++◌, Option, Result, Ok, Err, refl, sym, ap, subst, ◌∙◌, arith}
 use Rattle.std.specs.Prelude.{◌^◌, ◌*◌, Contains, IsErrOf, None}
 use Rattle.std.proofs.lemmas.List.Elements.{Contains-append_right}
 use Rattle.outside.specs.Counts.{Rose}
@@ -19,11 +19,17 @@ use Rattle.page_workers.specs.declared.worker.Worker.{Worker}
 use Rattle.page_workers.specs.Seats.{BenchFits, asked_at, library_at, units_at, room_at, trail_at}
 use Rattle.page_workers.specs.Rounds.{BitmapsToLast, Drew, DrewPage, IsOutcome, DrewNothing, trail_of}
 use Rattle.dvi_run.specs.Pages.{finding}
+use Rattle.page_index.specs.Pages.{Indexed}
+use Rattle.page_draw.specs.Members.{Finding}
 use Rattle.dvi_run.specs.Looked.{WholeLooks, BrokenLooks}
 use Rattle.page_workers.specs.Handing.{WasCleared}
-use Rattle.dvi_run.specs.Rounds.{Site, IsSteady, Trails, BetweenRounds, AfterRounds, MayBegin, FailedAt, IsOutcomeOf, keys_of, indexed_of}
+use Rattle.outside.specs.declared.keys.FontKey.{FontKey}
+use Rattle.page_index.specs.Document.{pages_begun}
+use Rattle.dvi_run.specs.Shares.{pages_since}
+use Rattle.dvi_run.specs.Rounds.{Site, IsSteady, Trails, AllLooked, LastBroke, WasCut, BetweenRounds, AfterRounds, MayBegin, FailedAt, IsOutcomeOf, keys_of, keys_since, indexed_of}
 use Rattle.dvi_run.proofs.Looks.{broken_as, keys_are}
-use Rattle.dvi_run.proofs.PagesDrawn.{CutAmong, LooksTo, NeverCut, bitmap_sound, bitmap_whole, cons_cases, looks_to, value_of}
+use Rattle.dvi_run.proofs.Since.{grew_more, more_since, none_since, still_since}
+use Rattle.dvi_run.proofs.PagesDrawn.{CutAmong, LooksTo, NeverCut, bitmap_sound, bitmap_whole, cons_cases, keys_by, looks_to, value_of}
 
 module _ {F : Type 0} (s : Site F) where
   -- ---- a worker whose results alone change
@@ -43,42 +49,50 @@ module _ {F : Type 0} (s : Site F) where
       (subst (λ (n : ℕ). TrailGrew W (asked_at start.seat) (asked_at b.seat) (trail_of s.loads start) (trail_at (s.loads a.source) n b.seat)) (sym loads)
       (subst (λ (o : Option SeatView). TrailGrew W (asked_at start.seat) (asked_at o) (trail_of s.loads start) (trail_at (s.loads a.source) a.loads o)) (sym seat) t))
 
-  abbrev Whole : Worker F → Type 0
-  Whole w = WholeLooks (finding s.given s.reading) (indexed_of s.given s.reading) s.given.sheet w.pages.items (keys_of w.seat)
+  abbrev Finds : Finding
+  Finds = finding s.given s.reading
 
-  abbrev Broken : (ℕ → Type 0) → Worker F → Type 0
-  Broken Cut w = BrokenLooks Cut (finding s.given s.reading) (indexed_of s.given s.reading) s.given.sheet w.pages.items (keys_of w.seat)
+  abbrev indexed : Indexed
+  indexed = indexed_of s.given s.reading
 
   -- all look-ups, and no claim given up since the start; or a page that was broken off
   abbrev EndsLooked : (ℕ → Type 0) → Worker F → Worker F → Type 0
-  EndsLooked Cut start w = (Trails s (Unit {0}) start w × Whole w) ⊎ Broken Cut w
+  EndsLooked Cut start w = (Trails s (Unit {0}) start w × AllLooked s start w) ⊎ LastBroke s Cut start w
 
-  whole_on : (a b : Worker F) → b.seat ≡ a.seat → b.pages.items ≡ a.pages.items → Whole a → Whole b
-  whole_on a b seat pages w = subst (λ (ps : List ℕ). WholeLooks (finding s.given s.reading) (indexed_of s.given s.reading) s.given.sheet ps (keys_of b.seat)) (sym pages)
-      (subst (λ (o : Option SeatView). WholeLooks (finding s.given s.reading) (indexed_of s.given s.reading) s.given.sheet a.pages.items (keys_of o)) (sym seat) w)
+  same_pages : (start a b : Worker F) → b.pages.items ≡ a.pages.items → pages_since start b ≡ pages_since start a
+  same_pages start a b pages = ap (drop (length start.pages.items)) pages
+
+  same_keys : (start a b : Worker F) → b.seat ≡ a.seat → keys_since start b ≡ keys_since start a
+  same_keys start a b seat = ap (λ (o : Option SeatView). drop (length (keys_of start.seat)) (keys_of o)) seat
+
+  whole_on : (start a b : Worker F) → b.seat ≡ a.seat → b.pages.items ≡ a.pages.items → AllLooked s start a → AllLooked s start b
+  whole_on start a b seat pages w = subst (λ (ps : List ℕ). WholeLooks Finds indexed s.given.sheet ps (keys_since start b)) (sym (same_pages start a b pages))
+      (subst (λ (ks : List FontKey). WholeLooks Finds indexed s.given.sheet (pages_since start a) ks) (sym (same_keys start a b seat)) w)
 
   looked_on : (Cut : ℕ → Type 0) (start a b : Worker F) → b.source ≡ a.source → b.seat ≡ a.seat → b.loads ≡ a.loads → b.pages.items ≡ a.pages.items → EndsLooked Cut start a → EndsLooked Cut start b
   looked_on Cut start a b source seat loads pages looked = elim looked [
-    | inl w ↦ inl (trails_on (Unit {0}) start a b source seat loads w.0, whole_on a b seat pages w.1)
-    | inr w ↦ inr (subst (λ (ps : List ℕ). BrokenLooks Cut (finding s.given s.reading) (indexed_of s.given s.reading) s.given.sheet ps (keys_of b.seat)) (sym pages)
-        (subst (λ (o : Option SeatView). BrokenLooks Cut (finding s.given s.reading) (indexed_of s.given s.reading) s.given.sheet a.pages.items (keys_of o)) (sym seat) w))
+    | inl w ↦ inl (trails_on (Unit {0}) start a b source seat loads w.0, whole_on start a b seat pages w.1)
+    | inr w ↦ inr (subst (λ (ps : List ℕ). BrokenLooks Cut Finds indexed s.given.sheet ps (keys_since start b)) (sym (same_pages start a b pages))
+        (subst (λ (ks : List FontKey). BrokenLooks Cut Finds indexed s.given.sheet (pages_since start a) ks) (sym (same_keys start a b seat)) w))
   ]
 
   looked_as : (Cut MayBreak : ℕ → Type 0) (start now : Worker F) → ((p : ℕ) → Cut p → MayBreak p) → EndsLooked Cut start now → EndsLooked MayBreak start now
   looked_as Cut MayBreak start now f looked = elim looked [
     | inl w ↦ inl w
-    | inr b ↦ inr (broken_as Cut MayBreak (finding s.given s.reading) (indexed_of s.given s.reading) s.given.sheet now.pages.items (keys_of now.seat) f b)
+    | inr b ↦ inr (broken_as Cut MayBreak Finds indexed s.given.sheet (pages_since start now) (keys_since start now) f b)
   ]
 
   -- ---- a worker that drew some pages, of which only the last may have been cut off
 
   pub record Drawn (Cut : ℕ → Type 0) (start now : Worker F) : Type 0 where
     pub kept : IsSteady s start now
+    pub pages : now.pages.items ≡ start.pages.items ++ pages_since start now
+    pub keys : keys_of now.seat ≡ keys_of start.seat ++ keys_since start now
     pub trail : Trails s ⊥ start now
     pub looked : EndsLooked Cut start now
 
   -- where none can have been
-  through : (Cut : ℕ → Type 0) (start now : Worker F) → ((p : ℕ) → Cut p → ⊥) → Drawn Cut start now → Trails s (Unit {0}) start now × Whole now
+  through : (Cut : ℕ → Type 0) (start now : Worker F) → ((p : ℕ) → Cut p → ⊥) → Drawn Cut start now → Trails s (Unit {0}) start now × AllLooked s start now
   through Cut start now none d = elim d.looked [
     | inl w ↦ w
     | inr b ↦ absurd (none b.page b.may_break)
@@ -87,6 +101,8 @@ module _ {F : Type 0} (s : Site F) where
   drawn_on : (Cut : ℕ → Type 0) (start a b : Worker F) → b.source ≡ a.source → b.seat ≡ a.seat → b.loads ≡ a.loads → b.pages.items ≡ a.pages.items → Drawn Cut start a → Drawn Cut start b
   drawn_on Cut start a b source seat loads pages d = record {
     kept = kept_on start a b source seat d.kept;
+    pages = pages ∙ d.pages ∙ ap (λ (l : List ℕ). start.pages.items ++ l) (sym (same_pages start a b pages));
+    keys = ap keys_of seat ∙ d.keys ∙ ap (λ (l : List FontKey). keys_of start.seat ++ l) (sym (same_keys start a b seat));
     trail = trails_on ⊥ start a b source seat loads d.trail;
     looked = looked_on Cut start a b source seat loads pages d.looked;
   }
@@ -94,6 +110,8 @@ module _ {F : Type 0} (s : Site F) where
   drawn_as : (Cut MayBreak : ℕ → Type 0) (start now : Worker F) → ((p : ℕ) → Cut p → MayBreak p) → Drawn Cut start now → Drawn MayBreak start now
   drawn_as Cut MayBreak start now f d = record {
     kept = d.kept;
+    pages = d.pages;
+    keys = d.keys;
     trail = d.trail;
     looked = looked_as Cut MayBreak start now f d.looked;
   }
@@ -120,14 +138,14 @@ module _ {F : Type 0} (s : Site F) where
   abbrev CutBy : ℕ → Result Bitmap PageStop → ℕ → Type 0
   CutBy i outcome p = (p ≡ i) × (IsWhole outcome → ⊥)
 
-  either_looked : (i : ℕ) (outcome : Result Bitmap PageStop) (start w : Worker F) → Trails s (IsWhole outcome) start w → LooksTo i outcome (finding s.given s.reading) (indexed_of s.given s.reading) s.given w.pages.items (keys_of w.seat)
+  either_looked : (i : ℕ) (outcome : Result Bitmap PageStop) (start w : Worker F) → Trails s (IsWhole outcome) start w → LooksTo i outcome Finds indexed s.given (pages_since start w) (keys_since start w)
       → EndsLooked (CutBy i outcome) start w
   either_looked i (Ok page) start w t l = inl (t, l)
   either_looked i (Err (draw.Fault fault at)) start w t l = inl (t, l)
   either_looked i (Err draw.SourceFault) start w t l =
-      inr (broken_as (λ p. p ≡ i) (CutBy i (Err draw.SourceFault)) (finding s.given s.reading) (indexed_of s.given s.reading) s.given.sheet w.pages.items (keys_of w.seat) (λ p is. (is, λ whole. whole)) l)
+      inr (broken_as (λ p. p ≡ i) (CutBy i (Err draw.SourceFault)) Finds indexed s.given.sheet (pages_since start w) (keys_since start w) (λ p is. (is, λ whole. whole)) l)
   either_looked i (Err draw.NoMemory) start w t l =
-      inr (broken_as (λ p. p ≡ i) (CutBy i (Err draw.NoMemory)) (finding s.given s.reading) (indexed_of s.given s.reading) s.given.sheet w.pages.items (keys_of w.seat) (λ p is. (is, λ whole. whole)) l)
+      inr (broken_as (λ p. p ≡ i) (CutBy i (Err draw.NoMemory)) Finds indexed s.given.sheet (pages_since start w) (keys_since start w) (λ p is. (is, λ whole. whole)) l)
 
   module _ (start : Worker F) (m : MayBegin s start) where
     module _ (old new : Worker F) (r : PageResult) (st : Drawn NeverCut start old) (d : DrewPage s.library s.faults s.loads s.bench (indexed_of s.given s.reading) s.given.sheet r old new) where
@@ -137,17 +155,22 @@ module _ {F : Type 0} (s : Site F) where
           (subst (λ (l : Option FileTable). IsOutcome (IsFontOf l (units_at old.seat)) (indexed_of s.given s.reading) s.given.sheet r.page r.outcome (asked_at old.seat) (asked_at new.seat))
           (st.kept.library ∙ m.library) d.value)
 
-      so_far : Trails s (Unit {0}) start old × Whole old
+      so_far : Trails s (Unit {0}) start old × AllLooked s start old
       so_far = through NeverCut start old (λ p cut. cut) st
 
       trail_so : Trails s (IsWhole r.outcome) start new
       trail_so = trail_more (IsWhole r.outcome) (asked_at start.seat) (asked_at old.seat) (asked_at new.seat) (trail_of s.loads start) (trail_of s.loads old) (trail_of s.loads new) so_far.0 d.trail
 
-      looked_so : LooksTo r.page r.outcome (finding s.given s.reading) (indexed_of s.given s.reading) s.given new.pages.items (keys_of new.seat)
+      looked_so : LooksTo r.page r.outcome Finds indexed s.given (pages_since start new) (keys_since start new)
       looked_so =
           let e = keys_are (s.library old.source) s.bench old.seat st.kept.fits in
           let h = keys_are (s.library new.source) s.bench new.seat d.fits in
-          looks_to s.given s.reading r.page r.outcome old.seat new.seat old.pages.items new.pages.items e h finds so_far.1 d.pages
+          looks_to s.given s.reading r.page r.outcome old.seat new.seat (pages_since start old) (pages_since start new) (keys_since start old) (keys_since start new) e h finds so_far.1
+          (more_since start.pages.items old.pages.items new.pages.items (r.page ∷ []) st.pages d.pages) (λ more is. more_since (keys_of start.seat) (keys_of old.seat) (keys_of new.seat) more st.keys is)
+
+      keys_more : (more : List FontKey) × (keys_of new.seat ≡ keys_of old.seat ++ more)
+      keys_more =
+          keys_by s.given s.reading r.page r.outcome old.seat new.seat (keys_are (s.library old.source) s.bench old.seat st.kept.fits) (keys_are (s.library new.source) s.bench new.seat d.fits) finds
 
       page_drawn : Drawn (CutBy r.page r.outcome) start new
       page_drawn = record {
@@ -157,6 +180,8 @@ module _ {F : Type 0} (s : Site F) where
           units = d.same_units ∙ st.kept.units;
           faults = omega (arith, st.kept.faults, d.cause.never_falls);
         };
+        pages = grew_more start.pages.items old.pages.items new.pages.items (r.page ∷ []) st.pages d.pages;
+        keys = grew_more (keys_of start.seat) (keys_of old.seat) (keys_of new.seat) keys_more.0 st.keys keys_more.1;
         trail = trail_as ⊥ (IsWhole r.outcome) (asked_at start.seat) (asked_at new.seat) (trail_of s.loads start) (trail_of s.loads new) (λ f. absurd f) trail_so;
         looked = either_looked r.page r.outcome start new trail_so looked_so;
       }
@@ -221,10 +246,12 @@ module _ {F : Type 0} (s : Site F) where
 
   pub begins : (w : Worker F) → MayBegin s w → Stood NeverCut w w
   begins w m =
-      let whole : Whole w = subst (λ (ps : List ℕ). WholeLooks (finding s.given s.reading) (indexed_of s.given s.reading) s.given.sheet ps (keys_of w.seat)) (sym m.pages) m.keys in
+      let whole : AllLooked s w w = subst (λ (ps : List ℕ). WholeLooks Finds indexed s.given.sheet ps (keys_since w w)) (sym (none_since w.pages.items)) (none_since (keys_of w.seat)) in
       record {
         drawn = record {
           kept = record { fits = m.fits; library = refl; units = refl; faults = omega arith };
+          pages = still_since w.pages.items;
+          keys = still_since (keys_of w.seat);
           trail = trail_none ⊥ (asked_at w.seat) (trail_of s.loads w);
           looked = inl (trail_none (Unit {0}) (asked_at w.seat) (trail_of s.loads w), whole);
         };
@@ -253,13 +280,17 @@ module _ {F : Type 0} (s : Site F) where
         looked = w.1;
       }
 
-  pub ends : (Cut MayBreak : ℕ → Type 0) (start now : Worker F) → ((p : ℕ) → Cut p → MayBreak p) → Stood Cut start now → AfterRounds s MayBreak start now
-  ends Cut MayBreak start now f st = record {
+  pub ends : (Cut MayBreak : ℕ → Type 0) (MayWant : Type 0) (start now : Worker F) (next : ℕ) → next ≤ pages_begun s.reading → room_at start.loads start.seat ≤ room_at now.loads now.seat + next * 2 ^ 24
+      → ((p : ℕ) → Cut p → MayBreak p × WasCut s MayWant start now) → Stood Cut start now → AfterRounds s MayBreak MayWant start now
+  ends Cut MayBreak MayWant start now next few room f st = record {
     kept = st.drawn.kept;
     none = st.none;
     counter = st.counter;
+    room = omega (arith, few, room);
+    pages = st.drawn.pages;
+    keys = st.drawn.keys;
     trail = st.drawn.trail;
-    looked = looked_as Cut MayBreak start now f st.drawn.looked;
+    looked = looked_as Cut (λ p. MayBreak p × WasCut s MayWant start now) start now f st.drawn.looked;
   }
 
   -- a round more, whose results were taken out

@@ -18,6 +18,7 @@ pub mod Report
 pub mod Sampled
 pub mod Outside
 pub mod Together
+pub mod Jobs
 pub mod OneWorker
 pub mod Promises
 pub mod Examples

@@ -77,6 +77,11 @@ IsAllWritten _ = ⊥
 abbrev pub EveryPageCameToItsEnd : ℕ → EndingValue → Type 0
 EveryPageCameToItsEnd n e = IsAllWritten e ⊎ ((n ≡ 1) × WasNotCutOff e)
 
+-- a page that was drawn may have been broken off for want of memory: none was where all were
+-- written, and the one of one worker ends the run
+abbrev pub MayWantMemory : ℕ → EndingValue → Type 0
+MayWantMemory n e = (IsAllWritten e → ⊥) × (n ≡ 1 → e ≡ Memory)
+
 -- by its status: neither the source failed (5) nor did memory run out (9)
 abbrev pub WasNotCutOffBy : ℕ → Type 0
 WasNotCutOffBy status = (status ≢ 5) × (status ≢ 9)

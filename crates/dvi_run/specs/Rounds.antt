@@ -1,5 +1,5 @@
 -- Workers that draw the pages of a document in rounds.
-use Rattle.std.specs.Prelude.{◌≡◌, ◌⊎◌, ℕ, ◌+◌, ◌*◌, ◌≤◌, Bool, cond, List, [], ◌∷◌, ◌++◌, Option, Some, None, Result, Ok, Err, IfSome}
+use Rattle.std.specs.Prelude.{◌≡◌, ◌⊎◌, ℕ, ◌+◌, ◌*◌, ◌≤◌, Bool, cond, List, [], ◌∷◌, ◌++◌, drop, length, Option, Some, None, Result, Ok, Err, IfSome}
 use Rattle.std.specs.Io.KnownBytes.{Appends}
 use Rattle.outside.specs.Counts.{Rose}
 use Rattle.outside.specs.Library.{FileTable}
@@ -7,7 +7,7 @@ use Rattle.outside.specs.Streams.{AppendsPrefix}
 use Rattle.outside.specs.declared.keys.FontKey.{FontKey}
 use Rattle.packed_rows.specs.Bitmap.{Bitmap}
 use Rattle.packed_rows.specs.Changes.{black_count}
-use Rattle.page_index.specs.Document.{Reading}
+use Rattle.page_index.specs.Document.{Reading, pages_begun}
 use Rattle.page_index.specs.Pages.{Indexed, document_units}
 use Rattle.pixel_round.specs.Preamble.{AreUnits}
 use Rattle.turn_lock.specs.Seats.{SeatView}
@@ -31,9 +31,9 @@ use Rattle.page_workers.specs.SparePages.{HasNoSparePages}
 use Rattle.page_workers.specs.Rounds.{trail_of}
 use Rattle.dvi_run.specs.Pages.{Setup, IsValueOf, finding}
 use Rattle.dvi_run.specs.Looked.{BrokenLooks, WholeLooks}
+use Rattle.dvi_run.specs.Shares.{pages_since}
 use Rattle.dvi_run.specs.declared.pages.WriteStop.{WriteStop}
 use Rattle.dvi_run.specs.declared.pages.WriteStop.TheVariants as stop
-use Rattle.page_index.specs.Limits.{MAX_PAGES}
 use Rattle.vf_expand.specs.Limits.{MAX_FLAT_COMMANDS}
 
 -- what all of a run's rounds have in common
@@ -63,6 +63,10 @@ abbrev pub keys_of : Option SeatView → List FontKey
 keys_of None = []
 keys_of (Some s) = looks (own_calls s)
 
+-- the keys that it asked for since it was so
+abbrev pub keys_since : {F : Type 0} → (before now : Worker F) → List FontKey
+keys_since before now = drop (length (keys_of before.seat)) (keys_of now.seat)
+
 abbrev pub indexed_of : Setup → Reading → Indexed
 indexed_of g reading = record { res = g.res; reading = reading }
 
@@ -87,38 +91,52 @@ module _ {F : Type 0} (s : Site F) where
       TrailGrew W (asked_at start.seat) (asked_at now.seat) (trail_of s.loads start)
       (trail_of s.loads now)
 
+  -- all look-ups of the pages that the worker drew since the start
+  abbrev pub AllLooked : Worker F → Worker F → Type 0
+  AllLooked start now = WholeLooks (finding s.given s.reading) (indexed_of s.given s.reading)
+      s.given.sheet (pages_since start now) (keys_since start now)
+
+  -- or the last of them was broken off
+  abbrev pub LastBroke : (ℕ → Type 0) → Worker F → Worker F → Type 0
+  LastBroke MayBreak start now = BrokenLooks MayBreak (finding s.given s.reading)
+      (indexed_of s.given s.reading) s.given.sheet (pages_since start now) (keys_since start now)
+
   -- the worker has no result, and each page that it drew had a bitmap
   pub record BetweenRounds (start now : Worker F) : Type 0 where
     pub kept : IsSteady start now
     pub none : now.results.items ≡ []
     pub counter : now.counter ≡ None
     pub trail : Trails (Unit {0}) start now
-    pub looked : WholeLooks (finding s.given s.reading)
-        (indexed_of s.given s.reading) s.given.sheet now.pages.items (keys_of now.seat)
+    pub looked : AllLooked start now
+
+  -- a page may have been broken off for this: the worker's source failed, or memory was wanting
+  abbrev pub WasCut : (MayWant : Type 0) → Worker F → Worker F → Type 0
+  WasCut MayWant start now = Rose (s.faults start.source) (s.faults now.source) ⊎ MayWant
 
   -- what is so of a worker when the rounds are over: it gave up no claim, and each page that it
   -- drew came to its end; or its last page was broken off, which may have been
-  pub record AfterRounds (MayBreak : ℕ → Type 0) (start now : Worker F) : Type 0 where
+  pub record AfterRounds (MayBreak : ℕ → Type 0) (MayWant : Type 0) (start now : Worker F)
+      : Type 0 where
     pub kept : IsSteady start now
     pub none : now.results.items ≡ []
     pub counter : now.counter ≡ None
+    pub room : room_at start.loads start.seat
+        ≤ room_at now.loads now.seat + pages_begun s.reading * MAX_FLAT_COMMANDS
+    pub pages : now.pages.items ≡ start.pages.items ++ pages_since start now
+    pub keys : keys_of now.seat ≡ keys_of start.seat ++ keys_since start now
     pub trail : Trails ⊥ start now
-    pub looked : (Trails (Unit {0}) start now
-        × WholeLooks (finding s.given s.reading) (indexed_of s.given s.reading) s.given.sheet
-        now.pages.items (keys_of now.seat))
-        ⊎ BrokenLooks MayBreak (finding s.given s.reading) (indexed_of s.given s.reading)
-        s.given.sheet now.pages.items (keys_of now.seat)
+    pub looked : (Trails (Unit {0}) start now × AllLooked start now)
+        ⊎ LastBroke (λ page. MayBreak page × WasCut MayWant start now) start now
 
--- a worker that may begin: it has a seat, and nothing was looked up, drawn or kept
+-- a worker that may begin: it has a seat, nothing is kept, and there is room for the look-ups of
+-- all pages
 pub record MayBegin {F : Type 0} (s : Site F) (w : Worker F) : Type 0 where
   pub fits : BenchFits (s.library w.source) s.bench w.seat
   pub library : library_at w.seat ≡ s.given.library
   pub units : units_at w.seat ≡ document_units s.given.res s.reading
   pub none : w.results.items ≡ []
   pub counter : w.counter ≡ None
-  pub pages : w.pages.items ≡ []
-  pub keys : keys_of w.seat ≡ []
-  pub room : MAX_PAGES * MAX_FLAT_COMMANDS ≤ room_at w.loads w.seat
+  pub room : pages_begun s.reading * MAX_FLAT_COMMANDS ≤ room_at w.loads w.seat
 
 -- A bench with a new cache, and the first seat of that, for a document that is indexed: it keeps no
 -- more than these limits, and is for fonts of this library where it is known.

@@ -1,5 +1,5 @@
 -- Which pages each of some workers draws.
-use Rattle.std.specs.Prelude.{◌≡◌, ℕ, zero, suc, ◌+◌, ◌*◌, ◌/◌, ◌<◌, ◌≤◌, ◌++◌, ◌==◌, List, [], Contains, IfSome, Option, cond, count_by, length, nat_lt, slice_index_or}
+use Rattle.std.specs.Prelude.{◌≡◌, ℕ, zero, suc, ◌+◌, ◌*◌, ◌/◌, ◌<◌, ◌≤◌, ◌++◌, ◌==◌, List, [], Contains, IfSome, Option, cond, count_by, drop, length, nat_lt, slice_index_or}
 use Rattle.std.specs.List.Sorted.{IsStrictlyIncreasing}
 use Rattle.page_workers.specs.declared.worker.Worker.{Worker}
 use Rattle.dvi_run.specs.Endings.{EndingValue, Written, Page, Source, Output, Notes}
@@ -19,6 +19,16 @@ pub record ArePartitioned (total n : ℕ) (pages : ℕ → List ℕ) : Type 0 wh
 abbrev pub PartitionPages : {F : Type 0} (total n : ℕ) (workers : List (Worker F)) → Type 0
 PartitionPages {F} total n workers =
     (d : Worker F) → ArePartitioned total n (λ k. (slice_index_or workers k d).pages.items)
+
+-- the pages that a worker drew since it was so
+abbrev pub pages_since : {F : Type 0} → (before now : Worker F) → List ℕ
+pages_since before now = drop (length before.pages.items) now.pages.items
+
+-- and the same of pages that they drew since they were so
+abbrev pub PartitionPagesSince : {F : Type 0} (total n : ℕ) (before now : List (Worker F)) → Type 0
+PartitionPagesSince {F} total n before now =
+    (d : Worker F) → ArePartitioned total n (λ k.
+    pages_since (slice_index_or before k d) (slice_index_or now k d))
 
 -- Pages are drawn in rounds: of one page where there is one worker, and else of 32. With which page
 -- the round of a page ends, both counted from 1, where the document is so long
@@ -44,6 +54,15 @@ pub record WorkersDrew {F : Type 0} (pages n : ℕ) (e : EndingValue) (tally : O
   pub shares : PartitionPages drawn n workers
   pub reach : DrewUpTo pages n drawn e
   -- those that were written are among them
+  pub written : IfSome tally (λ t. t.pages ≤ drawn)
+
+-- and what they drew of it since they were so
+pub record WorkersDrewSince {F : Type 0} (pages n : ℕ) (e : EndingValue) (tally : Option Tally)
+    (before now : List (Worker F)) : Type 0 where
+  pub drawn : ℕ
+  pub few : drawn ≤ pages
+  pub shares : PartitionPagesSince drawn n before now
+  pub reach : DrewUpTo pages n drawn e
   pub written : IfSome tally (λ t. t.pages ≤ drawn)
 
 -- ---- how often

@@ -1,12 +1,14 @@
 //! One run: reads a document, draws its pages, writes their images, and says how it ended.
 //!
 //! The public calls are `run_with`, for a test or another program, and `dvipbm_run`, for the
-//! arguments of a command line. Below them are the reading of the input, the rounds of pages that
-//! workers draw and that are written, and the notes, each a part of its own that the calls'
-//! contracts don't name.
+//! arguments of a command line; and `draw_job`, the part of a run between its index and its notes,
+//! for a program that draws several documents over one cache. Below them are the reading of the
+//! input, the rounds of pages that workers draw and that are written, and the notes, each a part of
+//! its own that the calls' contracts don't name.
 #![tactic(auto)]
 
 mod ending;
+mod job;
 pub mod laws;
 mod note;
 mod opening;
@@ -23,4 +25,5 @@ mod tally;
 mod texts;
 
 pub use command_line::{LineStop, Settings, default_settings, default_sheet, line};
+pub use job::draw_job;
 pub use run::{dvipbm_run, run_with};

@@ -6,8 +6,8 @@ ghost use Rattle.page_index.specs.Document.{pages_begun};
 ghost use Rattle.page_draw.specs.Values.{PageValue};
 ghost use Rattle.dvi_run.specs.Pages.{AreValues};
 ghost use Rattle.dvi_run.specs.Endings.{EndsPages, Source, value_of_ending};
-ghost use Rattle.dvi_run.specs.Looked.{EveryPageCameToItsEnd, MayBreakOff};
-ghost use Rattle.dvi_run.specs.Shares.{WorkersDrew};
+ghost use Rattle.dvi_run.specs.Looked.{EveryPageCameToItsEnd, MayBreakOff, MayWantMemory};
+ghost use Rattle.dvi_run.specs.Shares.{WorkersDrewSince};
 ghost use Rattle.dvi_run.specs.Tally.{TallyMatches};
 ghost use Rattle.dvi_run.specs.Rounds.{AfterRounds, FailedAt, MayBegin, BetweenRounds, site};
 ghost use Rattle.page_workers.specs.Limits.{MAX_WORKERS};
@@ -72,11 +72,12 @@ pub fn write_rounds<R: Threads + Wait + Sync, F: FontSource + Send, O: Output>(
         → (k : ℕ) × (k < length workers.old)
         × ((d : _) → FailedAt F.faults page (slice_index_or workers.old k d)
         (slice_index_or workers.new k d)) }
-    ensures shares { WorkersDrew (pages_begun job.now.index.now.reading) (length workers.old)
-        (value_of_ending result.0) (Some result.1) workers.new }
+    ensures shares { WorkersDrewSince (pages_begun job.now.index.now.reading) (length workers.old)
+        (value_of_ending result.0) (Some result.1) workers.old workers.new }
     ensures workers { (k : ℕ) (d : _) → k < length workers.old
         → AfterRounds (site F.library F.faults F.loads job.now.bench.now known job.now.index.now
         job.now.sheet.now) (MayBreakOff (value_of_ending result.0) (Some result.1))
+        (MayWantMemory (length workers.old) (value_of_ending result.0))
         (slice_index_or workers.old k d) (slice_index_or workers.new k d) }
     ensures output { O.faults out.old ≤ O.faults out.new }
 {

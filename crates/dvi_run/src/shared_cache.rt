@@ -31,7 +31,7 @@ use command_line::Settings;
 use font_cache::CacheSeat;
 use font_decode::Decoded;
 use outside::{FontSource, Output};
-use page_index::Index;
+use page_index::{Index, MAX_PAGES};
 use page_workers::{Bench, Job, Worker, drop_spare_pages, join_all, seat_all};
 use std::alloc::Global;
 use std::sync::Wait;
@@ -96,6 +96,8 @@ pub fn draw_with_cache<R: Threads + Wait + Sync, F: FontSource + Send, O: Output
     let sheet = &settings.sheet;
     let counted = settings.summary;
     let (bench, mut first) = opening;
+    // For the proof: there is room for the look-ups of all pages.
+    prove!(index.pages() <= MAX_PAGES);
     seat_all(&bench.cache, &mut first, workers);
     // The index and the sheet are lent again, for as long as the bench lives.
     let job = Job {

@@ -1,14 +1,12 @@
-use Rattle.std.proofs.Common.{Bool, ◌*◌, ◌≡◌, ◌≤◌, ◌<◌, ◌+◌, ℕ, List, [], length, get_or, Option, refl, sym, ap, subst, ◌∙◌, arith, rules}
+use Rattle.std.proofs.Common.{◌≡◌, ◌≤◌, ◌<◌, ◌+◌, ℕ, [], length, get_or, refl, sym, ap, subst, ◌∙◌, arith, rules}
 use Rattle.std.specs.Prelude.{None, Some}
 use Rattle.outside.specs.Counts.{Rose}
 use Rattle.outside.proofs.Growth.{rose_later}
 use Rattle.page_index.specs.Document.{pages_begun}
-use Rattle.page_draw.specs.declared.stop.PageStop.TheVariants as draw
 use Rattle.page_workers.specs.declared.worker.Worker.{Worker}
 use Rattle.dvi_run.specs.Endings.{EndingValue, Memory, ending_at, value_of_ending}
 use Rattle.dvi_run.specs.declared.pages.Press.{Press}
 use Rattle.dvi_run.specs.declared.pages.WriteStop.{WriteStop}
-use Rattle.dvi_run.specs.declared.pages.WriteStop.TheVariants as stop
 use Rattle.dvi_run.specs.declared.tally.Tally.{Tally}
 use Rattle.dvi_run.specs.Rounds.{site}
 use Rattle.dvi_run.specs.Stacks.{WroteUpTo, WroteWhole}

@@ -1,4 +1,4 @@
-use Rattle.std.proofs.Common.{◌≡◌, ◌<◌, ◌+◌, ℕ, length, get_or, sym, subst, ap, ◌∙◌, rules, Some}
+use Rattle.std.proofs.Common.{◌≡◌, ◌≤◌, ◌<◌, ◌+◌, ℕ, [], length, drop, get_or, sym, subst, ap, ◌∙◌, rules, Some}
 use Rattle.outside.specs.Counts.{Rose}
 use Rattle.cache_core.specs.Histories.{own}
 use Rattle.page_workers.specs.Seating.{numbers}
@@ -8,7 +8,7 @@ use Rattle.dvi_run.specs.Looked.{EveryPageCameToItsEnd, MayBreakOff}
 use Rattle.dvi_run.specs.Rounds.{site}
 use Rattle.dvi_run.proofs.WorkerSeats.{may_begin, may_leave, ran}
 use Rattle.page_index.specs.Document.{pages_begun}
-use Rattle.dvi_run.specs.Shares.{WorkersDrew}
+use Rattle.dvi_run.specs.Shares.{WorkersDrewSince, pages_since}
 use Rattle.dvi_run.proofs.Shares.{shared_as}
 use Rattle.dvi_run.proofs.shared_cache.draw_with_cache.Goals as goal
 
@@ -20,6 +20,7 @@ write_rounds-ending-requires g c κs within =
     let s = site g.F.FontSource.library g.F.FontSource.faults g.F.FontSource.loads c.args.opening.0 g.known c.args.index.now c.args.settings.now.sheet in
     let part = c.args.opening.1.view.part in
     let opens = q.1.1.1.1.1.1.0 in
+    let few : pages_begun c.args.index.now.reading ≤ 1000000 = subst (λ (n : ℕ). n ≤ 1000000) c.pages.ensures.count c.pages.ensures.few in
     let long : length ws ≡ length xs = search rules in (
       search rules fits 100000 depth 60,
       (
@@ -37,7 +38,7 @@ write_rounds-ending-requires g c κs within =
                   λ k d lt.
                       let below : k < length xs = subst (λ (n : ℕ). k < n) long lt in
                       may_begin s part (ap (λ v. v.part.library) opens) (ap (λ v. v.part.units) opens) q.1.1.1.0 q.1.1.1.1.0 (k + 1) (get_or xs k d) (get_or ws k d) (q.1.1.1.1.1.1.1 k d below)
-                      (c.seat_all.ensures.seated k d below),
+                      (c.seat_all.ensures.seated k d below) few,
                 ),
               ),
             ),
@@ -61,7 +62,7 @@ join_all-requires-clause-leave g c =
     let there : k < length ws = subst (λ (n : ℕ). k < n) same lt in
     let below : k < length xs = subst (λ (n : ℕ). k < n) long there in
     may_leave s part (ap (λ v. v.part.library) opens) (ap (λ v. v.part.units) opens) q.1.1.1.0 q.1.1.1.1.0 (k + 1) (get_or xs k d) (get_or ws k d) (q.1.1.1.1.1.1.1 k d below)
-    (c.seat_all.ensures.seated k d below) (MayBreakOff (value_of_ending c.write_rounds-ending.result.0) (Some c.write_rounds-ending.result.1)) (get_or now k d) (c.write_rounds-ending.ensures.workers k d there)
+    (c.seat_all.ensures.seated k d below) (MayBreakOff (value_of_ending c.write_rounds-ending.result.0) (Some c.write_rounds-ending.result.1)) _ (get_or now k d) (c.write_rounds-ending.ensures.workers k d there)
 
 pub close-requires-clause-joined : goal.close-requires-clause-joined
 close-requires-clause-joined g c =
@@ -89,7 +90,7 @@ returns-clause-workers g c =
     let left = c.join_all.ensures.left k d here in
     let but = c.drop_spare_pages.ensures.same k d (subst (λ (n : ℕ). k < n) (sym joined) here) in
     ran s part (ap (λ v. v.part.library) opens) (ap (λ v. v.part.units) opens) q.1.1.1.0 q.1.1.1.1.0 (k + 1) (get_or xs k d) (get_or ws k d) (q.1.1.1.1.1.1.1 k d lt)
-    (c.seat_all.ensures.seated k d lt) (MayBreakOff (value_of_ending c.write_rounds-ending.result.0) (Some c.write_rounds-ending.result.1)) (get_or now k d) (c.write_rounds-ending.ensures.workers k d there) left.seat left.is _ (get_or c.drop_spare_pages.new.workers k d)
+    (c.seat_all.ensures.seated k d lt) (MayBreakOff (value_of_ending c.write_rounds-ending.result.0) (Some c.write_rounds-ending.result.1)) _ (get_or now k d) (c.write_rounds-ending.ensures.workers k d there) left.seat left.is _ (get_or c.drop_spare_pages.new.workers k d)
     (ap (own (k + 1)) c.close.ensures.history ∙ left.own) (but.seat ∙ left.none) (but.source ∙ left.same.source) (but.loads ∙ left.same.loads)
     (ap (λ v. v.items) but.pages ∙ left.same.pages) (ap (λ v. v.items) but.results ∙ left.same.results) (but.counter ∙ left.same.counter)
     (c.drop_spare_pages.ensures.none k d (subst (λ (n : ℕ). k < n) (sym joined) here))
@@ -150,16 +151,19 @@ returns-clause-shares g c =
     let left : length joined ≡ length now = search rules in
     let e = value_of_ending c.write_rounds-ending.result.0 in
     let tally = Some c.write_rounds-ending.result.1 in
-    let shares : WorkersDrew (pages_begun reading) (length xs) e tally now =
-    subst (λ (n : ℕ). WorkersDrew (pages_begun reading) n e tally now) long c.write_rounds-ending.ensures.shares in
+    let q = c.requires.1.1.1.1.1 in
+    let shares : WorkersDrewSince (pages_begun reading) (length xs) e tally ws now =
+    subst (λ (n : ℕ). WorkersDrewSince (pages_begun reading) n e tally ws now) long c.write_rounds-ending.ensures.shares in
     record {
       drawn = shares.drawn;
       few = shares.few;
       shares = λ d.
-          shared_as shares.drawn (length xs) (λ k. (get_or now k d).pages.items) (λ k. (get_or after k d).pages.items)
+          shared_as shares.drawn (length xs) (λ k. pages_since (get_or ws k d) (get_or now k d)) (λ k. (get_or after k d).pages.items)
           (λ k lt.
           let there : k < length now = subst (λ (n : ℕ). k < n) (sym (same ∙ long)) lt in
-          ap (λ v. v.items) (c.drop_spare_pages.ensures.same k d (subst (λ (n : ℕ). k < n) (sym left) there)).pages ∙ (c.join_all.ensures.left k d there).same.pages) (shares.shares d);
+          let begun : (get_or ws k d).pages.items ≡ [] = (c.seat_all.ensures.seated k d lt).same.pages ∙ (q.1.1.1.1.1.1.1 k d lt).pages in
+          let all : pages_since (get_or ws k d) (get_or now k d) ≡ (get_or now k d).pages.items = ap (λ l. drop (length l) (get_or now k d).pages.items) begun in
+          ap (λ v. v.items) (c.drop_spare_pages.ensures.same k d (subst (λ (n : ℕ). k < n) (sym left) there)).pages ∙ (c.join_all.ensures.left k d there).same.pages ∙ sym all) (shares.shares d);
       reach = shares.reach;
       written = shares.written;
     }
