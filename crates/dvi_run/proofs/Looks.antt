@@ -21,7 +21,7 @@ whole_more Finds indexed sheet (q ∷ pages) keys p more w one =
     (w.0, w.1 ++ more, ap (λ (l : List FontKey). l ++ more) w.2 ∙ append_assoc w.0 w.1 more, w.3, whole_more Finds indexed sheet pages w.1 p more w.4 one)
 
 pub broken_more : (MayBreak : ℕ → Type 0) (Finds : Finding) (indexed : Indexed) (sheet : Sheet) (pages : List ℕ) (keys : List FontKey) (p : ℕ) (more : List FontKey) → MayBreak p → WholeLooks Finds indexed sheet pages keys
-    → IsLookedUpSoFar Finds indexed p more → BrokenLooks MayBreak Finds indexed sheet (pages ++ p ∷ []) (keys ++ more)
+    → IsLookedUpSoFar Finds indexed sheet p more → BrokenLooks MayBreak Finds indexed sheet (pages ++ p ∷ []) (keys ++ more)
 broken_more MayBreak Finds indexed sheet pages keys p more may w one =
     record { before = pages; page = p; pages_are = refl; may_break = may; first = keys; others = more; keys_are = refl; whole = w; broken = one }
 
@@ -54,9 +54,9 @@ keys_grew old new more e h grew =
     cc there
 
 -- a page that was broken off, by the keys alone that were looked up for it
-pub broken_keys : (Finds : Finding) (indexed : Indexed) (i : ℕ) (old new : Option SeatView) → asked_at old ≡ Some (keys_of old) → asked_at new ≡ Some (keys_of new)
-    → IsBroken Finds indexed i (asked_at old) (asked_at new) → (more : List FontKey) × (keys_of new ≡ keys_of old ++ more) × IsLookedUpSoFar Finds indexed i more
-broken_keys Finds indexed i old new e h b =
+pub broken_keys : (Finds : Finding) (indexed : Indexed) (sheet : Sheet) (i : ℕ) (old new : Option SeatView) → asked_at old ≡ Some (keys_of old) → asked_at new ≡ Some (keys_of new)
+    → IsBroken Finds indexed sheet i (asked_at old) (asked_at new) → (more : List FontKey) × (keys_of new ≡ keys_of old ++ more) × IsLookedUpSoFar Finds indexed sheet i more
+broken_keys Finds indexed sheet i old new e h b =
     elim b.asked [
       | inl grew ↦ (
         looks_of b.members,

@@ -10,18 +10,16 @@ use Rattle.cache_core.specs.Histories.{AllWeigh, SeatCalls, own}
 use Rattle.cache_core.specs.Solo.{solo_history}
 use Rattle.font_decode.specs.Weights.{IsWeightOf, OneWeightInALibrary}
 use Rattle.pixel_round.specs.declared.units.Units.{Units}
-use Rattle.packed_rows.specs.Bitmap.{Bitmap}
-use Rattle.packed_rows.specs.Changes.{black_count}
 use Rattle.page_index.specs.Document.{Reading, pages_begun}
 use Rattle.page_index.specs.Pages.{document_units}
 use Rattle.page_draw.specs.Laws.{PagesHaveOneValue}
 use Rattle.page_workers.specs.declared.worker.Worker.{Worker}
-use Rattle.page_draw.specs.Values.{PageValue}
+use Rattle.page_draw.specs.Values.{PageValue, DrawnValue}
 use Rattle.run_report.specs.Summary.{summary_text}
 use Rattle.run_report.specs.Trace.{trace_text}
 use Rattle.run_report.specs.declared.counts.Counts.{Counts}
 use Rattle.command_line.specs.declared.settings.Settings.{Settings}
-use Rattle.dvi_run.specs.Pages.{FailingPage, IsRun, Setup, finding, run_fault, whole_pages}
+use Rattle.dvi_run.specs.Pages.{FailingPage, IsRun, Setup, finding, run_fault, whole_pages, black_in}
 use Rattle.dvi_run.specs.CacheLimits.{cache_limits}
 use Rattle.dvi_run.specs.Endings.{EndingValue, Written, Usage, Document, Page, Source, Input, Output, Notes, Memory, EndsPages, page_status, status_of}
 use Rattle.dvi_run.specs.Laws.{OneReading, OneRun}
@@ -250,7 +248,7 @@ one_worker F G reading one law weights task files bytes output other before afte
     one_count a.1 b.1 (page_named e) ta.0.pages tb.0.pages whole (tally_is task.settings.summary output.before output.after ta.0 e a.1 by ta.2)
     (subst (λ (named : Option FailingPage). pages_by b.1 named tb.0.pages) (sym end) (tally_is task.settings.summary other.before other.after tb.0 f b.1 also tb.2)) in
     let black : task.settings.summary ≡ true → ta.0.black ≡ tb.0.black =
-    λ asked. ta.2.black asked ∙ (ap₂ (λ (m : ℕ) (ps : List Bitmap). sum_by black_count (take m ps)) count whole ∙ sym (tb.2.black asked)) in
+    λ asked. ta.2.black asked ∙ (ap₂ (λ (m : ℕ) (ps : List DrawnValue). sum_by black_in (take m ps)) count whole ∙ sym (tb.2.black asked)) in
     let line : line_of e ≡ line_of f = line_is e by ∙ (ap line_by end ∙ sym (line_is f also)) in (
       end,
       calls_are,

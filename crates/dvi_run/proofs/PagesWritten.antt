@@ -7,14 +7,11 @@ use Rattle.std.proofs.lemmas.List.{length-append, length-map, map-append, take_a
 use Rattle.std.proofs.lemmas.List.Sums.{sum_by_push}
 use Rattle.outside.specs.Streams.{AppendsPrefix}
 use Rattle.outside.proofs.Growth.{grown_none, grown_twice}
-use Rattle.packed_rows.specs.Bitmap.{Bitmap}
-use Rattle.packed_rows.specs.Changes.{black_count}
 use Rattle.page_index.specs.Document.{Reading, pages_begun}
 use Rattle.vf_expand.specs.Faults.{value_of_fault}
-use Rattle.page_draw.specs.Values.{PageValue, PlacedFault}
+use Rattle.page_draw.specs.Values.{PageValue, PlacedFault, DrawnValue}
 use Rattle.page_draw.specs.declared.stop.PageStop.TheVariants as draw
-use Rattle.pbm_output.specs.Pbm.{page_text}
-use Rattle.dvi_run.specs.Pages.{AreValues, Setup, HaveValues, IsValueOf, failing_page, run_text, whole_pages}
+use Rattle.dvi_run.specs.Pages.{AreValues, Setup, HaveValues, IsValueOf, failing_page, run_text, whole_pages, text_of, black_in}
 use Rattle.dvi_run.specs.Laws.{good}
 use Rattle.dvi_run.specs.Endings.{EndingValue, EndsPages, IsWriteStop, Stopped, Wrote, WroteBefore, Written, WrotePrefix, WroteSome, ending_at}
 use Rattle.dvi_run.specs.Rounds.{black_of}
@@ -37,17 +34,17 @@ values_more g r i n (w ∷ values) v have is value =
 -- the pages before the one with a number, from 0, have bitmaps, and they were written; with their
 -- black dots, where they are counted
 pub record IsWrittenTo (g : Setup) (r : Reading) (old now : Option (List ℕ)) (i : ℕ) (counted : Bool) (black : ℕ) : Type 0 where
-  pub pages : List Bitmap
+  pub pages : List DrawnValue
   pub count : length pages ≡ i
   pub values : HaveValues g r 0 (map good pages)
-  pub grew : Appends old now (flat_map page_text pages)
-  pub dots : counted ≡ true → black ≡ sum_by black_count pages
+  pub grew : Appends old now (flat_map text_of pages)
+  pub dots : counted ≡ true → black ≡ sum_by black_in pages
 
 unfoldable pub written_none : (g : Setup) (r : Reading) (old : Option (List ℕ)) (counted : Bool) → IsWrittenTo g r old old 0 counted 0
 written_none g r old counted = record { pages = []; count = refl; values = tt; grew = grown_none old; dots = λ is. refl }
 
 -- where they are counted
-pub all_black : (counted : Bool) (page : Bitmap) → counted ≡ true → black_of counted page ≡ black_count page
+pub all_black : (counted : Bool) (page : DrawnValue) → counted ≡ true → black_of counted page ≡ black_in page
 all_black counted page is = ap (λ (b : Bool). black_of b page) is
 
 module _ (g : Setup) (r : Reading) (old now : Option (List ℕ)) (i : ℕ) (counted : Bool) (black : ℕ) (w : IsWrittenTo g r old now i counted black) where
@@ -57,20 +54,20 @@ module _ (g : Setup) (r : Reading) (old now : Option (List ℕ)) (i : ℕ) (coun
   pub one_more : (v : PageValue) → IsValueOf g r i v → HaveValues g r 0 (map good w.pages ++ v ∷ [])
   one_more v value = let size = size in values_more g r 0 i (map good w.pages) v w.values (omega (arith, size)) value
 
-  pub texts : (page : Bitmap) → flat_map page_text w.pages ++ page_text page ≡ flat_map page_text (w.pages ++ page ∷ [])
-  texts page = ap (λ (t : List ℕ). flat_map page_text w.pages ++ t) (sym (append-nil (page_text page))) ∙ sym (flat_map-append page_text w.pages (page ∷ []))
+  pub texts : (page : DrawnValue) → flat_map text_of w.pages ++ text_of page ≡ flat_map text_of (w.pages ++ page ∷ [])
+  texts page = ap (λ (t : List ℕ). flat_map text_of w.pages ++ t) (sym (append-nil (text_of page))) ∙ sym (flat_map-append text_of w.pages (page ∷ []))
 
-  unfoldable pub written_more : (new : Option (List ℕ)) (page : Bitmap) → IsValueOf g r i (Ok page) → Appends now new (page_text page)
+  unfoldable pub written_more : (new : Option (List ℕ)) (page : DrawnValue) → IsValueOf g r i (Ok page) → Appends now new (text_of page)
       → IsWrittenTo g r old new (suc i) counted (black + black_of counted page)
   written_more new page value more = record {
     pages = w.pages ++ page ∷ [];
     count = let count = w.count in let size = length-append w.pages (page ∷ []) in omega (arith, count, size);
     values = subst (HaveValues g r 0) (sym (map-append good w.pages (page ∷ []))) (one_more (Ok page) value);
-    grew = subst (Appends old new) (texts page) (grown_twice old now new (flat_map page_text w.pages) (page_text page) w.grew more);
+    grew = subst (Appends old new) (texts page) (grown_twice old now new (flat_map text_of w.pages) (text_of page) w.grew more);
     dots = λ is.
         let so_far = w.dots is in
         let here = all_black counted page is in
-        let all = sum_by_push black_count w.pages page in
+        let all = sum_by_push black_in w.pages page in
         omega (arith, so_far, here, all);
   }
 
@@ -84,7 +81,7 @@ module _ (g : Setup) (r : Reading) (old now : Option (List ℕ)) (i : ℕ) (coun
     are = one_more v value;
   }
 
-  text_is : run_text (map good w.pages) ≡ flat_map page_text w.pages
+  text_is : run_text (map good w.pages) ≡ flat_map text_of w.pages
   text_is = (runs_of_good_pages w.pages).0
 
   grew_so : Appends old now (run_text (map good w.pages))
@@ -93,14 +90,14 @@ module _ (g : Setup) (r : Reading) (old now : Option (List ℕ)) (i : ℕ) (coun
   -- ---- the tally
 
   -- among values whose bitmaps begin with these pages
-  first_pages : (values : List PageValue) (rest : List Bitmap) → whole_pages values ≡ w.pages ++ rest → take i (whole_pages values) ≡ w.pages
+  first_pages : (values : List PageValue) (rest : List DrawnValue) → whole_pages values ≡ w.pages ++ rest → take i (whole_pages values) ≡ w.pages
   first_pages values rest is = ap (take i) is ∙ take_at w.pages rest i w.count
 
-  tally_of : (new : Option (List ℕ)) (e : EndingValue) (values : List PageValue) (rest : List Bitmap) → whole_pages values ≡ w.pages ++ rest → IsAfter i e → AreWritten old new i e values
+  tally_of : (new : Option (List ℕ)) (e : EndingValue) (values : List PageValue) (rest : List DrawnValue) → whole_pages values ≡ w.pages ++ rest → IsAfter i e → AreWritten old new i e values
       → TallyMatches counted old new (record { pages = i; black = black }) e values
   tally_of new e values rest is next written = record {
     few = let size = ap length is in let more = length-append w.pages rest in let count = w.count in omega (arith, size, more, count);
-    black = λ asked. w.dots asked ∙ ap (sum_by black_count) (sym (first_pages values rest is));
+    black = λ asked. w.dots asked ∙ ap (sum_by black_in) (sym (first_pages values rest is));
     next = next;
     written = written;
   }
@@ -149,7 +146,7 @@ module _ (g : Setup) (r : Reading) (old now : Option (List ℕ)) (i : ℕ) (coun
       },
     )
 
-    pub fails : (own : Bitmap) → IsValueOf g r i (Ok own) → AppendsPrefix now new (page_text own) → AreValues g r (with_one (Ok own)) × WrotePrefix old new page (with_one (Ok own))
+    pub fails : (own : DrawnValue) → IsValueOf g r i (Ok own) → AppendsPrefix now new (text_of own) → AreValues g r (with_one (Ok own)) × WrotePrefix old new page (with_one (Ok own))
     fails own value prefix = (
       and_one (Ok own) below value,
       record {
@@ -160,7 +157,7 @@ module _ (g : Setup) (r : Reading) (old now : Option (List ℕ)) (i : ℕ) (coun
         number = number ∙ ap suc (sym w.count);
         size = prefix.0;
         within = prefix.1;
-        grew = grown_twice old now new (flat_map page_text w.pages) (take prefix.0 (page_text own)) w.grew prefix.2;
+        grew = grown_twice old now new (flat_map text_of w.pages) (take prefix.0 (text_of own)) w.grew prefix.2;
       },
     )
 
@@ -170,8 +167,8 @@ module _ (g : Setup) (r : Reading) (old now : Option (List ℕ)) (i : ℕ) (coun
           before (omega (arith, below)),
           record {
             count = length w.pages;
-            grew = subst (λ (o : Option (List ℕ)). Appends old o (flat_map page_text (take (length w.pages) (whole_pages (map good w.pages))))) (sym same)
-                (subst (λ (ps : List Bitmap). Appends old now (flat_map page_text ps)) (sym whole) w.grew);
+            grew = subst (λ (o : Option (List ℕ)). Appends old o (flat_map text_of (take (length w.pages) (whole_pages (map good w.pages))))) (sym same)
+                (subst (λ (ps : List DrawnValue). Appends old now (flat_map text_of ps)) (sym whole) w.grew);
           },
         )
 
@@ -186,8 +183,8 @@ module _ (g : Setup) (r : Reading) (old now : Option (List ℕ)) (i : ℕ) (coun
     ends_at P Q P' Q' o s (stop.Draw draw.NoMemory) h =
         let e = wants h.1 in
         let same = first_pages (map good w.pages) [] none_more in
-        let grew = subst (λ (l : Option (List ℕ)). Appends old l (flat_map page_text (take i (whole_pages (map good w.pages))))) (sym h.1)
-        (subst (λ (ps : List Bitmap). Appends old now (flat_map page_text ps)) (sym same) w.grew) in
+        let grew = subst (λ (l : Option (List ℕ)). Appends old l (flat_map text_of (take i (whole_pages (map good w.pages))))) (sym h.1)
+        (subst (λ (ps : List DrawnValue). Appends old now (flat_map text_of ps)) (sym same) w.grew) in
         (map good w.pages, e.0, e.1, tally_of new _ (map good w.pages) [] none_more tt grew)
     ends_at P Q P' Q' o s stop.Output h =
         let f = fails h.0 h.1 h.2 in

@@ -2,17 +2,16 @@
 use Rattle.std.proofs.Common.{◌≡◌, inl, inr, ℕ, suc, ◌+◌, ◌*◌, ◌<◌, ◌≤◌, Bool, List, [], ◌∷◌, ◌++◌, length, get_or, All, Contains, Option, Result, Ok, Err, IfOk, IsOk, IsErrOf, refl, sym, ap, subst, ◌∙◌, add-one, arith}
 use Rattle.std.proofs.lemmas.List.{length-append}
 use Rattle.std.proofs.lemmas.List.Elements.{Contains-get_or, Contains-append_cases}
-use Rattle.packed_rows.specs.Bitmap.{Bitmap}
-use Rattle.packed_rows.specs.Changes.{black_count}
 use Rattle.page_index.specs.Document.{Reading, pages_begun}
 use Rattle.page_draw.specs.Drawn.{IsWhole}
 use Rattle.page_draw.specs.Sheets.{IsDrawable}
-use Rattle.page_draw.specs.Values.{PageValue}
+use Rattle.page_draw.specs.Values.{PageValue, value_of_drawn}
 use Rattle.page_draw.specs.declared.stop.PageStop.{PageStop}
 use Rattle.page_draw.specs.declared.stop.PageStop.TheVariants as draw
+use Rattle.page_draw.specs.declared.drawn.Drawn.{Drawn}
 use Rattle.page_workers.specs.Rounds.{HasBitmap}
 use Rattle.page_workers.specs.declared.worker.PageResult.{PageResult}
-use Rattle.dvi_run.specs.Pages.{AreValues, Setup}
+use Rattle.dvi_run.specs.Pages.{AreValues, Setup, black_in}
 use Rattle.dvi_run.specs.Endings.{EndsPages, Source, ending_at}
 use Rattle.dvi_run.specs.Looked.{WasNotCutOff, sure_pages}
 use Rattle.dvi_run.specs.Rounds.{IsOutcomeOf, WroteOutcome}
@@ -67,8 +66,8 @@ module _ (g : Setup) (reading : Reading) (SomeFailed : ℕ → Type 0) where
   held_last page [] ys h = let same : page ≡ page + 0 = omega arith in subst (λ (p : ℕ). AreHeld p ys) same h
   held_last page (q ∷ xs) ys h = let same : suc page + length xs ≡ page + length (q ∷ xs) = omega arith in subst (λ (p : ℕ). AreHeld p ys) same (held_last (suc page) xs ys h.1)
 
-  few_of : (page : ℕ) (outcome : Result Bitmap PageStop) → IsDrawable g.sheet → IsOutcomeOf g reading page outcome → IfOk outcome (λ b. black_count b ≤ 20000 * 20000)
-  few_of page (Ok b) sheet value = few_on_sheet g reading page b sheet value
+  few_of : (page : ℕ) (outcome : Result Drawn PageStop) → IsDrawable g.sheet → IsOutcomeOf g reading page outcome → IfOk outcome (λ b. black_in (value_of_drawn b) ≤ 20000 * 20000)
+  few_of page (Ok b) sheet value = few_on_sheet g reading page (value_of_drawn b) sheet value
   few_of page (Err why) sheet value = tt
 
   few_held : (page : ℕ) (rs : List PageResult) → IsDrawable g.sheet → AreHeld page rs → (r : PageResult) → Contains rs r → HasFewDots r
@@ -88,7 +87,7 @@ module _ (g : Setup) (reading : Reading) (SomeFailed : ℕ → Type 0) where
     abbrev To : Option (List ℕ) → ℕ → ℕ → Type 0
     To now done black = IsWrittenTo g reading old now done counted black
 
-    good_one : (now new : Option (List ℕ)) (P : Type 0) (outcome : Result Bitmap PageStop) (more : ℕ) → WroteOutcome counted now new P outcome (Ok more) → IsOk outcome
+    good_one : (now new : Option (List ℕ)) (P : Type 0) (outcome : Result Drawn PageStop) (more : ℕ) → WroteOutcome counted now new P outcome (Ok more) → IsOk outcome
     good_one now new P (Ok page) more wrote = refl
     good_one now new P (Err reason) more wrote = absurd wrote
 
@@ -147,7 +146,7 @@ module _ (g : Setup) (reading : Reading) (SomeFailed : ℕ → Type 0) where
       pub cause_up_to : (page : ℕ) → ending_at (u.pages + 1) why ≡ Source page → SomeFailed page
       cause_up_to page e =
           let f = source_failed counted up.mid new P page u.pages up.refused.outcome why up.cause e in
-          subst SomeFailed (sym f.1) (refused_held.failed (subst (λ (o : Result Bitmap PageStop). IsErrOf o draw.SourceFault) (sym f.0) refl))
+          subst SomeFailed (sym f.1) (refused_held.failed (subst (λ (o : Result Drawn PageStop). IsErrOf o draw.SourceFault) (sym f.0) refl))
 
       held_rest : AreHeld (suc u.pages) up.rest
       held_rest =

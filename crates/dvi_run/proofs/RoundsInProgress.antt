@@ -6,8 +6,8 @@ use Rattle.std.proofs.lemmas.Bool.{cases_lt}
 use Rattle.std.proofs.lemmas.List.{length-map}
 use Rattle.std.proofs.lemmas.List.Elements.{Contains-get_or, Contains-append_right}
 use Rattle.page_index.specs.Document.{pages_begun}
-use Rattle.packed_rows.specs.Bitmap.{Bitmap}
 use Rattle.page_draw.specs.declared.stop.PageStop.{PageStop}
+use Rattle.page_draw.specs.declared.drawn.Drawn.{Drawn}
 use Rattle.page_workers.specs.Rounds.{HasBitmap, MayDraw, pages_of}
 use Rattle.page_workers.specs.Seats.{room_at}
 use Rattle.page_workers.specs.declared.worker.PageResult.{PageResult}
@@ -72,7 +72,7 @@ some_of : {A : Type 0} (xs : List A) → 0 < length xs → A
 some_of [] lt = absurd (omega arith)
 some_of (x ∷ xs) lt = x
 
-not_both : (outcome : Result Bitmap PageStop) → IsOk outcome → IsErr outcome → ⊥
+not_both : (outcome : Result Drawn PageStop) → IsOk outcome → IsErr outcome → ⊥
 not_both (Ok page) ok err = cc
 not_both (Err stop) ok err = cc
 

@@ -6,7 +6,6 @@ use Rattle.outside.specs.Counts.{Rose}
 use Rattle.outside.specs.Library.{FileTable}
 use Rattle.outside.proofs.Growth.{rose_later}
 use Rattle.pixel_round.specs.declared.units.Units.{Units}
-use Rattle.packed_rows.specs.Bitmap.{Bitmap}
 use Rattle.turn_lock.specs.Seats.{SeatView}
 use Rattle.font_decode.specs.Decoding.{IsFontOf}
 use Rattle.font_decode.specs.Desks.{TrailGrew}
@@ -14,6 +13,7 @@ use Rattle.font_decode.proofs.Trails.{trail_none, trail_more, trail_as}
 use Rattle.page_draw.specs.Drawn.{IsWhole}
 use Rattle.page_draw.specs.declared.stop.PageStop.{PageStop}
 use Rattle.page_draw.specs.declared.stop.PageStop.TheVariants as draw
+use Rattle.page_draw.specs.declared.drawn.Drawn as page
 use Rattle.page_workers.specs.declared.worker.PageResult.{PageResult}
 use Rattle.page_workers.specs.declared.worker.Worker.{Worker}
 use Rattle.page_workers.specs.Seats.{BenchFits, asked_at, library_at, units_at, room_at, trail_at}
@@ -135,10 +135,10 @@ module _ {F : Type 0} (s : Site F) where
   -- ---- one page
 
   -- the page was cut off, as this came of it
-  abbrev CutBy : ℕ → Result Bitmap PageStop → ℕ → Type 0
+  abbrev CutBy : ℕ → Result page.Drawn PageStop → ℕ → Type 0
   CutBy i outcome p = (p ≡ i) × (IsWhole outcome → ⊥)
 
-  either_looked : (i : ℕ) (outcome : Result Bitmap PageStop) (start w : Worker F) → Trails s (IsWhole outcome) start w → LooksTo i outcome Finds indexed s.given (pages_since start w) (keys_since start w)
+  either_looked : (i : ℕ) (outcome : Result page.Drawn PageStop) (start w : Worker F) → Trails s (IsWhole outcome) start w → LooksTo i outcome Finds indexed s.given (pages_since start w) (keys_since start w)
       → EndsLooked (CutBy i outcome) start w
   either_looked i (Ok page) start w t l = inl (t, l)
   either_looked i (Err (draw.Fault fault at)) start w t l = inl (t, l)

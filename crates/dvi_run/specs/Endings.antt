@@ -4,16 +4,14 @@ use Rattle.std.specs.List.{flat_map}
 use Rattle.std.specs.Io.KnownBytes.{Appends}
 use Rattle.outside.specs.Counts.{Rose}
 use Rattle.outside.specs.Streams.{AppendsPrefix}
-use Rattle.packed_rows.specs.Bitmap.{Bitmap}
 use Rattle.page_index.specs.Document.{Reading, pages_begun}
 use Rattle.page_index.specs.Faults.{IsFirstFault}
 use Rattle.page_index.specs.declared.faults.DocFault.{DocFault}
 use Rattle.vf_expand.specs.Faults.{PageFaultValue, Font, value_of_fault}
-use Rattle.page_draw.specs.Values.{PageValue, fault_at}
+use Rattle.page_draw.specs.Values.{DrawnValue, PageValue, fault_at}
 use Rattle.page_draw.specs.declared.stop.PageStop.TheVariants as draw
-use Rattle.pbm_output.specs.Pbm.{page_text}
 use Rattle.dvi_run.specs.Reading.{IsAllRead, HoldsOfInput}
-use Rattle.dvi_run.specs.Pages.{FailingPage, Setup, IsRun, run_fault, run_text, whole_pages}
+use Rattle.dvi_run.specs.Pages.{FailingPage, Setup, IsRun, run_fault, run_text, text_of, whole_pages}
 use Rattle.dvi_run.specs.declared.ending.Ending.{Ending}
 use Rattle.dvi_run.specs.declared.ending.Ending.TheVariants as code
 use Rattle.dvi_run.specs.declared.pages.WriteStop.{WriteStop}
@@ -109,19 +107,19 @@ pub record WroteBefore (old new : Option (List ℕ)) (page : ℕ) (reading : Rea
 -- and they have bitmaps
 pub record WrotePrefix (old new : Option (List ℕ)) (page : ℕ)
     (values : List PageValue) : Type 0 where
-  pub before : List Bitmap
-  pub own : Bitmap
-  pub rest : List Bitmap
+  pub before : List DrawnValue
+  pub own : DrawnValue
+  pub rest : List DrawnValue
   pub pages : whole_pages values ≡ before ++ own ∷ rest
   pub number : page ≡ suc (length before)
   pub size : ℕ
-  pub within : size < length (page_text own)
-  pub grew : Appends old new (flat_map page_text before ++ take size (page_text own))
+  pub within : size < length (text_of own)
+  pub grew : Appends old new (flat_map text_of before ++ take size (text_of own))
 
 -- n pages, which have bitmaps, and none before them has none
 pub record WroteSome (old new : Option (List ℕ)) (values : List PageValue) : Type 0 where
   pub count : ℕ
-  pub grew : Appends old new (flat_map page_text (take count (whole_pages values)))
+  pub grew : Appends old new (flat_map text_of (take count (whole_pages values)))
 
 -- the bytes are a document, and its reading and the values of its first pages have P
 abbrev pub HoldsOfDocument : Setup → List ℕ → (Reading → List PageValue → Type 0) → Type 0
@@ -189,7 +187,8 @@ module _ (old new : Option (List ℕ)) (OutputFailed SourceFailed : Type 0) wher
   IsWriteStop Draws Breaks (stop.Draw draw.SourceFault) = SourceFailed × Breaks × (new ≡ old)
   IsWriteStop Draws Breaks (stop.Draw draw.NoMemory) = Breaks × (new ≡ old)
   IsWriteStop Draws Breaks stop.Output =
-      (page : Bitmap) × Draws (Ok page) × AppendsPrefix old new (page_text page) × OutputFailed
+      (drawn : DrawnValue) × Draws (Ok drawn) × AppendsPrefix old new (text_of drawn)
+      × OutputFailed
 
   -- how the writing of a document's pages ended
   abbrev pub EndsPages : EndingValue → Reading → List PageValue → Type 0

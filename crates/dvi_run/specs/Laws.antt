@@ -3,21 +3,19 @@ use Rattle.std.specs.Prelude.{◌≡◌, ◌<◌, ◌≤◌, ℕ, suc, Option, L
 use Rattle.std.specs.List.{flat_map}
 use Rattle.std.specs.Io.KnownBytes.{Appends}
 use Rattle.outside.specs.Library.{FileTable}
-use Rattle.packed_rows.specs.Bitmap.{Bitmap}
 use Rattle.page_index.specs.Document.{IsDocument, Reading}
 use Rattle.page_index.specs.Pages.{eop_at}
 use Rattle.page_index.specs.Faults.{IsFirstFault}
 use Rattle.page_index.specs.declared.faults.DocFault.{DocFault}
 use Rattle.font_decode.specs.Laws.{AreByteFiles}
-use Rattle.page_draw.specs.Values.{PageValue, PlacedFault}
-use Rattle.pbm_output.specs.Pbm.{page_text}
+use Rattle.page_draw.specs.Values.{DrawnValue, PageValue, PlacedFault}
 use Rattle.sample_maker.specs.Sample.{sample_document}
 use Rattle.dvi_run.specs.Reading.{read_of}
 use Rattle.dvi_run.specs.Shares.{ArePartitioned, EachPageIsDrawnOnce}
 use Rattle.dvi_run.specs.Endings.{HoldsOfDocument, Stopped, Wrote}
-use Rattle.dvi_run.specs.Pages.{FailingPage, Setup, IsRun, IsWholeRun, failing_page, run_fault, run_text}
+use Rattle.dvi_run.specs.Pages.{FailingPage, Setup, IsRun, IsWholeRun, failing_page, run_fault, run_text, text_of}
 
-abbrev pub good : Bitmap → PageValue
+abbrev pub good : DrawnValue → PageValue
 good page = Ok page
 
 -- ---- lists of values
@@ -25,14 +23,14 @@ good page = Ok page
 -- where each page has a bitmap the run's text is that of all, and no page fails
 abbrev pub RunsOfGoodPages : Type 0
 RunsOfGoodPages =
-    (pages : List Bitmap) → (run_text (map good pages) ≡ flat_map page_text pages) × (run_fault
+    (pages : List DrawnValue) → (run_text (map good pages) ≡ flat_map text_of pages) × (run_fault
     (map good pages) ≡ None)
 
 -- else it is that of the pages before the first that has none, and that page fails, whatever
 -- follows it
 abbrev pub RunsEndAtTheFirstFault : Type 0
-RunsEndAtTheFirstFault = (pages : List Bitmap) (f : PlacedFault) (rest : List PageValue)
-    → (run_text (map good pages ++ Err f ∷ rest) ≡ flat_map page_text pages)
+RunsEndAtTheFirstFault = (pages : List DrawnValue) (f : PlacedFault) (rest : List PageValue)
+    → (run_text (map good pages ++ Err f ∷ rest) ≡ flat_map text_of pages)
     × (run_fault (map good pages ++ Err f ∷ rest) ≡ Some (failing_page (suc (length pages)) f))
 
 -- a page that fails among the first ones ends the run, whatever pages follow

@@ -15,8 +15,9 @@ IsLookedUp Finds indexed sheet p keys =
     (value : PageValue) × IsPageValue Finds indexed sheet p value keys
 
 -- those of a page that was broken off
-abbrev pub IsLookedUpSoFar : Finding → Indexed → ℕ → List FontKey → Type 0
-IsLookedUpSoFar Finds indexed p keys = IsBroken Finds indexed p (Some []) (Some keys)
+abbrev pub IsLookedUpSoFar : Finding → Indexed → Sheet → ℕ → List FontKey → Type 0
+IsLookedUpSoFar Finds indexed sheet p keys =
+    IsBroken Finds indexed sheet p (Some []) (Some keys)
 
 -- all look-ups of these pages, one page after another
 abbrev pub WholeLooks : Finding → Indexed → Sheet → List ℕ → List FontKey → Type 0
@@ -43,7 +44,7 @@ pub record BrokenLooks (MayBreak : ℕ → Type 0) (Finds : Finding) (indexed : 
   pub others : List FontKey
   pub keys_are : keys ≡ first ++ others
   pub whole : WholeLooks Finds indexed sheet before first
-  pub broken : IsLookedUpSoFar Finds indexed page others
+  pub broken : IsLookedUpSoFar Finds indexed sheet page others
 
 -- ---- by the end of the run
 

@@ -4,13 +4,13 @@ use Rattle.std.specs.Option.{option_map}
 use Rattle.std.specs.List.{flat_map}
 use Rattle.outside.specs.Library.{FileTable}
 use Rattle.outside.specs.declared.keys.FontKey.{FontKey}
-use Rattle.packed_rows.specs.Bitmap.{Bitmap}
+use Rattle.packed_rows.specs.Changes.{black_count}
 use Rattle.page_index.specs.Document.{IsDocument, Reading, pages_begun}
 use Rattle.page_index.specs.Pages.{document_units}
 use Rattle.font_decode.specs.Decoding.{IsFontOf}
 use Rattle.vf_expand.specs.Faults.{PageFaultValue}
 use Rattle.page_draw.specs.Members.{Finding}
-use Rattle.page_draw.specs.Values.{PageValue, PlacedFault}
+use Rattle.page_draw.specs.Values.{DrawnValue, PageValue, PlacedFault}
 use Rattle.page_draw.specs.Drawn.{IsPageValue}
 use Rattle.page_draw.specs.declared.sheet.Sheet.{Sheet}
 use Rattle.pbm_output.specs.Pbm.{page_text}
@@ -65,8 +65,8 @@ pub record IsWholeRun (g : Setup) (bytes : List ℕ) (reading : Reading)
 
 -- ---- the run's value
 
--- the bitmaps of the pages before the first that has none
-abbrev pub whole_pages : List PageValue → List Bitmap
+-- the pages before the first that has no bitmap
+abbrev pub whole_pages : List PageValue → List DrawnValue
 whole_pages [] = []
 whole_pages (Ok page ∷ values) = page ∷ whole_pages values
 whole_pages (Err f ∷ values) = []
@@ -85,9 +85,16 @@ pub record FailingPage : Type 0 where
 abbrev pub failing_page : ℕ → PlacedFault → FailingPage
 failing_page n f = record { page = n; fault = f.fault; at = f.at }
 
+-- a page's bitmap as a text, and how many of its pixels are black
+abbrev pub text_of : DrawnValue → List ℕ
+text_of drawn = page_text drawn.page
+
+abbrev pub black_in : DrawnValue → ℕ
+black_in drawn = black_count drawn.page
+
 -- the texts of the pages before the first that has no bitmap, one after another
 abbrev pub run_text : List PageValue → List ℕ
-run_text values = flat_map page_text (whole_pages values)
+run_text values = flat_map text_of (whole_pages values)
 
 -- and that page, if there is one
 abbrev pub run_fault : List PageValue → Option FailingPage

@@ -1,8 +1,8 @@
 -- What taking a result does to the press, and to the output on which it writes.
 use Rattle.std.specs.Prelude.{◌≡◌, ℕ, ◌+◌, ◌-◌, ◌^◌, ◌≤◌, min, Bool, List, Option, None, Some, Result, Ok, Err}
 use Rattle.outside.specs.Counts.{Rose}
-use Rattle.packed_rows.specs.Bitmap.{Bitmap}
 use Rattle.page_draw.specs.declared.stop.PageStop.{PageStop}
+use Rattle.page_draw.specs.declared.drawn.Drawn.{Drawn}
 use Rattle.page_workers.specs.declared.worker.PageResult.{PageResult}
 use Rattle.dvi_run.specs.Rounds.{WroteOutcome}
 use Rattle.dvi_run.specs.declared.pages.Press.{Press}
@@ -15,7 +15,7 @@ RoseBy before more after = after ≡ min (before + more) (2 ^ 64 - 1)
 
 -- a page was written whole, and counted with its black pixels where they are counted
 pub record WroteOne (counted : Bool) (old new : Option (List ℕ))
-    (outcome : Result Bitmap PageStop) (before after : Tally) : Type 0 where
+    (outcome : Result Drawn PageStop) (before after : Tally) : Type 0 where
   pub black : ℕ
   pub wrote : WroteOutcome counted old new ⊥ outcome (Ok black)
   pub pages_are : RoseBy before.pages 1 after.pages
@@ -23,7 +23,7 @@ pub record WroteOne (counted : Bool) (old new : Option (List ℕ))
 
 -- once a page isn't written, none is written after it
 abbrev pub TookBy : (counted : Bool) (old new : Option (List ℕ)) (Kept OutputFails : Type 0)
-    → Result Bitmap PageStop → (before after : Tally) → (stopped stops : Option WriteStop) → Type 0
+    → Result Drawn PageStop → (before after : Tally) → (stopped stops : Option WriteStop) → Type 0
 TookBy counted old new Kept OutputFails outcome before after (Some why) stops =
     (stops ≡ Some why) × Kept × (after ≡ before)
 TookBy counted old new Kept OutputFails outcome before after None None =

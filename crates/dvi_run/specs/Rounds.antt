@@ -5,8 +5,6 @@ use Rattle.outside.specs.Counts.{Rose}
 use Rattle.outside.specs.Library.{FileTable}
 use Rattle.outside.specs.Streams.{AppendsPrefix}
 use Rattle.outside.specs.declared.keys.FontKey.{FontKey}
-use Rattle.packed_rows.specs.Bitmap.{Bitmap}
-use Rattle.packed_rows.specs.Changes.{black_count}
 use Rattle.page_index.specs.Document.{Reading, pages_begun}
 use Rattle.page_index.specs.Pages.{Indexed, document_units}
 use Rattle.pixel_round.specs.Preamble.{AreUnits}
@@ -19,17 +17,17 @@ use Rattle.font_decode.specs.Desks.{TrailGrew, ReleasedLast, Loaded, LoadedFiles
 use Rattle.font_decode.specs.Loads.{MAX_LOADS}
 use Rattle.font_decode.specs.Weights.{IsWeightOf}
 use Rattle.vf_expand.specs.Faults.{value_of_fault}
-use Rattle.page_draw.specs.Values.{fault_at}
+use Rattle.page_draw.specs.Values.{DrawnValue, fault_at, value_of_drawn}
 use Rattle.page_draw.specs.declared.sheet.Sheet.{Sheet}
 use Rattle.page_draw.specs.declared.stop.PageStop.{PageStop}
 use Rattle.page_draw.specs.declared.stop.PageStop.TheVariants as draw
-use Rattle.pbm_output.specs.Pbm.{page_text}
+use Rattle.page_draw.specs.declared.drawn.Drawn.{Drawn}
 use Rattle.page_workers.specs.declared.bench.Bench.{Bench}
 use Rattle.page_workers.specs.declared.worker.Worker.{Worker}
 use Rattle.page_workers.specs.Seats.{BenchFits, asked_at, library_at, units_at, room_at, own_calls}
 use Rattle.page_workers.specs.SparePages.{HasNoSparePages}
 use Rattle.page_workers.specs.Rounds.{trail_of}
-use Rattle.dvi_run.specs.Pages.{Setup, IsValueOf, finding}
+use Rattle.dvi_run.specs.Pages.{Setup, IsValueOf, black_in, finding, text_of}
 use Rattle.dvi_run.specs.Looked.{BrokenLooks, WholeLooks}
 use Rattle.dvi_run.specs.Shares.{pages_since}
 use Rattle.dvi_run.specs.declared.pages.WriteStop.{WriteStop}
@@ -71,8 +69,8 @@ abbrev pub indexed_of : Setup → Reading → Indexed
 indexed_of g reading = record { res = g.res; reading = reading }
 
 -- what came of a page is the page's own
-abbrev pub IsOutcomeOf : Setup → Reading → ℕ → Result Bitmap PageStop → Type 0
-IsOutcomeOf g reading i (Ok page) = IsValueOf g reading i (Ok page)
+abbrev pub IsOutcomeOf : Setup → Reading → ℕ → Result Drawn PageStop → Type 0
+IsOutcomeOf g reading i (Ok drawn) = IsValueOf g reading i (Ok (value_of_drawn drawn))
 IsOutcomeOf g reading i (Err (draw.Fault fault at)) =
     IsValueOf g reading i (fault_at (value_of_fault fault) at)
 IsOutcomeOf g reading i (Err draw.SourceFault) = Unit {0}
@@ -157,16 +155,17 @@ pub record IsNewBench (limits : Limits) (known : Option FileTable) (indexed : In
 -- ---- a result that is written
 
 -- the black pixels of a page, where they are counted
-abbrev pub black_of : (counted : Bool) → Bitmap → ℕ
-black_of counted page = cond counted (black_count page) 0
+abbrev pub black_of : (counted : Bool) → DrawnValue → ℕ
+black_of counted drawn = cond counted (black_in drawn) 0
 
 abbrev pub WroteOutcome : (counted : Bool) (old new : Option (List ℕ)) (OutputFails : Type 0)
-    → Result Bitmap PageStop → Result ℕ WriteStop → Type 0
-WroteOutcome counted old new OutputFails (Ok page) (Ok black) =
-    Appends old new (page_text page) × (black ≡ black_of counted page)
-WroteOutcome counted old new OutputFails (Ok page) (Err (stop.Draw reason)) = ⊥
-WroteOutcome counted old new OutputFails (Ok page) (Err stop.Output) =
-    AppendsPrefix old new (page_text page) × OutputFails
+    → Result Drawn PageStop → Result ℕ WriteStop → Type 0
+WroteOutcome counted old new OutputFails (Ok drawn) (Ok black) =
+    Appends old new (text_of (value_of_drawn drawn))
+    × (black ≡ black_of counted (value_of_drawn drawn))
+WroteOutcome counted old new OutputFails (Ok drawn) (Err (stop.Draw reason)) = ⊥
+WroteOutcome counted old new OutputFails (Ok drawn) (Err stop.Output) =
+    AppendsPrefix old new (text_of (value_of_drawn drawn)) × OutputFails
 WroteOutcome counted old new OutputFails (Err reason) (Ok black) = ⊥
 WroteOutcome counted old new OutputFails (Err reason) (Err (stop.Draw cause)) =
     (cause ≡ reason) × (new ≡ old)

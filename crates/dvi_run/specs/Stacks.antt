@@ -1,9 +1,9 @@
 -- The results of a round, and how they are written.
 use Rattle.std.specs.Prelude.{◌≡◌, ◌⊎◌, ℕ, suc, ◌+◌, ◌-◌, ◌*◌, ◌<◌, ◌≤◌, ◌++◌, Bool, List, [], ◌∷◌, length, reverse, Contains, IfOk, Option, None, Ok, Err, slice_index_or}
 use Rattle.outside.specs.Library.{FileTable}
-use Rattle.packed_rows.specs.Changes.{black_count}
 use Rattle.page_index.specs.Document.{pages_begun}
 use Rattle.page_index.specs.Pages.{Indexed}
+use Rattle.page_draw.specs.Values.{value_of_drawn}
 use Rattle.page_workers.specs.Rounds.{MayDraw, DrewNothing}
 use Rattle.page_workers.specs.declared.bench.Bench.{Bench}
 use Rattle.page_workers.specs.declared.worker.PageResult.{PageResult}
@@ -13,6 +13,7 @@ use Rattle.dvi_run.specs.declared.pages.WriteStop.{WriteStop}
 use Rattle.dvi_run.specs.declared.tally.Tally.{Tally}
 use Rattle.raster_page.specs.Limits.{MAX_PAGE_SIDE}
 use Rattle.page_workers.specs.Limits.{MAX_WORKERS}
+use Rattle.dvi_run.specs.Pages.{black_in}
 
 -- ---- a round
 
@@ -25,7 +26,8 @@ AllDrewNothing {F} before after = (k : ℕ) (d : Worker F) → k < length before
 
 -- no page has more black pixels than the largest sheet has dots
 abbrev pub HasFewDots : PageResult → Type 0
-HasFewDots r = IfOk r.outcome (λ page. black_count page ≤ MAX_PAGE_SIDE * MAX_PAGE_SIDE)
+HasFewDots r =
+    IfOk r.outcome (λ drawn. black_in (value_of_drawn drawn) ≤ MAX_PAGE_SIDE * MAX_PAGE_SIDE)
 
 -- the texts of these results' pages were written, one after another, with n black pixels,
 -- where they are counted

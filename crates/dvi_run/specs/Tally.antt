@@ -2,11 +2,9 @@
 use Rattle.std.specs.Prelude.{◌≡◌, ◌≤◌, ℕ, suc, Bool, true, List, [], length, take, Option, Some, None}
 use Rattle.std.specs.List.{flat_map, sum_by}
 use Rattle.std.specs.Io.KnownBytes.{Appends}
-use Rattle.packed_rows.specs.Changes.{black_count}
 use Rattle.cache_core.specs.declared.calls.Call.{Call}
 use Rattle.page_draw.specs.Values.{PageValue}
-use Rattle.pbm_output.specs.Pbm.{page_text}
-use Rattle.dvi_run.specs.Pages.{whole_pages}
+use Rattle.dvi_run.specs.Pages.{black_in, text_of, whole_pages}
 use Rattle.dvi_run.specs.Endings.{EndingValue, Written, Usage, Document, Page, Source, Input}
 use Rattle.dvi_run.specs.Endings.{Output, Notes, Memory}
 use Rattle.dvi_run.specs.Looked.{IsIdle}
@@ -26,7 +24,7 @@ abbrev pub AreWritten : (old new : Option (List ℕ)) → ℕ → EndingValue �
 AreWritten old new pages Written values = pages ≡ length (whole_pages values)
 AreWritten old new pages Notes values = pages ≡ length (whole_pages values)
 AreWritten old new pages Memory values =
-    Appends old new (flat_map page_text (take pages (whole_pages values)))
+    Appends old new (flat_map text_of (take pages (whole_pages values)))
 AreWritten old new pages _ values = Unit {0}
 
 -- what was written whole of a document whose first pages have these values, in a run that ended so;
@@ -35,7 +33,7 @@ pub record TallyMatches (counted : Bool) (old new : Option (List ℕ)) (t : Tall
     (values : List PageValue) : Type 0 where
   pub few : t.pages ≤ length (whole_pages values)
   pub black : counted ≡ true
-      → t.black ≡ sum_by black_count (take t.pages (whole_pages values))
+      → t.black ≡ sum_by black_in (take t.pages (whole_pages values))
   pub next : IsAfter t.pages e
   pub written : AreWritten old new t.pages e values
 

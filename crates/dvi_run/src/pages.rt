@@ -9,7 +9,7 @@ ghost use Rattle.page_index.specs.Limits.{MAX_PAGES};
 use crate::ending::Ending;
 use crate::tally::Tally;
 use outside::Output;
-use page_draw::PageStop;
+use page_draw::{Drawn, PageStop};
 use page_workers::{PageResult, PageTaker};
 use pbm_output::{WriteFault, write_page_gathered};
 use raster_page::Page;
@@ -83,29 +83,29 @@ pub(crate) fn ending_of_stop(i: usize, stop: WriteStop) -> Ending
 // Writes a page, and answers how many of its pixels are black, where they are counted.
 fn write_one<O: Output>(
     alloc: Global,
-    page: &Page,
+    drawn: &Drawn,
     counted: bool,
     out: &mut O,
 ) -> Result<u64, WriteStop>
     ensures wrote { WroteOutcome counted (O.written out.old) (O.written out.new)
-        (Rose (O.faults out.old) (O.faults out.new)) (Ok page.now) result }
+        (Rose (O.faults out.old) (O.faults out.new)) (Ok drawn.now) result }
     ensures output { O.faults out.old ≤ O.faults out.new }
 {
-    write_page_gathered(alloc, out, page)?;
-    Ok(if counted { page.count() } else { 0 })
+    write_page_gathered(alloc, out, &drawn.page)?;
+    Ok(if counted { drawn.page.count() } else { 0 })
 }
 
 impl Press {
     // Writes a page, and counts it where it was written whole.
-    fn write<O: Output>(&mut self, alloc: Global, page: &Page, out: &mut O)
+    fn write<O: Output>(&mut self, alloc: Global, drawn: &Drawn, out: &mut O)
         requires goes_on { self.old.stopped ≡ None }
         ensures counted { self.new.counted ≡ self.old.counted }
         ensures output { O.faults out.old ≤ O.faults out.new }
         ensures wrote { TookBy self.old.counted (O.written out.old) (O.written out.new)
-            (out.new ≡ out.old) (Rose (O.faults out.old) (O.faults out.new)) (Ok page.now)
+            (out.new ≡ out.old) (Rose (O.faults out.old) (O.faults out.new)) (Ok drawn.now)
             self.old.tally self.new.tally None self.new.stopped }
     {
-        match write_one(alloc, page, self.counted, out) {
+        match write_one(alloc, drawn, self.counted, out) {
             Ok(black) => {
                 self.tally.pages = self.tally.pages.saturating_add(1);
                 self.tally.black = self.tally.black.saturating_add(black);
@@ -122,12 +122,12 @@ impl<O: Output> PageTaker<O> for Press {
 
     fn take(&mut self, alloc: Global, out: &mut O, drawn: PageResult) -> Option<Page> {
         if self.stopped.is_some() {
-            return drawn.outcome.ok();
+            return drawn.outcome.ok().map(|whole| whole.page);
         }
         match drawn.outcome {
-            Ok(page) => {
-                self.write(alloc, &page, out);
-                Some(page)
+            Ok(whole) => {
+                self.write(alloc, &whole, out);
+                Some(whole.page)
             }
             Err(stop) => {
                 self.stopped = Some(WriteStop::from(stop));
