@@ -1,4 +1,5 @@
 //! One page over both desks.
+ghost use Rattle.page_draw.specs.Sheets.{IsDrawable};
 
 use super::Told;
 use super::files::{document, fonts};
@@ -103,7 +104,9 @@ fn told_of(drawn: &Result<Drawn, PageStop>, source: &MemFonts, calls: &[Entry]) 
 }
 
 // What the first page comes to over the desk without a cache.
-fn over_plain<R: Wait>(rt: &R, alloc: Global, index: &Index, sheet: &Sheet) -> Result<Told, Fail> {
+fn over_plain<R: Wait>(rt: &R, alloc: Global, index: &Index, sheet: &Sheet) -> Result<Told, Fail>
+    requires sheet { IsDrawable sheet.now }
+{
     if index.pages() == 0 {
         return Err(Fail::from("no page"));
     }
@@ -136,8 +139,9 @@ pub fn told<R: Wait>(
     let Ok(index) = Index::read(alloc, &bytes, 300) else {
         return Err(Fail::from("no document"));
     };
-    match cached {
-        None => over_plain(rt, alloc, &index, if tolerant { &TOLERANT } else { &SHEET }),
-        Some(fails) => over_solo(rt, alloc, &index, fails),
+    match (cached, tolerant) {
+        (None, true) => over_plain(rt, alloc, &index, &TOLERANT),
+        (None, false) => over_plain(rt, alloc, &index, &SHEET),
+        (Some(fails), _) => over_solo(rt, alloc, &index, fails),
     }
 }
