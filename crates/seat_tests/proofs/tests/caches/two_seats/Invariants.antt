@@ -1,5 +1,0 @@
-use Rattle.seat_tests.specs.Samples.{part_of}
-use Rattle.seat_tests.proofs.tests.caches.two_seats.Given as goal
-
-abbrev pub ghost-make : goal.ghost-make
-ghost-make g a = part_of 2 7
