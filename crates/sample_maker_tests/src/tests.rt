@@ -3,6 +3,5 @@ mod cuts;
 mod documents;
 mod fonts;
 mod packed_fonts;
-mod packed_glyphs;
 mod samples;
 mod virtual_fonts;

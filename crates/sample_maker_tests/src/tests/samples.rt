@@ -1,11 +1,11 @@
 //! The sample.
 use outside::FileName;
 use page_index::Index;
-use sample_maker::sample;
+use sample_maker::{packed_sample, sample};
 use std::alloc::Global;
 use std::test::Fail;
 
-static ONE_PAGE: [u8; 240] = [
+const ONE_PAGE: &[u8] = &[
     0xf7, 2, 0, 0, 0x04, 0xf6, 0, 0, 0, 3, 0, 0, 0x03, 0xe8, 0, // the preamble
     0xf3, 0, 0, 0, 0, 0, 0, 0, 0, 0x80, 0, 0, 0, 0x80, 0, 3, 0x64, 0x75, 0x6f, // duo
     0xf3, 1, 0, 0, 0, 0, 0, 0, 0, 0x80, 0, 0, 0, 0x80, 0, 3, 0x64, 0x6f, 0x74, // dot
@@ -25,55 +25,49 @@ static ONE_PAGE: [u8; 240] = [
     0xf9, 0, 0, 0, 0x8f, 2, 0xdf, 0xdf, 0xdf, 0xdf, 0xdf, // its place, and the filler
 ];
 
-// The one page is numbered 1, so it has 1 + 1 mod 3 lines of four characters.
-#[test]
-fn a_document_of_one_page(rt: HostRuntime) -> Result<(), Fail> {
-    let made = sample(rt.alloc(), 1)?;
-    assert_eq!(rt; made.document.as_slice(), ONE_PAGE.as_slice());
-    Ok(())
-}
-
-// Pages of 25, 34 and 16 bytes of commands, with 46 bytes around each.
-#[test]
-fn lengths_of_three_pages(rt: HostRuntime) -> Result<(), Fail> {
-    let made = sample(rt.alloc(), 3)?;
-    let index = Index::read(rt.alloc(), &made.document, 300)?;
-    let mut lengths = [0; 3];
-    for i in 0..3 {
-        if i < index.pages() {
-            lengths[i] = index.page(i).bytes.len();
-        }
-    }
-    assert_eq!(rt;
-        (made.document.len(), index.pages(), lengths),
-        (384, 3, [25, 34, 16])
-    );
-    Ok(())
-}
-
-// How many pages a sample of n pages has, read at a resolution.
-fn pages(alloc: Global, n: u32, res: u32) -> Result<usize, Fail> {
+// The length of the document of a sample of n pages, how many pages a reader finds in it at a
+// resolution, and how long the commands of one of them are.
+fn read(alloc: Global, n: u32, res: u32, page: usize) -> Result<(usize, usize, usize), Fail> {
     if n < 1 || n > 1000 || res < 1 || res > 4800 {
         return Err(Fail::from("no sample"));
     }
     let made = sample(alloc, n)?;
-    Ok(Index::read(alloc, &made.document, res)?.pages())
+    let index = Index::read(alloc, &made.document, res)?;
+    if page >= index.pages() {
+        return Err(Fail::from("no page"));
+    }
+    let length = index.page(page).bytes.len();
+    Ok((made.document.len(), index.pages(), length))
 }
 
-// Numbers of pages, and resolutions.
-static DOCUMENTS: [(u32, u32, usize); 3] = [(1, 1, 1), (1, 4800, 1), (1000, 300, 1000)];
+// Numbers of pages, resolutions and places of pages. The commands of pages take 25, 34 and 16 bytes
+// in turn, with 46 bytes around each, and what stands around them takes 164 bytes and four to seven
+// of filler.
+static DOCUMENTS: [(u32, u32, usize, (usize, usize, usize)); 6] = [
+    (1, 1, 0, (240, 1, 25)),
+    (1, 4800, 0, (240, 1, 25)),
+    (3, 300, 0, (384, 3, 25)),
+    (3, 300, 1, (384, 3, 34)),
+    (3, 300, 2, (384, 3, 16)),
+    (1000, 300, 0, (71_168, 1000, 25)),
+];
 
 #[test]
 fn documents_are_read(rt: HostRuntime) -> Result<(), Fail> {
-    for (n, res, wanted) in DOCUMENTS.iter() {
-        assert_eq!(rt; pages(rt.alloc(), *n, *res)?, *wanted, "of {n} at {res}");
+    for (n, res, page, wanted) in DOCUMENTS.iter() {
+        let told = read(rt.alloc(), *n, *res, *page)?;
+        assert_eq!(rt; told, *wanted, "of {n} at {res}");
     }
     Ok(())
 }
 
-// The font files, by their names.
-static FILES: [(&[u8], &[u8]); 6] = [
+// Whether a sample is packed, of how many pages it is, and one of its files, or its document, which
+// has no name here. The one page is numbered 1, so it has 1 + 1 mod 3 lines of four characters.
+static FILES: [(bool, u32, &[u8], &[u8]); 9] = [
+    (false, 1, b"", ONE_PAGE),
     (
+        false,
+        1,
         b"duo.tfm",
         &[
             0, 14, 0, 2, 0, 65, 0, 65, 0, 2, 0, 1, 0, 1, 0, 1, 0, 0, 0, 0, 0, 0, 0, 0, // counts
@@ -84,6 +78,8 @@ static FILES: [(&[u8], &[u8]); 6] = [
         ],
     ),
     (
+        false,
+        1,
         b"dot.tfm",
         &[
             0, 14, 0, 2, 0, 65, 0, 65, 0, 2, 0, 1, 0, 1, 0, 1, 0, 0, 0, 0, 0, 0, 0, 0, // counts
@@ -94,6 +90,8 @@ static FILES: [(&[u8], &[u8]); 6] = [
         ],
     ),
     (
+        false,
+        1,
         b"bar.tfm",
         &[
             0, 14, 0, 2, 0, 65, 0, 65, 0, 2, 0, 1, 0, 1, 0, 1, 0, 0, 0, 0, 0, 0, 0, 0, // counts
@@ -104,6 +102,8 @@ static FILES: [(&[u8], &[u8]); 6] = [
         ],
     ),
     (
+        false,
+        1,
         b"duo.vf",
         &[
             0xf7, 0xca, 0, 0, 0, 0, 0, 0, 0xa0, 0, 0, // the preamble
@@ -115,6 +115,8 @@ static FILES: [(&[u8], &[u8]); 6] = [
     ),
     // a glyph of plain bits
     (
+        false,
+        1,
         b"dot.300pk",
         &[
             0xf7, 0x59, 0, 0, 0xa0, 0, 0, 0, 0, 0, 0, 0, 4, 0x26, 0xae, 0, 4, 0x26, 0xae, // pre
@@ -123,20 +125,68 @@ static FILES: [(&[u8], &[u8]); 6] = [
     ),
     // a glyph of runs
     (
+        false,
+        1,
         b"bar.300pk",
         &[
             0xf7, 0x59, 0, 0, 0xa0, 0, 0, 0, 0, 0, 0, 0, 4, 0x26, 0xae, 0, 4, 0x26, 0xae, // pre
             0xa8, 0x0b, 0x41, 1, 0x80, 0, 6, 3, 4, 0, 3, 0xe2, 0x11, 0x40, 0xf5, 0xf6, 0xf6,
         ],
     ),
+    // packed, one run of four pixels
+    (
+        true,
+        2,
+        b"dot.300pk",
+        &[
+            0xf7, 0x59, 0, 0, 0xa0, 0, 0, 0, 0, 0, 0, 0, 4, 0x26, 0xae, 0, 4, 0x26, 0xae, // pre
+            0x48, 9, 0x41, 0, 0, 0, 0, 2, 2, 0, 1, 0x40, 0xf5,
+        ],
+    ),
+    // packed, a bitmap
+    (
+        true,
+        2,
+        b"bar.300pk",
+        &[
+            0xf7, 0x59, 0, 0, 0xa0, 0, 0, 0, 0, 0, 0, 0, 4, 0x26, 0xae, 0, 4, 0x26, 0xae, // pre
+            0xe0, 10, 0x41, 0, 0, 0, 0, 3, 4, 0, 3, 0xb6, 0xf0, 0xf5, 0xf6, 0xf6, 0xf6,
+        ],
+    ),
 ];
 
-#[test]
-fn font_files(rt: HostRuntime) -> Result<(), Fail> {
-    let made = sample(rt.alloc(), 1)?;
-    for (name, bytes) in FILES.iter() {
-        let name = FileName::new(rt.alloc(), name)?;
-        assert_eq!(rt; made.library.get(&name), Some(*bytes));
+// The file of this name, or the document where it is empty, of a sample of n pages.
+fn file(alloc: Global, is_packed: bool, n: u32, name: &[u8]) -> Option<Vec<u8>> {
+    if n < 1 || n > 1000 {
+        return None;
     }
-    Ok(())
+    let made = if is_packed {
+        packed_sample(alloc, n).ok()?
+    } else {
+        sample(alloc, n).ok()?
+    };
+    if name.is_empty() {
+        return Some(made.document);
+    }
+    let name = FileName::new(alloc, name).ok()?;
+    made.library.copy_of(&name).ok()?
+}
+
+#[test]
+fn samples_have_these_files(rt: HostRuntime) {
+    for (is_packed, n, name, bytes) in FILES.iter() {
+        let found = file(rt.alloc(), *is_packed, *n, name);
+        assert_eq!(rt; found.as_deref(), Some(*bytes));
+    }
+}
+
+// What a packed sample has as the plain one has it: the document, and the other files.
+static SAME: [&[u8]; 5] = [b"", b"duo.tfm", b"dot.tfm", b"bar.tfm", b"duo.vf"];
+
+#[test]
+fn the_packed_sample_is_else_the_same(rt: HostRuntime) {
+    for name in SAME.iter() {
+        let packed = file(rt.alloc(), true, 2, name);
+        assert_eq!(rt; packed, file(rt.alloc(), false, 2, name));
+    }
 }
