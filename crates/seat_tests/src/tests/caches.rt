@@ -7,7 +7,7 @@ ghost use Rattle.turn_lock.specs.declared.view.Stage.TheVariants.{Idle};
 use super::{Sized, key_of, meet};
 use cache_core::{Entry, Look};
 use font_cache::{CacheSeat, FontCache};
-use one_key::{are_of_one_key, are_told};
+use one_key::are_of_one_key;
 use outside::FontKey;
 use std::alloc::{AllocError as NoMemory, Global};
 use std::sync::atomic::{AtomicU32, Ordering};
@@ -18,73 +18,8 @@ use std::thread::Threads;
 
 mod eight;
 mod one_key;
+mod shared;
 mod walk;
-
-// Seat 1 looks the key up, seat 2 does, seat 1 fills it with font 7, and seat 2 looks it up again.
-// Tells whether it was kept and no font left, and the number of the font that was found.
-fn two_seats<R: Wait>(rt: &R, alloc: Global) -> Result<(bool, u32, Vec<Entry>), NoMemory> {
-    let key = key_of(alloc, b"dot", 128)?;
-    let font = Arc::new(
-        alloc,
-        Sized {
-            size: 128,
-            number: 7,
-        },
-    )?;
-    let (cache, mut first) = FontCache::make(alloc, 2, 7)?;
-    let mut one = cache.split(&mut first);
-    let mut two = cache.split(&mut first);
-    let Look::Claimed = cache.look(rt, &mut one, &key)? else {
-        return Err(NoMemory);
-    };
-    let Look::Busy = cache.look(rt, &mut two, &key)? else {
-        return Err(NoMemory);
-    };
-    let Ok(fill) = cache.fill(rt, &mut one, &key, font) else {
-        return Err(NoMemory);
-    };
-    let Look::Hit(found) = cache.look(rt, &mut two, &key)? else {
-        return Err(NoMemory);
-    };
-    cache.join(&mut first, one);
-    cache.join(&mut first, two);
-    let kept_alone = fill.kept && fill.gone.keys().is_empty();
-    Ok((kept_alone, found.number, cache.close(first)))
-}
-
-// Seat 0 claims the key, as for a load that fails, while seat 1 is answered that it is busy. When
-// seat 0 has released it, seat 1 claims it and fills it with font 8, which seat 0 finds. Gives how
-// many turns seat 0 drew, and the number of the font.
-fn released<R: Wait>(rt: &R, alloc: Global) -> Result<(u64, u32, Vec<Entry>), NoMemory> {
-    let key = key_of(alloc, b"dot", 128)?;
-    let font = Arc::new(
-        alloc,
-        Sized {
-            size: 128,
-            number: 8,
-        },
-    )?;
-    let (cache, mut first) = FontCache::make(alloc, 1, 8)?;
-    let mut one = cache.split(&mut first);
-    let Look::Claimed = cache.look(rt, &mut first, &key)? else {
-        return Err(NoMemory);
-    };
-    let Look::Busy = cache.look(rt, &mut one, &key)? else {
-        return Err(NoMemory);
-    };
-    cache.release(rt, &mut first, &key);
-    let Look::Claimed = cache.look(rt, &mut one, &key)? else {
-        return Err(NoMemory);
-    };
-    if cache.fill(rt, &mut one, &key, font).is_err() {
-        return Err(NoMemory);
-    }
-    let Look::Hit(found) = cache.look(rt, &mut first, &key)? else {
-        return Err(NoMemory);
-    };
-    cache.join(&mut first, one);
-    Ok((first.drawn(), found.number, cache.close(first)))
-}
 
 // One look, and the end of the claim that it gave. Tells how many calls were accepted.
 fn one_round<R: Wait>(
@@ -201,30 +136,6 @@ fn two_threads<R: Threads + Wait + Sync>(rt: &R, alloc: Global) -> Option<(u32, 
     cache.join(&mut first, two);
     let entries = cache.close(first);
     Some((ones? + twos?, entries))
-}
-
-static SHARED: [(u32, char); 4] = [(1, 'c'), (2, 'b'), (1, 'f'), (2, 'h')];
-
-#[test]
-fn one_key_and_two_seats(rt: HostRuntime) -> Result<(), Fail> {
-    let (kept_alone, number, entries) = two_seats(&rt, rt.alloc())?;
-    assert_eq!(rt;
-        (kept_alone, number, are_told(&entries, &SHARED)),
-        (true, 7, true)
-    );
-    Ok(())
-}
-
-static GIVEN_UP: [(u32, char); 6] = [(0, 'c'), (1, 'b'), (0, 'r'), (1, 'c'), (1, 'f'), (0, 'h')];
-
-#[test]
-fn a_claim_given_up(rt: HostRuntime) -> Result<(), Fail> {
-    let (drawn, number, entries) = released(&rt, rt.alloc())?;
-    assert_eq!(rt;
-        (drawn, number, are_told(&entries, &GIVEN_UP)),
-        (3, 8, true)
-    );
-    Ok(())
 }
 
 #[test]
