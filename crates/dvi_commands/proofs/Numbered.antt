@@ -26,6 +26,13 @@ small_set op w high same =
     let opcode : op ≡ 0 + op = omega arith in
     subst (λ z. Spells (Set z) (op ∷ [])) (sym same) (0, high, ap (λ o. o ∷ []) opcode)
 
+-- a font with an opcode of its own
+pub small_font : (op : ℕ) (w : ℤ) → 171 ≤ op → op ≤ 234 → w ≡ pos (op - 171) → Spells (Font w) (op ∷ [])
+small_font op w low high same =
+    let opcode : op ≡ 171 + (op - 171) = omega arith in
+    let small : op - 171 ≤ 63 = omega arith in
+    subst (λ z. Spells (Font z) (op ∷ [])) (sym same) (0, small, ap (λ o. o ∷ []) opcode)
+
 pub opcode_font : (op : ℕ) (fields text : List ℕ) (w : ℤ) → 171 ≤ op → op ≤ 234 → w ≡ pos (op - 171) → length fields ≡ fixed_size op → length text ≡ text_size op fields → Spells (Font w) (op ∷ (fields ++ text))
 opcode_font op fields text w low high same whole after =
     let opcode : op ≡ 171 + (op - 171) = omega arith in

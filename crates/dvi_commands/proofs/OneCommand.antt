@@ -1,5 +1,5 @@
 -- One command at a place of bytes: why it is refused, and what it is where it isn't.
-use Rattle.std.proofs.Common.{◌≡◌, ℕ, suc, ◌+◌, ◌-◌, ◌<◌, ◌≤◌, Bool, true, false, List, ◌∷◌, ◌++◌, length, take, drop, refl, sym, ap, subst, ◌∙◌, arith, add-one, drop-cons, length-drop, length-take, Some}
+use Rattle.std.proofs.Common.{◌≡◌, ℕ, suc, ◌+◌, ◌-◌, ◌<◌, ◌≤◌, Bool, true, false, List, [], ◌∷◌, ◌++◌, length, take, drop, refl, sym, ap, subst, ◌∙◌, arith, add-one, drop-cons, length-drop, length-take, Some}
 use Rattle.std.specs.Prelude.{◌==◌, slice_index, slice_range, IsTrue}
 use Rattle.std.specs.Int.{is_in_range}
 use Rattle.std.proofs.lemmas.Bool.{le-ltb, lt-ltb, ne_eqb}
@@ -19,6 +19,12 @@ use Rattle.dvi_commands.proofs.Commands.{parted}
 
 pub prefix_of : (bytes : List ℕ) (at : ℕ) → at < length bytes → drop at bytes ≡ slice_index bytes at ∷ drop (at + 1) bytes
 prefix_of bytes at h = drop-cons bytes at 0 h ∙ ap (λ k. slice_index bytes at ∷ drop k bytes) (sym (add-one at))
+
+-- a single byte at a place
+pub one_byte : (bytes : List ℕ) (at : ℕ) → at < length bytes → slice_range bytes at (at + 1) ≡ slice_index bytes at ∷ []
+one_byte bytes at h =
+    let one : at + 1 - at ≡ 1 = omega arith in
+    ap (λ n. take n (drop at bytes)) one ∙ ap (take 1) (prefix_of bytes at h)
 
 -- all that stands after a place, as the code writes it
 pub after_place : (bytes : List ℕ) (i : ℕ) → take (length bytes - i) (drop i bytes) ≡ drop i bytes

@@ -1,6 +1,6 @@
 //! A command from its opcode, its fields and its text, where all of these are there.
 
-ghost use Rattle.std.specs.Prelude.{◌≡◌, ◌≤◌, ◌+◌, ◌-◌, ◌∷◌, ◌++◌, [], false, length, slice_index, slice_range};
+ghost use Rattle.std.specs.Prelude.{◌≡◌, ◌≤◌, ◌+◌, ◌-◌, ◌∷◌, ◌++◌, [], false, IfSome, length, slice_index, slice_range};
 ghost use Rattle.big_endian.specs.Numbers.{IsSigned, number_bytes};
 ghost use Rattle.dvi_commands.specs.Refusal.{LAST_OPCODE, fixed_size, gives_negative_length, text_size};
 ghost use Rattle.dvi_commands.specs.Spelling.{IsOperand, Spells, quad, value_of_command};
@@ -110,6 +110,23 @@ pub(crate) fn small_character<'a>(opcode: u8) -> Command<'a>
     ensures { Spells (value_of_command result) (opcode ∷ []) }
 {
     Command::Set(i32::from(opcode))
+}
+
+/// The command with an opcode that is a whole command and no character, or `None` for any other.
+#[inline(always)]
+pub(crate) fn command_alone<'a>(opcode: u8) -> Option<Command<'a>>
+    ensures { IfSome result (λ c. Spells (value_of_command c) (opcode ∷ [])) }
+{
+    match opcode {
+        141 => Some(Command::Push),
+        142 => Some(Command::Pop),
+        147 => Some(Command::W0),
+        152 => Some(Command::X0),
+        161 => Some(Command::Y0),
+        166 => Some(Command::Z0),
+        171..=234 => Some(Command::Font(i32::from(opcode - 171))),
+        _ => None,
+    }
 }
 
 /// The command with an opcode.

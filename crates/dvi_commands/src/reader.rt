@@ -6,7 +6,7 @@ ghost use Rattle.dvi_commands.specs.Refusal.{LAST_OPCODE, fixed_size, may_stand,
 ghost use Rattle.dvi_commands.specs.Spelling.{DviCommand, Spells, value_of_command};
 
 use crate::command::{Command, CommandFault, Context};
-use crate::fields::{command_with, small_character};
+use crate::fields::{command_alone, command_with, small_character};
 use big_endian::{signed, unsigned};
 
 const LAST_OPCODE: u8 = 249;
@@ -117,6 +117,9 @@ pub fn read_command<'a>(
     // Most commands of a page are characters of one byte.
     if opcode <= LAST_SMALL_CHARACTER {
         return Ok((small_character(opcode), at + 1));
+    }
+    if let Some(command) = command_alone(opcode) {
+        return Ok((command, at + 1));
     }
     let after = &bytes[at + 1..];
     let size = field_size(opcode);
