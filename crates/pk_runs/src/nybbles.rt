@@ -48,18 +48,17 @@ impl<'a> Nybbles<'a> {
             (λ i. (self.old ≡ i ∷ self.new) × (i < 16)) }
         ensures few { length self.old < 2 ^ 65 }
     {
-        let len = self.bytes.len();
-        if len == 0 {
+        // Where half a byte was read there is a byte.
+        if self.half {
+            let byte = self.bytes[0];
+            self.bytes = &self.bytes[1..];
+            self.half = false;
+            return Some(byte & 0x0f);
+        }
+        if self.bytes.is_empty() {
             return None;
         }
-        let byte = self.bytes[0];
-        if self.half {
-            self.bytes = &self.bytes[1..len];
-            self.half = false;
-            Some(byte & 0x0f)
-        } else {
-            self.half = true;
-            Some(byte >> 4)
-        }
+        self.half = true;
+        Some(self.bytes[0] >> 4)
     }
 }

@@ -5,5 +5,5 @@ use Rattle.pk_runs.proofs.nybbles.Nybbles.next.Goals as goal
 pub returns-then-self-clause-few : goal.returns-then-self-clause-few
 returns-then-self-clause-few c = few_nybbles c.self.inside.bytes.now c.args.self.now _ c.self.view_is (omega arith)
 
-pub returns-else-self-clause-few : goal.returns-else-self-clause-few
-returns-else-self-clause-few c = few_nybbles c.self.inside.bytes.now c.args.self.now _ c.self.view_is (omega arith)
+pub returns-clause-few : goal.returns-clause-few
+returns-clause-few c = few_nybbles c.self.inside.bytes.now c.args.self.now _ c.self.view_is (omega arith)
