@@ -10,6 +10,7 @@ pub mod Kept
 pub mod RowWords
 pub mod Steps
 pub mod Within
+pub mod Overruns
 pub mod Complete
 pub mod PlainWords
 pub mod Empty

@@ -75,7 +75,7 @@ left_is first items w h p d =
     ∙ ap (λ k. (w - p.column) + w * (h - (p.row + 1 + k))) (at_copies first items w h p d)
 
 -- the room of a row and of those below it, without subtraction
-times_rest : (w h k : ℕ) → k ≤ h → w * (h - k) + w * k ≡ w * h
+pub times_rest : (w h k : ℕ) → k ≤ h → w * (h - k) + w * k ≡ w * h
 times_rest w h k fit =
     let whole : h - k + k ≡ h = omega (arith, fit) in
     omega (arith, ap (λ z. w * z) whole)

@@ -1,5 +1,6 @@
 //! Runs, painted row after row on a raster of less than sixty-four columns.
 
+use crate::faults::RunFault;
 use crate::row_words::{last, prefix, turned_from, word_of};
 use packed_rows::{PackedBitmap, Span};
 use std::marker::Model;
@@ -40,7 +41,8 @@ impl Model for NarrowPainter {
 }
 
 impl NarrowPainter {
-    ghost use Rattle.std.specs.Prelude.{◌≡◌, ◌+◌, ◌-◌, ◌*◌, ◌^◌, ◌<◌, ◌≤◌, ◌++◌, ℕ, Bool, false, not, List, replicate, true, IsTrue, ◌↔◌};
+    ghost use Rattle.std.specs.Prelude.{◌≡◌, ◌+◌, ◌-◌, ◌*◌, ◌^◌, ◌<◌, ◌≤◌, ◌++◌, ℕ, Bool, false, not, List, replicate, true, OnOk, IfErr};
+    ghost use Rattle.pk_runs.specs.declared.faults.RunFault.TheVariants.{Overrun};
     ghost use Rattle.packed_rows.specs.Changes.{white_bitmap};
     ghost use Rattle.pk_runs.specs.Painting.{painted, row_ended, IsReady, IsDrawn};
 
@@ -80,14 +82,14 @@ impl NarrowPainter {
         requires low { self.old.row + self.old.copies < self.old.bits.height }
         ensures { self.new ≡ row_ended self.old }
     {
-        let below = self.row + 1 + self.copies;
+        let below = self.row as usize + 1 + self.copies as usize;
         let rows = Span {
             from: self.row as usize,
-            until: below as usize,
+            until: below,
         };
         self.bits.join_rows(prefix(self.word, self.column), rows);
         self.word = word_of(last(self.word));
-        self.row = below;
+        self.row = below as u32;
         self.column = 0;
         self.copies = 0;
         self.repeated = false;
@@ -118,31 +120,40 @@ impl NarrowPainter {
     }
 
     /// Paints a run of n pixels in the colour that is due, over row ends. The next run has the
-    /// other colour.
-    pub fn run(&mut self, n: u32)
+    /// other colour. `Overrun` where runs don't have n pixels to give: then only the rows that they
+    /// have are painted.
+    pub fn run(&mut self, n: u64) -> Result<(), RunFault>
         requires short { self.old.bits.height < 2 ^ 16 }
         requires inside { self.old.column < self.old.bits.width }
         requires ready { IsReady self.old }
-        requires room { n + self.old.column + self.old.bits.width * self.old.copies
-            + self.old.bits.width * self.old.row
-            ≤ self.old.bits.width * self.old.bits.height }
-        ensures turned { self.new.black ≡ not self.old.black }
+        requires low { self.old.row < self.old.bits.height }
         ensures ready { IsReady self.new }
         ensures wide { self.new.bits.width ≡ self.old.bits.width }
         ensures high { self.new.bits.height ≡ self.old.bits.height }
-        ensures drawn { (ps : List Bool) (copies_of : ℕ → ℕ) (is_repeated : ℕ → Bool) →
+        ensures turned { OnOk result (self.new.black ≡ not self.old.black) }
+        ensures drawn { OnOk result ((ps : List Bool) (copies_of : ℕ → ℕ) (is_repeated : ℕ → Bool) →
             IsDrawn ps copies_of is_repeated self.old.bits.width self.old.bits.height self.old →
             IsDrawn (ps ++ replicate n self.old.black) copies_of is_repeated self.old.bits.width
-            self.old.bits.height self.new }
+            self.old.bits.height self.new) }
+        ensures room { OnOk result (n ≤ (self.old.bits.width - self.old.column)
+            + self.old.bits.width * (self.old.bits.height - (self.old.row + 1 + self.old.copies))) }
+        ensures overrun { IfErr result (λ fault. (fault ≡ Overrun)
+            × ((self.old.bits.width - self.old.column)
+            + self.old.bits.width * (self.old.bits.height - (self.old.row + 1 + self.old.copies))
+            < n)) }
     {
         let mut left = n;
-        while left >= self.left() {
+        while left >= u64::from(self.left()) {
             let piece = self.left();
             self.paint(piece);
             self.end_row();
-            left -= piece;
+            left -= u64::from(piece);
+            if left > 0 && self.row == self.bits.height() {
+                return Err(RunFault::Overrun);
+            }
         }
-        self.run_within(left);
+        self.run_within(left as u32);
+        Ok(())
     }
 
     /// Takes a repeat count for the next row.
@@ -173,21 +184,6 @@ impl NarrowPainter {
         ensures { result ≡ self.now.bits.height - self.now.row - 1 }
     {
         self.bits.height() - self.row - 1
-    }
-
-    /// Whether runs still have n pixels to give.
-    pub fn has_room(&self, n: u64) -> bool
-        requires short { self.now.bits.height < 2 ^ 16 }
-        requires fit { self.now.row + 1 + self.now.copies ≤ self.now.bits.height }
-        ensures { IsTrue result ↔ n ≤ (self.now.bits.width - self.now.column)
-            + self.now.bits.width * (self.now.bits.height - (self.now.row + 1 + self.now.copies)) }
-    {
-        let left = self.left();
-        if n < u64::from(left) {
-            return true;
-        }
-        let rows = self.bits.height() - (self.row + 1 + self.copies);
-        n <= u64::from(left + self.bits.width() * rows)
     }
 
     /// The raster.

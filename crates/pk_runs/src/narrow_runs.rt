@@ -73,10 +73,7 @@ fn step(painter: &mut NarrowPainter, nybbles: &mut Nybbles, dyn_f: u8) -> Result
 {
     match runs_in_row(painter, nybbles, dyn_f)? {
         PackedNumber::Run(n) => {
-            if !painter.has_room(n) {
-                return Err(RunFault::Overrun);
-            }
-            painter.run(n as u32);
+            painter.run(n)?;
         }
         PackedNumber::Repeat(n) => {
             if n > u64::from(painter.rows_below()) {
