@@ -2,7 +2,7 @@
 use Rattle.std.specs.Prelude.{◌≡◌, ◌<◌, ℕ, ◌-◌, ℤ, unsigned_abs, Bool, List, Option, Some, IfSome, IsTrue}
 use Rattle.std.specs.Arc.{arc_value}
 use Rattle.outside.specs.declared.keys.FontKey.{FontKey}
-use Rattle.dvi_commands.specs.Spelling.{DviCommand, SetRule, PutRule, Right, W, X, Down, Y, Z}
+use Rattle.dvi_commands.specs.Spelling.{DviCommand, Set, Put, Font, SetRule, PutRule, Right, W, X, Down, Y, Z}
 use Rattle.dvi_commands.specs.Reading.{commands_of}
 use Rattle.drift_rules.specs.Position.{FlatCommand, Char, value_of_flat}
 use Rattle.drift_rules.specs.Position as flat
@@ -55,6 +55,13 @@ HasDimensions place (Down a) = IsDimension place a
 HasDimensions place (Y a) = IsDimension place a
 HasDimensions place (Z a) = IsDimension place a
 HasDimensions place _ = Unit {0}
+
+-- characters and font changes: every other command gives one flat command, whatever font is current
+abbrev pub GivesNoFlat : DviCommand → Type 0
+GivesNoFlat (Set c) = Unit {0}
+GivesNoFlat (Put c) = Unit {0}
+GivesNoFlat (Font number) = Unit {0}
+GivesNoFlat _ = ⊥
 
 -- what a command makes of the current font, its position and what stands after it
 abbrev pub Meaning : Type 0

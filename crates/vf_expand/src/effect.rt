@@ -1,12 +1,13 @@
 //! What one command gives, by where it is and which font is current.
-ghost use Rattle.std.specs.Prelude.{◌≡◌, ℕ, IfOk};
+ghost use Rattle.std.specs.Prelude.{◌≡◌, ℕ, IfOk, IfSome, IsNone};
 ghost use Rattle.std.specs.Arc.{arc_value};
 ghost use Rattle.dvi_commands.specs.Spelling.{value_of_command};
 ghost use Rattle.font_decode.specs.Fonts.{first_local_of};
 ghost use Rattle.drift_rules.specs.Bounds.{IsNumber};
 ghost use Rattle.vf_expand.specs.Course.{dimension, no_local};
 ghost use Rattle.vf_expand.specs.Faults.{value_of_fault};
-ghost use Rattle.vf_expand.specs.Effects.{HasEffect, ChangeHasEffect, EffectFits, HasDimensions, HasKey, IsDimension, value_of_current, value_of_place};
+ghost use Rattle.vf_expand.specs.Effects.{HasEffect, ChangeHasEffect, EffectFits, GivesNoFlat, HasDimensions, HasKey, IsDimension, value_of_current, value_of_place};
+ghost use Rattle.vf_expand.specs.declared.effect.Effect.TheVariants as effect;
 
 use crate::character::character;
 use crate::current::{Current, space_of};
@@ -93,26 +94,19 @@ fn change(
     }
 }
 
-/// What a command gives, where n packets may be nested.
+/// The flat command that a command gives by itself: `None` for a character and a font change.
 #[inline(always)]
-pub fn effect_of(
-    keys: &mut PageKeys,
-    place: Place,
-    room: usize,
-    current: &Current,
-    command: &Command,
-) -> Result<Effect, NoMemory>
+pub fn flat_of(place: Place, current: &Current, command: &Command) -> Option<Flat>
     requires key { HasKey (value_of_current current.now) }
     requires dimensions { HasDimensions (value_of_place place) (value_of_command command.now) }
-    ensures has_effect { IfOk result (HasEffect (value_of_place place.entry) room
-        (value_of_current current.now) (value_of_command command.now)) }
-    ensures fits { IfOk result EffectFits }
+    ensures has_effect { IfSome result (λ flat. (n : ℕ) → HasEffect (value_of_place place.entry) n
+        (value_of_current current.now) (value_of_command command.now) (effect.Flat flat)) }
+    ensures fits { IfSome result (λ flat. EffectFits (effect.Flat flat)) }
+    ensures none { IsNone result → GivesNoFlat (value_of_command command.now) }
 {
     let space = space_of(current);
     let flat = match command {
-        Command::Set(code) => return character(keys, place, room, current, *code, false),
-        Command::Put(code) => return character(keys, place, room, current, *code, true),
-        Command::Font(number) => return change(keys, place, current, *number),
+        Command::Set(_) | Command::Put(_) | Command::Font(_) => return None,
         Command::SetRule { height, width } => Flat::Rule {
             height: dimension_of(place, *height),
             width: dimension_of(place, *width),
@@ -155,5 +149,31 @@ pub fn effect_of(
         Command::Pop => Flat::Pop,
         _ => Flat::Skip,
     };
-    Ok(Effect::Flat(flat))
+    Some(flat)
+}
+
+/// What a command gives, where n packets may be nested.
+#[inline(always)]
+pub fn effect_of(
+    keys: &mut PageKeys,
+    place: Place,
+    room: usize,
+    current: &Current,
+    command: &Command,
+) -> Result<Effect, NoMemory>
+    requires key { HasKey (value_of_current current.now) }
+    requires dimensions { HasDimensions (value_of_place place) (value_of_command command.now) }
+    ensures has_effect { IfOk result (HasEffect (value_of_place place.entry) room
+        (value_of_current current.now) (value_of_command command.now)) }
+    ensures fits { IfOk result EffectFits }
+{
+    match command {
+        Command::Set(code) => character(keys, place, room, current, *code, false),
+        Command::Put(code) => character(keys, place, room, current, *code, true),
+        Command::Font(number) => change(keys, place, current, *number),
+        _ => match flat_of(place, current, command) {
+            Some(flat) => Ok(Effect::Flat(flat)),
+            None => unreachable!(),
+        },
+    }
 }

@@ -1,12 +1,13 @@
 //! The steps of a page, by what stands next.
-ghost use Rattle.std.specs.Prelude.{◌≡◌, Some, None, IfOk, OnErr};
+ghost use Rattle.std.specs.Prelude.{◌≡◌, Some, None, IfOk, IfSome, IsNone, OnErr};
 ghost use Rattle.vf_expand.specs.Expansion.{IsEnded};
 ghost use Rattle.vf_expand.specs.Steps.{StepFits, Steps};
+ghost use Rattle.vf_expand.specs.declared.step.Step.TheVariants as step;
 
 use super::Expander;
 use crate::current::Current;
 use crate::current_level::current_level;
-use crate::effect::{Effect, effect_of};
+use crate::effect::{Effect, effect_of, flat_of};
 use crate::outer_levels::MAX_DEPTH;
 use crate::pending::Pending;
 use crate::{Lack, PageFault, Step};
@@ -56,9 +57,55 @@ impl<'a> Expander<'a> {
         Step::Flat(Flat::Leave)
     }
 
+    // The flat command that the next command gives by itself. `None` where anything else stands next,
+    // and where no more may be given: then nothing has changed.
+    #[inline(always)]
+    fn next_flat(&mut self) -> Option<Flat>
+        requires nothing_pending { self.old.pending ≡ None }
+        ensures step { IfSome result (λ flat. Steps self.old (step.Flat flat) self.new) }
+        ensures fits { IfSome result (λ flat. StepFits (step.Flat flat)) }
+        ensures none { IsNone result → self.new ≡ self.old }
+    {
+        let reading = current_level(
+            self.index,
+            self.bytes,
+            self.start,
+            &self.level,
+            &self.outer,
+            self.progress.at,
+        );
+        let at = reading.at;
+        if self.level.pos == reading.text.len() || self.progress.budget == 0 {
+            return None;
+        }
+        // Characters and font changes are seen by their opcode, before their fields are read.
+        if matches!(reading.text[self.level.pos], 0..=131 | 133..=136 | 171..=238) {
+            return None;
+        }
+        let (command, end) = command_at(reading.text, self.level.pos, reading.context);
+        let flat = flat_of(reading.place, &self.level.current, &command)?;
+        self.level.pos = end;
+        self.progress = self.progress.after_flat(at, false);
+        Some(flat)
+    }
+
     // The next command, whatever it is, or the end.
     #[inline(never)]
     pub(super) fn expand(&mut self) -> Result<Step, NoMemory>
+        requires nothing_pending { self.old.pending ≡ None }
+        ensures step { IfOk result (λ step. Steps self.old step self.new) }
+        ensures fits { IfOk result StepFits }
+        ensures err { OnErr result (self.new ≡ self.old) }
+    {
+        match self.next_flat() {
+            Some(flat) => Ok(Step::Flat(flat)),
+            None => self.expand_any(),
+        }
+    }
+
+    // The same. In a function of its own, whose many locals needn't be cleared for most commands.
+    #[inline(never)]
+    fn expand_any(&mut self) -> Result<Step, NoMemory>
         requires nothing_pending { self.old.pending ≡ None }
         ensures step { IfOk result (λ step. Steps self.old step self.new) }
         ensures fits { IfOk result StepFits }

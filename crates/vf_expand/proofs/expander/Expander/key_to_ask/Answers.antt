@@ -1,7 +1,6 @@
 use Rattle.std.proofs.Common.{◌≡◌, ◌∙◌, ◌<◌, ◌+◌, ◌-◌, refl, ap, arith, length, sym, subst}
 use Rattle.std.specs.Arc.{arc_value}
-use Rattle.outside.specs.FontKeys.{IsFontKey}
-use Rattle.vf_expand.specs.Course.{Current, Chosen}
+use Rattle.vf_expand.specs.Course.{Chosen}
 use Rattle.vf_expand.specs.Limits.{MAX_DEPTH}
 use Rattle.vf_expand.specs.Levels.{stack_of}
 use Rattle.vf_expand.specs.Effects.{HasKey, value_of_current, value_of_place}

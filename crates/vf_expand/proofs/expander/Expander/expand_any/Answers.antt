@@ -15,7 +15,7 @@ use Rattle.vf_expand.specs.declared.current.Current.TheVariants as code
 use Rattle.vf_expand.proofs.Heads.{depth_is, ended, head_at, late_stack, stack_same, still_at}
 use Rattle.vf_expand.proofs.Levels.{dimensions_at, entered_levels, has_key, read_on_at}
 use Rattle.vf_expand.proofs.Steps.{ask_step, change_step, enter_step, flat_step, lack_step, lack_stop_step, late_step, mark_step, stop_step}
-use Rattle.vf_expand.proofs.expander.Expander.expand.Goals as goal
+use Rattle.vf_expand.proofs.expander.Expander.expand_any.Goals as goal
 
 pub ended-requires-clause-ended : goal.ended-requires-clause-ended
 ended-requires-clause-ended c =
