@@ -57,8 +57,8 @@ impl<'a> Expander<'a> {
         Step::Flat(Flat::Leave)
     }
 
-    // The flat command that the next command gives by itself. `None` where anything else stands next,
-    // and where no more may be given: then nothing has changed.
+    // The flat command that the next command gives by itself. `None` where anything else stands
+    // next, and where no more may be given: then nothing has changed.
     #[inline(always)]
     fn next_flat(&mut self) -> Option<Flat>
         requires nothing_pending { self.old.pending ≡ None }
