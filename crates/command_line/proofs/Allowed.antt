@@ -97,7 +97,6 @@ are_settings us r sampled =
         left = left.1;
         top = top.1;
       };
-      strict = refl;
       workers = within_or 1 32 1 (codes "workers") us r.workers (omega arith) (omega arith);
       cache = within_or 1 256 16 (codes "cache") us r.cache (omega arith) (omega arith);
       room = (within_or 0 MAX_ROOM MAX_ROOM (codes "room") us r.room (omega arith) (omega arith)).1;

@@ -11,6 +11,7 @@ pub mod Spelled
 pub mod ShapedLemmas
 pub mod Answers
 pub mod Allowed
+pub mod Switches
 pub mod Named
 pub mod Apart
 pub mod Orders

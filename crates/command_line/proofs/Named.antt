@@ -1,61 +1,26 @@
 -- All settings within their limits can be given.
 use Rattle.std.proofs.Common.{◌≡◌, ◌∙◌, ◌≤◌, ◌<◌, ◌^◌, ◌&&◌, ℕ, Bool, cond, true, false, List}
-use Rattle.std.proofs.Common.{[], ◌∷◌, ◌++◌, length, Option, Some, None, codes, decimal, refl, sym, ap}
+use Rattle.std.proofs.Common.{◌∷◌, Option, Some, None, codes, decimal, refl, ap}
 use Rattle.std.proofs.Common.{arith, le-leb}
-use Rattle.std.specs.Prelude.{IfSome, IsSome, IsTrue, find, nat_le, option_and_then}
+use Rattle.std.specs.Prelude.{IfSome, IsSome, IsTrue, bytes_eq, nat_le, option_and_then}
 use Rattle.std.specs.List.{list_all}
-use Rattle.std.specs.Option.{option_map_or}
 use Rattle.std.specs.Str.Parse.{digits_value}
 use Rattle.std.proofs.lemmas.Bool.{and_from}
-use Rattle.std.proofs.lemmas.Fmt.{decimal_nonempty, digits_decimal, digits_value-decimal}
-use Rattle.std.proofs.lemmas.Fmt.{length-decimal-le}
 use Rattle.pixel_round.specs.Limits.{MAX_RESOLUTION}
 use Rattle.raster_page.specs.Limits.{MAX_PAGE_SIDE}
 use Rattle.command_line.specs.declared.settings.Settings.{Settings}
 use Rattle.command_line.specs.Limits.{MAX_ROOM}
 use Rattle.command_line.specs.Settings.{AreSettings}
-use Rattle.command_line.specs.Line.{Choice, Text, Use, are_distinct, choices, has_sample}
-use Rattle.command_line.specs.Line.{is_in_range, is_named, is_short, is_used}
-use Rattle.command_line.specs.Line.{is_value, is_within, number_in, number_of, settings_among}
-use Rattle.command_line.specs.Line.{settings_from, settings_of, switch, uses_from, uses_of}
-use Rattle.command_line.specs.Laws.{naming_all, naming_if, naming_some}
-use Rattle.command_line.proofs.Digits.{own}
-
--- ---- numbers in decimal
-
-told : (n : ℕ) → n < 10 ^ 10 → digits_value 10 (decimal n) ≡ n
-told n small = digits_value-decimal own n (omega arith)
-
-is_value-decimal : (n : ℕ) → n < 10 ^ 10 → is_value (decimal n) ≡ true
-is_value-decimal n small =
-    let fits : n < 2 ^ 64 = omega arith in
-    let few : length (decimal n) ≤ 10 = length-decimal-le 10 n (omega arith) small fits in
-    and_from _ _ (and_from _ _ (le-leb 1 _ (decimal_nonempty n fits)) (le-leb _ 10 few))
-    (digits_decimal own n fits)
-
--- where the bounds leave a number no more digits
-few_digits : (digits n : ℕ) → 1 ≤ digits → n < 10 ^ digits → n < 2 ^ 64
-    → nat_le (length (decimal n)) digits ≡ true
-few_digits digits n some small fits =
-    le-leb _ digits (length-decimal-le digits n some small fits)
+use Rattle.command_line.specs.Line.{Text, Use, are_distinct, choices, has_sample}
+use Rattle.command_line.specs.Line.{is_in_range, is_short, is_used}
+use Rattle.command_line.specs.Line.{is_within, number_in, number_of, settings_among}
+use Rattle.command_line.specs.Line.{settings_from, settings_of, uses_of}
+use Rattle.command_line.specs.Laws.{naming_all}
+use Rattle.command_line.proofs.Switches.{few_digits, is_value-decimal, more_distinct, more_spelled}
+use Rattle.command_line.proofs.Switches.{more_uses, packed_is, sample_is, sample_short, summary_is}
+use Rattle.command_line.proofs.Switches.{told, tolerant_is, trace_is, unnamed, use_of}
 
 -- ---- the uses that name the settings
-
-abbrev use_of : Choice → ℕ → Use
-use_of c n = record { choice = c; value = decimal n }
-
-abbrev sample_uses : Option ℕ → List Use
-sample_uses None = []
-sample_uses (Some n) = use_of (number_in (codes "sample") 1 1000) n ∷ []
-
-abbrev switch_uses : Text → Bool → List Use
-switch_uses name true = record { choice = switch name; value = [] } ∷ []
-switch_uses name false = []
-
-abbrev more_uses : Option ℕ → (packed trace summary : Bool) → List Use
-more_uses sample packed trace summary = sample_uses sample
-    ++ (switch_uses (codes "packed") packed
-    ++ (switch_uses (codes "trace") trace ++ switch_uses (codes "summary") summary))
 
 abbrev uses_for : Settings → List Use
 uses_for s = use_of (number_in (codes "res") 1 MAX_RESOLUTION) s.res
@@ -66,32 +31,7 @@ uses_for s = use_of (number_in (codes "res") 1 MAX_RESOLUTION) s.res
     ∷ use_of (number_in (codes "workers") 1 32) s.workers
     ∷ use_of (number_in (codes "cache") 1 256) s.cache
     ∷ use_of (number_in (codes "room") 0 MAX_ROOM) s.room
-    ∷ more_uses s.sample s.packed s.trace s.summary
-
-switches : (packed trace summary : Bool)
-    → uses_from choices None (naming_if (codes "packed") packed
-    ++ (naming_if (codes "trace") trace ++ naming_if (codes "summary") summary))
-    ≡ Some (switch_uses (codes "packed") packed
-    ++ (switch_uses (codes "trace") trace ++ switch_uses (codes "summary") summary))
-switches true true true = refl
-switches true true false = refl
-switches true false true = refl
-switches true false false = refl
-switches false true true = refl
-switches false true false = refl
-switches false false true = refl
-switches false false false = refl
-
-more_spelled : (sample : Option ℕ) (packed trace summary : Bool)
-    → IfSome sample (λ n. (1 ≤ n) × (n ≤ 1000))
-    → uses_from choices None (naming_some (codes "sample") sample
-    ++ (naming_if (codes "packed") packed
-    ++ (naming_if (codes "trace") trace ++ naming_if (codes "summary") summary)))
-    ≡ Some (more_uses sample packed trace summary)
-more_spelled None packed trace summary h = switches packed trace summary
-more_spelled (Some n) packed trace summary h =
-    let small : n < 10 ^ 10 = omega (arith, h.1) in
-    rw (is_value-decimal n small, switches packed trace summary) refl
+    ∷ more_uses s.sample s.packed s.trace s.summary s.sheet.tolerant
 
 spelled : (s : Settings) → AreSettings s → uses_of (naming_all s) ≡ Some (uses_for s)
 spelled s h =
@@ -103,103 +43,34 @@ spelled s h =
     let workers = is_value-decimal s.workers (omega (arith, h.workers.1)) in
     let cache = is_value-decimal s.cache (omega (arith, h.cache.1)) in
     let room = is_value-decimal s.room (omega (arith, h.room)) in
-    let more = more_spelled s.sample s.packed s.trace s.summary h.sample in
+    let more = more_spelled s.sample s.packed s.trace s.summary s.sheet.tolerant h.sample in
     rw (res, width, height, left, top, workers, cache, room, more) refl
 
 -- ---- what these uses set
 
+-- a name is none of a sample and of the switches
+abbrev IsApart : Text → Type 0
+IsApart name = (bytes_eq (codes "sample") name ≡ false) × (bytes_eq (codes "packed") name ≡ false)
+    × (bytes_eq (codes "trace") name ≡ false) × (bytes_eq (codes "summary") name ≡ false)
+    × (bytes_eq (codes "tolerant") name ≡ false)
+
+none_more : (s : Settings) (name : Text) → IsApart name
+    → is_used name (more_uses s.sample s.packed s.trace s.summary s.sheet.tolerant) ≡ false
+none_more s name h =
+    unnamed s.packed s.trace s.summary s.sheet.tolerant name s.sample h.0 h.1 h.2 h.3 h.4
+
 distinct : (s : Settings) → are_distinct (uses_for s) ≡ true
-distinct s = go s.sample s.packed s.trace s.summary
-  where
-    go : (sample : Option ℕ) (packed trace summary : Bool)
-        → are_distinct (uses_for (record s { sample = sample; packed = packed; trace = trace; summary = summary }))
-        ≡ true
-    go None true true true = refl
-    go None true true false = refl
-    go None true false true = refl
-    go None true false false = refl
-    go None false true true = refl
-    go None false true false = refl
-    go None false false true = refl
-    go None false false false = refl
-    go (Some n) true true true = refl
-    go (Some n) true true false = refl
-    go (Some n) true false true = refl
-    go (Some n) true false false = refl
-    go (Some n) false true true = refl
-    go (Some n) false true false = refl
-    go (Some n) false false true = refl
-    go (Some n) false false false = refl
-
-sample_is : (sample : Option ℕ) (packed trace summary : Bool)
-    → IfSome sample (λ n. (1 ≤ n) × (n ≤ 1000))
-    → number_of (codes "sample") (more_uses sample packed trace summary) ≡ sample
-sample_is None true true true h = refl
-sample_is None true true false h = refl
-sample_is None true false true h = refl
-sample_is None true false false h = refl
-sample_is None false true true h = refl
-sample_is None false true false h = refl
-sample_is None false false true h = refl
-sample_is None false false false h = refl
-sample_is (Some n) packed trace summary h = ap Some (told n (omega arith))
-
-packed_is : (sample : Option ℕ) (packed trace summary : Bool)
-    → is_used (codes "packed") (more_uses sample packed trace summary) ≡ packed
-packed_is None true true true = refl
-packed_is None true true false = refl
-packed_is None true false true = refl
-packed_is None true false false = refl
-packed_is None false true true = refl
-packed_is None false true false = refl
-packed_is None false false true = refl
-packed_is None false false false = refl
-packed_is (Some n) true true true = refl
-packed_is (Some n) true true false = refl
-packed_is (Some n) true false true = refl
-packed_is (Some n) true false false = refl
-packed_is (Some n) false true true = refl
-packed_is (Some n) false true false = refl
-packed_is (Some n) false false true = refl
-packed_is (Some n) false false false = refl
-
-trace_is : (sample : Option ℕ) (packed trace summary : Bool)
-    → is_used (codes "trace") (more_uses sample packed trace summary) ≡ trace
-trace_is None true true true = refl
-trace_is None true true false = refl
-trace_is None true false true = refl
-trace_is None true false false = refl
-trace_is None false true true = refl
-trace_is None false true false = refl
-trace_is None false false true = refl
-trace_is None false false false = refl
-trace_is (Some n) true true true = refl
-trace_is (Some n) true true false = refl
-trace_is (Some n) true false true = refl
-trace_is (Some n) true false false = refl
-trace_is (Some n) false true true = refl
-trace_is (Some n) false true false = refl
-trace_is (Some n) false false true = refl
-trace_is (Some n) false false false = refl
-
-summary_is : (sample : Option ℕ) (packed trace summary : Bool)
-    → is_used (codes "summary") (more_uses sample packed trace summary) ≡ summary
-summary_is None true true true = refl
-summary_is None true true false = refl
-summary_is None true false true = refl
-summary_is None true false false = refl
-summary_is None false true true = refl
-summary_is None false true false = refl
-summary_is None false false true = refl
-summary_is None false false false = refl
-summary_is (Some n) true true true = refl
-summary_is (Some n) true true false = refl
-summary_is (Some n) true false true = refl
-summary_is (Some n) true false false = refl
-summary_is (Some n) false true true = refl
-summary_is (Some n) false true false = refl
-summary_is (Some n) false false true = refl
-summary_is (Some n) false false false = refl
+distinct s =
+    let res = none_more s (codes "res") (refl, refl, refl, refl, refl) in
+    let width = none_more s (codes "width") (refl, refl, refl, refl, refl) in
+    let height = none_more s (codes "height") (refl, refl, refl, refl, refl) in
+    let left = none_more s (codes "left") (refl, refl, refl, refl, refl) in
+    let top = none_more s (codes "top") (refl, refl, refl, refl, refl) in
+    let workers = none_more s (codes "workers") (refl, refl, refl, refl, refl) in
+    let cache = none_more s (codes "cache") (refl, refl, refl, refl, refl) in
+    let room = none_more s (codes "room") (refl, refl, refl, refl, refl) in
+    let more = more_distinct s.packed s.trace s.summary s.sheet.tolerant s.sample in
+    rw (res, width, height, left, top, workers, cache, room, more) refl
 
 -- the numbers are those of the settings
 record AreTold (s : Settings) : Type 0 where
@@ -208,11 +79,11 @@ record AreTold (s : Settings) : Type 0 where
   height : digits_value 10 (decimal s.sheet.height) ≡ s.sheet.height
   left : digits_value 10 (decimal s.sheet.left) ≡ s.sheet.left
   top : digits_value 10 (decimal s.sheet.top) ≡ s.sheet.top
-  strict : false ≡ s.sheet.tolerant
   workers : digits_value 10 (decimal s.workers) ≡ s.workers
   cache : digits_value 10 (decimal s.cache) ≡ s.cache
   room : digits_value 10 (decimal s.room) ≡ s.room
-  sample : number_of (codes "sample") (more_uses s.sample s.packed s.trace s.summary) ≡ s.sample
+  sample : number_of (codes "sample")
+      (more_uses s.sample s.packed s.trace s.summary s.sheet.tolerant) ≡ s.sample
 
 all_told : (s : Settings) → AreSettings s → AreTold s
 all_told s h = record {
@@ -221,11 +92,10 @@ all_told s h = record {
   height = told s.sheet.height (omega (arith, h.sheet.height));
   left = told s.sheet.left (omega (arith, h.sheet.left));
   top = told s.sheet.top (omega (arith, h.sheet.top));
-  strict = sym h.strict;
   workers = told s.workers (omega (arith, h.workers.1));
   cache = told s.cache (omega (arith, h.cache.1));
   room = told s.room (omega (arith, h.room));
-  sample = sample_is s.sample s.packed s.trace s.summary h.sample;
+  sample = sample_is s.packed s.trace s.summary s.sheet.tolerant s.sample h.sample;
 }
 
 bounds : (least most n given : ℕ) → given ≡ n → least ≤ n → n ≤ most
@@ -237,21 +107,6 @@ sample_bounds : (sample given : Option ℕ) → given ≡ sample
 sample_bounds None given e h = rw e refl
 sample_bounds (Some n) given e h =
     rw e (and_from _ _ (le-leb 1 n h.0) (le-leb n 1000 h.1))
-
-sample_short : (sample : Option ℕ) (packed trace summary : Bool)
-    → IfSome sample (λ n. (1 ≤ n) × (n ≤ 1000))
-    → option_map_or (λ (u : Use). nat_le (length u.value) 7)
-    (find (is_named (codes "sample")) (more_uses sample packed trace summary)) true ≡ true
-sample_short (Some n) packed trace summary h =
-    few_digits 7 n (omega arith) (omega (arith, h.1)) (omega (arith, h.1))
-sample_short None true true true h = refl
-sample_short None true true false h = refl
-sample_short None true false true h = refl
-sample_short None true false false h = refl
-sample_short None false true true h = refl
-sample_short None false true false h = refl
-sample_short None false false true h = refl
-sample_short None false false false h = refl
 
 shorts : (s : Settings) → AreSettings s → list_all (is_short (uses_for s)) choices ≡ true
 shorts s h =
@@ -266,7 +121,8 @@ shorts s h =
     (and_from _ _ (seven s.workers (omega (arith, h.workers.1)))
     (and_from _ _ (seven s.cache (omega (arith, h.cache.1)))
     (and_from _ _ ten
-    (and_from _ _ (sample_short s.sample s.packed s.trace s.summary h.sample) refl))))))))
+    (and_from _ _ (sample_short s.packed s.trace s.summary s.sheet.tolerant s.sample h.sample)
+    refl))))))))
 
 ranges : (s : Settings) → AreSettings s → AreTold s
     → list_all (is_in_range (uses_for s)) choices ≡ true
@@ -283,9 +139,10 @@ ranges s h t =
 
 same : (s : Settings) → AreTold s → settings_from (uses_for s) ≡ s
 same s t =
-    let packed = packed_is s.sample s.packed s.trace s.summary in
-    let trace = trace_is s.sample s.packed s.trace s.summary in
-    let summary = summary_is s.sample s.packed s.trace s.summary in
+    let packed = packed_is s.packed s.trace s.summary s.sheet.tolerant s.sample in
+    let trace = trace_is s.packed s.trace s.summary s.sheet.tolerant s.sample in
+    let summary = summary_is s.packed s.trace s.summary s.sheet.tolerant s.sample in
+    let tolerant = tolerant_is s.packed s.trace s.summary s.sheet.tolerant s.sample in
     λ i. record {
       res = t.res i;
       sheet = record {
@@ -293,7 +150,7 @@ same s t =
         height = t.height i;
         left = t.left i;
         top = t.top i;
-        tolerant = t.strict i;
+        tolerant = tolerant i;
       };
       workers = t.workers i;
       cache = t.cache i;
@@ -313,7 +170,7 @@ sampled : (s : Settings) → AreSettings s → AreTold s
     → has_sample (is_used (codes "packed") (uses_for s)) (number_of (codes "sample") (uses_for s))
     ≡ true
 sampled s h t =
-    rw (packed_is s.sample s.packed s.trace s.summary, t.sample)
+    rw (packed_is s.packed s.trace s.summary s.sheet.tolerant s.sample, t.sample)
     (with_sample s.packed s.sample h.packed)
 
 chosen : (b : Bool) (x s : Settings) → b ≡ true → x ≡ s → cond b (Some x) None ≡ Some s

@@ -153,7 +153,7 @@ chosen_by workers distinct finds used =
         height = unwrap_or (numbers (codes "height")) (min MAX_PAGE_SIDE (11 * res));
         left = unwrap_or (numbers (codes "left")) res;
         top = unwrap_or (numbers (codes "top")) res;
-        tolerant = false;
+        tolerant = used (codes "tolerant");
       };
       workers = unwrap_or (numbers (codes "workers")) 1;
       cache = unwrap_or (numbers (codes "cache")) 16;

@@ -59,7 +59,9 @@ naming_all s = naming (codes "res") s.res
     ∷ naming (codes "room") s.room
     ∷ naming_some (codes "sample") s.sample
     ++ (naming_if (codes "packed") s.packed
-    ++ (naming_if (codes "trace") s.trace ++ naming_if (codes "summary") s.summary))
+    ++ (naming_if (codes "trace") s.trace
+    ++ (naming_if (codes "summary") s.summary
+    ++ naming_if (codes "tolerant") s.sheet.tolerant)))
 
 -- all settings within their limits can be given
 abbrev pub AllSettingsCanBeGiven : Type 0

@@ -1,5 +1,5 @@
 -- The settings that a list of arguments gives.
-use Rattle.std.specs.Prelude.{◌*◌, ◌/◌, ◌==◌, ◌&&◌, ◌||◌, ℕ, Bool, true, false, not, min, nat_le}
+use Rattle.std.specs.Prelude.{◌*◌, ◌/◌, ◌==◌, ◌&&◌, ◌||◌, ℕ, Bool, true, not, min, nat_le}
 use Rattle.std.specs.Prelude.{List, [], ◌∷◌, length, find, codes, bytes_eq, if◌then◌else◌}
 use Rattle.std.specs.Prelude.{Option, Some, None, is_some, is_none, option_map, option_and_then}
 use Rattle.std.specs.Prelude.{unwrap_or}
@@ -43,6 +43,7 @@ choices = number_in (codes "res") 1 MAX_RESOLUTION
     ∷ switch (codes "packed")
     ∷ switch (codes "trace")
     ∷ switch (codes "summary")
+    ∷ switch (codes "tolerant")
     ∷ []
 
 -- the option of this name, which is given whole
@@ -171,7 +172,7 @@ abbrev pub is_used : Text → List Use → Bool
 is_used name us = list_any (is_named name) us
 
 -- each option's number, or its default: the sheet is 8.5 by 11 inches, but no side is longer than
--- 20,000 dots, with margins of one inch
+-- 20,000 dots, with margins of one inch; it is tolerant where that is asked for
 abbrev pub settings_from : List Use → Settings
 settings_from us = let res = number_or 300 (codes "res") us in record {
   res = res;
@@ -180,7 +181,7 @@ settings_from us = let res = number_or 300 (codes "res") us in record {
     height = number_or (min MAX_PAGE_SIDE (11 * res)) (codes "height") us;
     left = number_or res (codes "left") us;
     top = number_or res (codes "top") us;
-    tolerant = false;
+    tolerant = is_used (codes "tolerant") us;
   };
   workers = number_or 1 (codes "workers") us;
   cache = number_or 16 (codes "cache") us;

@@ -1,5 +1,5 @@
 -- The matches of a line, by its uses.
-use Rattle.std.specs.Prelude.{◌≡◌, ◌/◌, ◌*◌, ◌&&◌, ℕ, Bool, true, false, min, List, Option, Some, codes}
+use Rattle.std.specs.Prelude.{◌≡◌, ◌/◌, ◌*◌, ◌&&◌, ℕ, Bool, true, min, List, Option, Some, codes}
 use Rattle.std.specs.Prelude.{find, if◌then◌else◌, length, nat_le, option_map, unwrap_or}
 use Rattle.std.specs.Option.{option_map_or}
 use Rattle.clap.specs.Words.{first_value, one_text}
@@ -42,6 +42,7 @@ given_of us = record {
   packed = is_used (codes "packed") us;
   trace = is_used (codes "trace") us;
   summary = is_used (codes "summary") us;
+  tolerant = is_used (codes "tolerant") us;
 }
 
 -- each number lies in its range, there are as many workers as are asked for, and packed fonts are
@@ -62,7 +63,7 @@ settings_with g = let res = unwrap_or g.res 300 in record {
     height = unwrap_or g.height (min MAX_PAGE_SIDE (11 * res));
     left = unwrap_or g.left res;
     top = unwrap_or g.top res;
-    tolerant = false;
+    tolerant = g.tolerant;
   };
   workers = unwrap_or g.workers 1;
   cache = unwrap_or g.cache 16;

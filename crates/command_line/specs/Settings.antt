@@ -1,5 +1,5 @@
 -- What a run is given besides its input and its fonts.
-use Rattle.std.specs.Prelude.{◌≤◌, false, None, IfSome, IsFalse, IsSome, IsTrue}
+use Rattle.std.specs.Prelude.{◌≤◌, false, None, IfSome, IsSome, IsTrue}
 use Rattle.pixel_round.specs.Limits.{MAX_RESOLUTION}
 use Rattle.page_draw.specs.Sheets.{IsDrawable}
 use Rattle.page_draw.specs.declared.sheet.Sheet.{Sheet}
@@ -30,8 +30,6 @@ default_settings = record {
 pub record AreSettings (settings : Settings) : Type 0 where
   pub resolution : (1 ≤ settings.res) × (settings.res ≤ MAX_RESOLUTION)
   pub sheet : IsDrawable settings.sheet
-  -- no run goes past what a page lacks
-  pub strict : IsFalse settings.sheet.tolerant
   pub workers : (1 ≤ settings.workers) × (settings.workers ≤ MAX_WORKERS)
   pub cache : (1 ≤ settings.cache) × (settings.cache ≤ MAX_CACHED_FONTS)
   pub room : settings.room ≤ MAX_ROOM

@@ -66,5 +66,6 @@ pub fn command<'a>(alloc: Global) -> Result<Command<'a>, AllocError>
     let command = with_number(alloc, command, "sample")?;
     let command = with_switch(alloc, command, "packed")?;
     let command = with_switch(alloc, command, "trace")?;
-    with_switch(alloc, command, "summary")
+    let command = with_switch(alloc, command, "summary")?;
+    with_switch(alloc, command, "tolerant")
 }

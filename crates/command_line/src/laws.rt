@@ -76,11 +76,11 @@ pub fn worked_lines()
     ensures every { settings_of 32 (codes "--summary" ∷ codes "--packed" ∷ codes "--trace"
         ∷ codes "--sample" ∷ codes "1000" ∷ codes "--cache" ∷ codes "256" ∷ codes "--room=0"
         ∷ codes "--workers=32"
-        ∷ codes "--top=0" ∷ codes "--left=20000" ∷ codes "--height=20000" ∷ codes "--width=1"
-        ∷ codes "--res=1" ∷ [])
+        ∷ codes "--top=0" ∷ codes "--left=20000" ∷ codes "--tolerant" ∷ codes "--height=20000"
+        ∷ codes "--width=1" ∷ codes "--res=1" ∷ [])
         ≡ Some (record {
           res = 1;
-          sheet = record { width = 1; height = 20000; left = 20000; top = 0; tolerant = false };
+          sheet = record { width = 1; height = 20000; left = 20000; top = 0; tolerant = true };
           workers = 32;
           cache = 256;
           room = 0;
@@ -108,6 +108,8 @@ pub fn worked_refusals()
         ∷ []) ≡ None }
     ensures packed_alone { settings_of 32 (codes "--packed" ∷ []) ≡ None }
     ensures switch_twice { settings_of 32 (codes "--trace" ∷ codes "--trace" ∷ []) ≡ None }
+    ensures tolerant_twice { settings_of 32 (codes "--tolerant" ∷ codes "--tolerant" ∷ [])
+        ≡ None }
 {}
 
 /// Values that options don't take.
@@ -126,6 +128,8 @@ pub fn worked_values()
     ensures switch_empty { settings_of 32 (codes "--trace=" ∷ []) ≡ None }
     ensures switch_value { settings_of 32 (codes "--trace=1" ∷ []) ≡ None }
     ensures switch_apart { settings_of 32 (codes "--trace" ∷ codes "1" ∷ []) ≡ None }
+    ensures tolerant_empty { settings_of 32 (codes "--tolerant=" ∷ []) ≡ None }
+    ensures tolerant_value { settings_of 32 (codes "--tolerant=1" ∷ []) ≡ None }
     ensures packed_value { settings_of 32 (codes "--sample=3" ∷ codes "--packed=1" ∷ [])
         ≡ None }
 {}

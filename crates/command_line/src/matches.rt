@@ -44,6 +44,7 @@ struct LineValues {
     pub packed: bool,
     pub trace: bool,
     pub summary: bool,
+    pub tolerant: bool,
 }
 
 // Whether a number, if one is given by this name, has no more digits than that of any option but
@@ -114,6 +115,7 @@ fn given_in(matches: &ArgMatches<'_>) -> LineValues
         packed: matches.get_flag("packed"),
         trace: matches.get_flag("trace"),
         summary: matches.get_flag("summary"),
+        tolerant: matches.get_flag("tolerant"),
     }
 }
 
@@ -180,7 +182,7 @@ fn settings(given: &LineValues, workers: usize) -> Option<Settings>
             height: given.height.unwrap_or((11 * res).min(MAX_PAGE_SIDE)),
             left: given.left.unwrap_or(res),
             top: given.top.unwrap_or(res),
-            tolerant: false,
+            tolerant: given.tolerant,
         },
         workers: given.workers.unwrap_or(defaults.workers),
         cache: given.cache.unwrap_or(defaults.cache),

@@ -35,12 +35,13 @@ impl From<AllocError> for LineStop {
 ///
 /// A line is a list of options in any order, each at most once, and nothing else: `--res`,
 /// `--width`, `--height`, `--left`, `--top`, `--workers`, `--cache`, `--room` and `--sample` with a
-/// value, `--packed`, `--trace` and `--summary` without. A value is one to seven decimal digits, or
-/// one to ten of `--room`, and is the next argument or comes after `=` in the same one. Options
-/// that aren't there are as in `default_settings`, but the sheet depends on the resolution: 8.5 by
-/// 11 inches, each side cut at 20,000 dots, and margins of one inch. `Usage` comes exactly where
-/// the arguments aren't such a line, a number lies outside its range (see `Settings`), there are
-/// fewer workers than the settings would have, or `--packed` is there without `--sample`.
+/// value, `--packed`, `--trace`, `--summary` and `--tolerant` without. A value is one to seven
+/// decimal digits, or one to ten of `--room`, and is the next argument or comes after `=` in the
+/// same one. Options that aren't there are as in `default_settings`, but the sheet depends on the
+/// resolution: 8.5 by 11 inches, each side cut at 20,000 dots, and margins of one inch. With
+/// `--tolerant` the sheet is tolerant. `Usage` comes exactly where the arguments aren't such a
+/// line, a number lies outside its range (see `Settings`), there are fewer workers than the
+/// settings would have, or `--packed` is there without `--sample`.
 pub fn line(alloc: Global, words: &[String], workers: usize) -> Result<Settings, LineStop>
     ensures settings { IfOk result
         (λ s. settings_of workers (map string_bytes words.now) ≡ Some s) }

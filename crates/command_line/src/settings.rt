@@ -1,5 +1,5 @@
 //! What a run is given besides its input and its fonts.
-ghost use Rattle.std.specs.Prelude.{◌≡◌, IsFalse};
+ghost use Rattle.std.specs.Prelude.{◌≡◌};
 ghost use Rattle.page_draw.specs.Sheets.{IsDrawable};
 ghost use Rattle.command_line.specs.Settings.{AreSettings};
 ghost use Rattle.command_line.specs.Settings.{default_settings as the_default_settings};
@@ -16,6 +16,8 @@ pub struct Settings {
     /// Dots to the inch: 1 to 4800.
     pub res: u32,
     /// The sheet that each page is drawn on, in dots: sides of 1 to 20,000, margins of 0 to 20,000.
+    /// A tolerant one takes pages that lack a font, a character, a glyph or a packet, and what they
+    /// lack is printed to the notes.
     pub sheet: Sheet,
     /// How many pages are drawn at a time: 1 to 32, and at most as many as there are workers.
     pub workers: u32,
@@ -34,12 +36,11 @@ pub struct Settings {
     pub summary: bool,
 }
 
-/// 8.5 by 11 inches at 300 dots to the inch, with margins of one inch.
+/// 8.5 by 11 inches at 300 dots to the inch, with margins of one inch, and not tolerant.
 #[tactic(auto, unfolding(crate::specs::Settings::default_sheet))]
 pub fn default_sheet() -> Sheet
     ensures value { result ≡ the_default_sheet }
     ensures drawable { IsDrawable result }
-    ensures strict { IsFalse result.tolerant }
 {
     Sheet {
         width: 2550,

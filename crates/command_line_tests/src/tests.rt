@@ -78,6 +78,7 @@ static TAKEN: [(&'static [&'static str], usize, Settings); 8] = [
             "--packed",
             "--sample",
             "1000",
+            "--tolerant",
             "--cache",
             "256",
             "--room=0",
@@ -96,7 +97,7 @@ static TAKEN: [(&'static [&'static str], usize, Settings); 8] = [
                 height: 19999,
                 left: 20000,
                 top: 0,
-                tolerant: false,
+                tolerant: true,
             },
             workers: 32,
             cache: 256,
@@ -181,7 +182,7 @@ fn the_sheet_goes_by_the_resolution(rt: HostRuntime) {
 }
 
 // The arguments, and how many workers there are.
-static REFUSED: [(&'static [&'static str], usize); 45] = [
+static REFUSED: [(&'static [&'static str], usize); 49] = [
     (&["--workers", "33"], 64),
     (&["--workers=0"], 64),
     (&["--res", "0"], 64),
@@ -224,6 +225,10 @@ static REFUSED: [(&'static [&'static str], usize); 45] = [
     (&["--trace=1"], 64),
     (&["--trace", "1"], 64),
     (&["--sample=3", "--packed=1"], 64),
+    (&["--tolerant="], 64),
+    (&["--tolerant=1"], 64),
+    (&["--tolerant", "1"], 64),
+    (&["--tolerant", "--tolerant"], 64),
     // Packed fonts are those of a sample.
     (&["--packed"], 64),
     // No more workers than there are.

@@ -19,5 +19,6 @@ returns c =
     let e9 = c.in_ok-command-9.ensures ∙ ap (number (codes "sample")) e8 in
     let e10 = c.in_ok-command-10.ensures ∙ ap (λ (a : App). with_switch a (codes "packed")) e9 in
     let e11 = c.in_ok-command-11.ensures ∙ ap (λ (a : App). with_switch a (codes "trace")) e10 in
-    IfOk-weaker c.with_switch-3.result _ _
-    (λ r h. h ∙ ap (λ (a : App). with_switch a (codes "summary")) e11) c.with_switch-3.ensures
+    let e12 = c.in_ok-command-12.ensures ∙ ap (λ (a : App). with_switch a (codes "summary")) e11 in
+    IfOk-weaker c.with_switch-4.result _ _
+    (λ r h. h ∙ ap (λ (a : App). with_switch a (codes "tolerant")) e12) c.with_switch-4.ensures

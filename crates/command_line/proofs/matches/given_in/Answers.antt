@@ -119,6 +119,9 @@ returns c us reads =
     let summary = switch_read (is_used (codes "summary") us) _ _
     (reads.switch (codes "summary") refl) c.get_flag-3.ensures.value
     c.get_flag-3.ensures.other in
+    let tolerant = switch_read (is_used (codes "tolerant") us) _ _
+    (reads.switch (codes "tolerant") refl) c.get_flag-4.ensures.value
+    c.get_flag-4.ensures.other in
     λ i. record {
       res = res i;
       width = width i;
@@ -132,4 +135,5 @@ returns c us reads =
       packed = packed i;
       trace = trace i;
       summary = summary i;
+      tolerant = tolerant i;
     }
