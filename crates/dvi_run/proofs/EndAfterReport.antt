@@ -1,12 +1,11 @@
 -- The end of a run after its report: it is as it was, but where all pages were written and the
 -- notes failed.
 use Rattle.std.proofs.Common.{◌≡◌, ◌∙◌, inl, inr, ℕ, ◌+◌, Bool, true, false, List, [], ◌∷◌, ◌++◌, Option, Some, None, Result, Ok, Err, refl, sym, ap, get_or}
-use Rattle.std.specs.Prelude.{IfSome, is_ok}
-use Rattle.outside.specs.Counts.{Rose}
+use Rattle.std.specs.Prelude.{IfSome}
 use Rattle.outside.specs.Streams.{Writes}
 use Rattle.cache_core.specs.Histories.{own}
 use Rattle.cache_core.specs.declared.calls.Call.{Call}
-use Rattle.page_draw.specs.Values.{PageValue}
+use Rattle.page_draw.specs.Values.{DrawnValue, PageValue}
 use Rattle.page_index.specs.Document.{Reading}
 use Rattle.page_workers.specs.declared.worker.Worker.{Worker}
 use Rattle.vf_expand.specs.Faults.{value_of_fault}
@@ -17,7 +16,8 @@ use Rattle.dvi_run.specs.Lines.{line_of}
 use Rattle.dvi_run.specs.Report.{report_text, trace_and_summary}
 use Rattle.dvi_run.specs.Tally.{CountsTo, TallyMatchesRun}
 use Rattle.dvi_run.specs.Sampled.{UsesTheSample}
-use Rattle.dvi_run.specs.Outside.{Drawing, Task, setup_of}
+use Rattle.dvi_run.specs.Noted.{Took}
+use Rattle.dvi_run.specs.Outside.{Drawing, FaultsRose, StreamChange, Task, setup_of}
 use Rattle.dvi_run.specs.Looked.{MayBreakOff}
 use Rattle.dvi_run.specs.Together.{Answered, run_end, GaveUpOnlyBroken, WorkersAreDone, PagesMatchHistory, IsOneHistory, WorkerDone}
 use Rattle.dvi_run.specs.declared.ending.Ending.{Ending}
@@ -60,27 +60,35 @@ module _ {T E : Type 0} (old new : Option (List ℕ)) (before now : ℕ) (text :
   pub line_printed : (r : Result T E) → Writes old new before now text r → IsPrinted old new before now text
   line_printed r w = record { prints = printed_by r w; count = w.cause.never_falls }
 
-  pub prints_on : (x : Ending) (r : Result T E) → Writes old new before now text r → PrintsBy (with_notes (value_of_ending x) (is_ok r)) old new before now text
-  prints_on code.Written (Ok v) w = w.grew
-  prints_on code.Written (Err v) w = (w.grew, w.cause.rose refl)
-  prints_on code.Usage r w = printed_by r w
-  prints_on (code.Document fault) r w = printed_by r w
-  prints_on (code.Page page fault at) r w = printed_by r w
-  prints_on (code.Source page) r w = printed_by r w
-  prints_on code.Input r w = printed_by r w
-  prints_on (code.Output page) r w = printed_by r w
-  prints_on code.Memory r w = printed_by r w
+module _ (notes : StreamChange) (text : List ℕ) where
+  abbrev PrintedBy : EndingValue → Type 0
+  PrintedBy e = PrintsBy e notes.before.bytes notes.after.bytes notes.before.faults notes.after.faults text
 
-  pub failed_on : (x : Ending) (r : Result T E) → Writes old new before now text r → status_of (with_notes (value_of_ending x) (is_ok r)) ≡ 8 → Rose before now
-  failed_on code.Written (Ok v) w is = cc
-  failed_on code.Written (Err v) w is = w.cause.rose refl
-  failed_on code.Usage r w is = cc
-  failed_on (code.Document fault) r w is = cc
-  failed_on (code.Page page fault at) r w is = absurd (no_page (page_status (value_of_fault fault)) (at_page (value_of_fault fault)) is)
-  failed_on (code.Source page) r w is = cc
-  failed_on code.Input r w is = cc
-  failed_on (code.Output page) r w is = cc
-  failed_on code.Memory r w is = cc
+  printed_all : (taken : Bool) → Took taken notes text → Prints notes.before.bytes notes.after.bytes notes.before.faults notes.after.faults text
+  printed_all true took = inl took
+  printed_all false took = inr took
+
+  pub prints_on : (x : Ending) (taken : Bool) → Took taken notes text → PrintedBy (with_notes (value_of_ending x) taken)
+  prints_on code.Written true took = took
+  prints_on code.Written false took = took
+  prints_on code.Usage taken took = printed_all taken took
+  prints_on (code.Document fault) taken took = printed_all taken took
+  prints_on (code.Page page fault at) taken took = printed_all taken took
+  prints_on (code.Source page) taken took = printed_all taken took
+  prints_on code.Input taken took = printed_all taken took
+  prints_on (code.Output page) taken took = printed_all taken took
+  prints_on code.Memory taken took = printed_all taken took
+
+  pub failed_on : (x : Ending) (taken : Bool) → Took taken notes text → status_of (with_notes (value_of_ending x) taken) ≡ 8 → FaultsRose notes
+  failed_on code.Written true took is = cc
+  failed_on code.Written false took is = took.1
+  failed_on code.Usage taken took is = cc
+  failed_on (code.Document fault) taken took is = cc
+  failed_on (code.Page page fault at) taken took is = absurd (no_page (page_status (value_of_fault fault)) (at_page (value_of_fault fault)) is)
+  failed_on (code.Source page) taken took is = cc
+  failed_on code.Input taken took is = cc
+  failed_on (code.Output page) taken took is = cc
+  failed_on code.Memory taken took is = cc
 
 -- ---- the report
 
@@ -113,10 +121,10 @@ counts_8 : (history : List Call) (tally : Option Tally) → CountsTo history tal
 counts_8 history None h = h
 counts_8 history (Some t) h = h
 
-tallied_8 : (counted : Bool) (old new : Option (List ℕ)) (history : List Call) (tally : Option Tally) (values : List PageValue) → TallyMatchesRun counted old new history tally Written values
-    → TallyMatchesRun counted old new history tally Notes values
-tallied_8 counted old new history None values h = let is = h.0 in absurd cc
-tallied_8 counted old new history (Some t) values h = record { few = h.few; black = h.black; next = tt; written = h.written }
+tallied_8 : (counted : Bool) (Are : List DrawnValue → Type 0) (old new : Option (List ℕ)) (history : List Call) (tally : Option Tally) (values : List PageValue) → TallyMatchesRun counted Are old new history tally Written values
+    → TallyMatchesRun counted Are old new history tally Notes values
+tallied_8 counted Are old new history None values h = let is = h.0 in absurd cc
+tallied_8 counted Are old new history (Some t) values h = record { few = h.few; black = h.black; next = tt; written = h.written; are = h.are }
 
 one_8 : (settings : Settings) (history : List Call) → IsOneHistory settings 0 history → IsOneHistory settings 8 history
 one_8 settings history one = record {
@@ -173,8 +181,8 @@ module _ {F : Type 0} (task : Task) (drawing : Drawing F) (tally : Option Tally)
   done_on (code.Output page) taken h = h
   done_on code.Memory taken h = h
 
-  abbrev Drew : EndingValue → List ℕ → Type 0
-  Drew e bytes = PagesMatchHistory task drawing (status_of e) e tally bytes
+  abbrev Drew : (whole : List DrawnValue) → EndingValue → List ℕ → Type 0
+  Drew whole e bytes = PagesMatchHistory task drawing (status_of e) e tally whole bytes
 
   answered_8 : (reading : Reading) (k : ℕ) (w : Worker F) → Answered task reading drawing.history (run_end 0 Written tally) k w → Answered task reading drawing.history (run_end 8 Notes tally) k w
   answered_8 reading k w a = record {
@@ -190,31 +198,31 @@ module _ {F : Type 0} (task : Task) (drawing : Drawing F) (tally : Option Tally)
     one = λ single unbroken. a.one single (λ is. cc, λ is. cc);
   }
 
-  drew_8 : (bytes : List ℕ) → Drew Written bytes → Drew Notes bytes
-  drew_8 bytes (inl idle) = absurd idle.0
-  drew_8 bytes (inr run) =
+  drew_8 : (whole : List DrawnValue) (bytes : List ℕ) → Drew whole Written bytes → Drew whole Notes bytes
+  drew_8 whole bytes (inl idle) = absurd idle.0
+  drew_8 whole bytes (inr run) =
       inr (
         run.0,
         run.1,
         run.2,
         (
           run.3.0,
-          tallied_8 task.settings.summary drawing.output.before.bytes drawing.output.after.bytes drawing.history tally run.1 run.3.1,
+          tallied_8 task.settings.summary (λ pages. whole ≡ pages) drawing.output.before.bytes drawing.output.after.bytes drawing.history tally run.1 run.3.1,
           record { drawn = run.3.2.drawn; few = run.3.2.few; shares = run.3.2.shares; reach = run.3.2.reach; written = run.3.2.written },
           λ k d lt. answered_8 run.0 k (get_or drawing.after k d) (run.3.3 k d lt),
         ),
       )
 
-  pub drew_on : (x : Ending) (taken : Bool) (left : Option (List ℕ)) → HoldsOfInput left (Drew (value_of_ending x)) → HoldsOfInput left (Drew (with_notes (value_of_ending x) taken))
-  drew_on code.Written true left h = h
-  drew_on code.Written false left h = of_each (Drew Written) (Drew Notes) left drew_8 h
-  drew_on code.Usage taken left h = h
-  drew_on (code.Document fault) taken left h = h
-  drew_on (code.Page page fault at) taken left h = h
-  drew_on (code.Source page) taken left h = h
-  drew_on code.Input taken left h = h
-  drew_on (code.Output page) taken left h = h
-  drew_on code.Memory taken left h = h
+  pub drew_on : (whole : List DrawnValue) (x : Ending) (taken : Bool) (left : Option (List ℕ)) → HoldsOfInput left (Drew whole (value_of_ending x)) → HoldsOfInput left (Drew whole (with_notes (value_of_ending x) taken))
+  drew_on whole code.Written true left h = h
+  drew_on whole code.Written false left h = of_each (Drew whole Written) (Drew whole Notes) left (drew_8 whole) h
+  drew_on whole code.Usage taken left h = h
+  drew_on whole (code.Document fault) taken left h = h
+  drew_on whole (code.Page page fault at) taken left h = h
+  drew_on whole (code.Source page) taken left h = h
+  drew_on whole code.Input taken left h = h
+  drew_on whole (code.Output page) taken left h = h
+  drew_on whole code.Memory taken left h = h
 
 -- ---- a run of the sample
 

@@ -7,7 +7,7 @@ use Rattle.vf_expand.specs.Faults.{PageFaultValue, value_of_fault}
 use Rattle.page_draw.specs.Values.{PageValue}
 use Rattle.page_draw.specs.Laws.{PagesHaveOneValue}
 use Rattle.page_workers.specs.declared.worker.Worker.{Worker}
-use Rattle.dvi_run.specs.Pages.{AreValues, FailingPage, HaveValues, Setup, run_fault}
+use Rattle.dvi_run.specs.Pages.{AreValues, FailingPage, HaveValues, IsUntolerated, Setup, run_fault}
 use Rattle.dvi_run.specs.Endings.{EndingValue, Source, EndsPages, IsAmong, page_status, status_of, value_of_ending, with_notes}
 use Rattle.dvi_run.specs.Outside.{FaultsRose, StreamChange}
 use Rattle.dvi_run.specs.Rounds.{FailedAt, Site}
@@ -16,6 +16,7 @@ use Rattle.dvi_run.specs.Together.{SomeUsed}
 use Rattle.dvi_run.specs.declared.ending.Ending.{Ending}
 use Rattle.dvi_run.specs.declared.ending.Ending.TheVariants as code
 use Rattle.dvi_run.proofs.Clauses.{at_page}
+use Rattle.dvi_run.proofs.Lacking.{untolerated}
 use Rattle.dvi_run.proofs.OneRun.{longer}
 use Rattle.dvi_run.proofs.Prefixes.{faults_end_the_run, prefix_is_good}
 
@@ -82,12 +83,13 @@ module _ {F : Type 0} (s : Site F) (output : StreamChange) (before after : List 
 
   abbrev HasPage : ℕ → Type 0
   HasPage status = (values : List PageValue) × (page : FailingPage) × AreValues s.given s.reading values × (run_fault values ≡ Some page) × (status ≡ page_status page.fault)
+      × IsUntolerated s.given page
 
   page_of : (x : Ending) → Ends (value_of_ending x) → IsAmong (status_of (value_of_ending x)) (3 ∷ 4 ∷ []) → HasPage (status_of (value_of_ending x))
   page_of code.Written h is = absurd (no_page 0 (λ e. omega (arith, e)) (λ e. omega (arith, e)) is)
   page_of code.Usage h is = absurd h.2
   page_of (code.Document fault) h is = absurd h.2
-  page_of (code.Page page fault at) h is = (h.0, _, h.1, h.2.fails, refl)
+  page_of (code.Page page fault at) h is = (h.0, _, h.1, h.2.fails, refl, untolerated s.given s.reading h.0 _ h.1.are h.2.fails)
   page_of (code.Source page) h is = absurd (no_page 5 (λ e. omega (arith, e)) (λ e. omega (arith, e)) is)
   page_of code.Input h is = absurd h.2
   page_of (code.Output page) h is = absurd (no_page 7 (λ e. omega (arith, e)) (λ e. omega (arith, e)) is)

@@ -1,5 +1,7 @@
 pub mod InputRead
 pub mod Puts
+pub mod Noting
+pub mod Lacking
 pub mod Prefixes
 pub mod OneRun
 pub mod WholeRuns
@@ -24,6 +26,7 @@ pub mod JobCauses
 pub mod Jobs
 pub mod PromisesKept
 pub mod CountedPages
+pub mod StatusOfEnd
 pub mod RunOfWorkers
 pub mod FirstWorkers
 pub mod EndAfterReport

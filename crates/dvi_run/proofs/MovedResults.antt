@@ -9,6 +9,7 @@ use Rattle.cache_core.specs.Histories.{own}
 use Rattle.font_decode.specs.Desks.{misses}
 use Rattle.font_decode.specs.Loads.{RoseUpTo, MAX_LOADS}
 use Rattle.page_index.specs.Document.{Reading}
+use Rattle.page_draw.specs.Values.{DrawnValue}
 use Rattle.page_workers.specs.declared.worker.Worker.{Worker}
 use Rattle.sample_maker.specs.Sample.{made_files}
 use Rattle.command_line.specs.declared.settings.Settings.{Settings}
@@ -129,10 +130,10 @@ module _ {F G : Type 0} (settings : Settings) (first last : List (Worker G)) (be
         abbrev theirs : Drawing F
         theirs = record { sources = record { library = library; faults = faults; loads = loads }; output = output; before = before; after = after; history = history }
 
-        pub drew_handed : length before ≡ length after → (pages status : ℕ) (bytes : List ℕ) → PagesMatchHistory (task_for_sample None (Some (made_files settings.packed)) settings) mine status e tally bytes
-            → PagesMatchHistory (task_for_sample (Some pages) known settings) theirs status e tally bytes
-        drew_handed sizes pages status bytes (inl idle) = inl (idle.0, idle.1, idle.2, same_workers sizes idle.3)
-        drew_handed sizes pages status bytes (inr run) =
+        pub drew_handed : length before ≡ length after → (pages status : ℕ) (whole : List DrawnValue) (bytes : List ℕ) → PagesMatchHistory (task_for_sample None (Some (made_files settings.packed)) settings) mine status e tally whole bytes
+            → PagesMatchHistory (task_for_sample (Some pages) known settings) theirs status e tally whole bytes
+        drew_handed sizes pages status whole bytes (inl idle) = inl (idle.0, idle.1, idle.2, same_workers sizes idle.3)
+        drew_handed sizes pages status whole bytes (inr run) =
             inr (
               run.0,
               run.1,

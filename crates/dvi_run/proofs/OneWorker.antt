@@ -23,7 +23,7 @@ use Rattle.dvi_run.specs.Pages.{FailingPage, IsRun, Setup, finding, run_fault, w
 use Rattle.dvi_run.specs.CacheLimits.{cache_limits}
 use Rattle.dvi_run.specs.Endings.{EndingValue, Written, Usage, Document, Page, Source, Input, Output, Notes, Memory, EndsPages, page_status, status_of}
 use Rattle.dvi_run.specs.Laws.{OneReading, OneRun}
-use Rattle.dvi_run.specs.Lines.{line_of, page_line}
+use Rattle.dvi_run.specs.Lines.{lacks_text, line_of, page_line}
 use Rattle.dvi_run.specs.Looked.{WasNotCutOffBy, WholeLooks}
 use Rattle.dvi_run.specs.OneWorker.{IsByItsPages, RunsOfOneWorkerAreAlike, page_named}
 use Rattle.dvi_run.specs.Outside.{setup_of}
@@ -115,26 +115,26 @@ not_cut_off Memory by = absurd by
 -- ---- the tally
 
 -- there is one
-tally_there : (counted : Bool) (old new : Option (List ℕ)) (history : List Call) (tally : Option Tally) (e : EndingValue) (values : List PageValue) → IsByItsPages e → TallyMatchesRun counted old new history tally e values
-    → (t : Tally) × (tally ≡ Some t) × TallyMatches counted old new t e values
-tally_there counted old new history None e values by h = absurd (subst IsByItsPages h.0 by)
-tally_there counted old new history (Some t) e values by h = (t, refl, h)
+tally_there : (counted : Bool) (Are : List DrawnValue → Type 0) (old new : Option (List ℕ)) (history : List Call) (tally : Option Tally) (e : EndingValue) (values : List PageValue) → IsByItsPages e
+    → TallyMatchesRun counted Are old new history tally e values → (t : Tally) × (tally ≡ Some t) × TallyMatches counted Are old new t e values
+tally_there counted Are old new history None e values by h = absurd (subst IsByItsPages h.0 by)
+tally_there counted Are old new history (Some t) e values by h = (t, refl, h)
 
 -- how many pages it has
 abbrev pages_by : List PageValue → Option FailingPage → ℕ → Type 0
 pages_by values None pages = pages ≡ length (whole_pages values)
 pages_by values (Some page) pages = page.page ≡ suc pages
 
-tally_is : (counted : Bool) (old new : Option (List ℕ)) (t : Tally) (e : EndingValue) (values : List PageValue) → IsByItsPages e → TallyMatches counted old new t e values → pages_by values (page_named e) t.pages
-tally_is counted old new t Written values by h = h.written
-tally_is counted old new t Usage values by h = absurd by
-tally_is counted old new t (Document fault) values by h = absurd by
-tally_is counted old new t (Page page) values by h = h.next
-tally_is counted old new t (Source page) values by h = absurd by
-tally_is counted old new t Input values by h = absurd by
-tally_is counted old new t (Output page) values by h = absurd by
-tally_is counted old new t Notes values by h = h.written
-tally_is counted old new t Memory values by h = absurd by
+tally_is : (counted : Bool) (Are : List DrawnValue → Type 0) (old new : Option (List ℕ)) (t : Tally) (e : EndingValue) (values : List PageValue) → IsByItsPages e → TallyMatches counted Are old new t e values → pages_by values (page_named e) t.pages
+tally_is counted Are old new t Written values by h = h.written
+tally_is counted Are old new t Usage values by h = absurd by
+tally_is counted Are old new t (Document fault) values by h = absurd by
+tally_is counted Are old new t (Page page) values by h = h.next
+tally_is counted Are old new t (Source page) values by h = absurd by
+tally_is counted Are old new t Input values by h = absurd by
+tally_is counted Are old new t (Output page) values by h = absurd by
+tally_is counted Are old new t Notes values by h = h.written
+tally_is counted Are old new t Memory values by h = absurd by
 
 one_count : (v w : List PageValue) (named : Option FailingPage) (m n : ℕ) → whole_pages v ≡ whole_pages w → pages_by v named m → pages_by w named n → m ≡ n
 one_count v w None m n same a b = a ∙ ap length same ∙ sym b
@@ -240,20 +240,22 @@ one_worker F G reading one law weights task files bytes output other before afte
     (subst (λ (cs : List Call). LoadsAreOf (EveryPageCameToItsEndBy task.settings.workers (status_of e)) g b.0 cs (get_or after 0 d).loads) own_alike
     (subst (λ (r : Reading). LoadsAreOf (EveryPageCameToItsEndBy task.settings.workers (status_of e)) g r (own 1 history) (get_or after 0 d).loads) same p.loads)) q.loads in
     let loads : loads_of 1 after ≡ loads_of 1 now = one_loads after d long ∙ (loads_are ∙ sym (one_loads now c size)) in
-    let ta = tally_there task.settings.summary output.before output.after history tally e a.1 by a.3.1 in
-    let tb = tally_there task.settings.summary other.before other.after calls t f b.1 also b.3.1 in
+    let ta = tally_there task.settings.summary (λ ps. output.whole ≡ ps) output.before output.after history tally e a.1 by a.3.1 in
+    let tb = tally_there task.settings.summary (λ ps. other.whole ≡ ps) other.before other.after calls t f b.1 also b.3.1 in
     let whole : whole_pages a.1 ≡ whole_pages b.1 =
     same_whole reading one g files known bytes a.0 b.0 a.1 b.1 a.2 b.2 (page_named e) x (y ∙ sym end) (whole_is output.before output.after a.0 a.1 e by a.3.0) (λ none. whole_is other.before other.after b.0 b.1 f also b.3.0 (sym end ∙ none)) in
     let count : ta.0.pages ≡ tb.0.pages =
-    one_count a.1 b.1 (page_named e) ta.0.pages tb.0.pages whole (tally_is task.settings.summary output.before output.after ta.0 e a.1 by ta.2)
-    (subst (λ (named : Option FailingPage). pages_by b.1 named tb.0.pages) (sym end) (tally_is task.settings.summary other.before other.after tb.0 f b.1 also tb.2)) in
+    one_count a.1 b.1 (page_named e) ta.0.pages tb.0.pages whole (tally_is task.settings.summary (λ ps. output.whole ≡ ps) output.before output.after ta.0 e a.1 by ta.2)
+    (subst (λ (named : Option FailingPage). pages_by b.1 named tb.0.pages) (sym end) (tally_is task.settings.summary (λ ps. other.whole ≡ ps) other.before other.after tb.0 f b.1 also tb.2)) in
     let black : task.settings.summary ≡ true → ta.0.black ≡ tb.0.black =
     λ asked. ta.2.black asked ∙ (ap₂ (λ (m : ℕ) (ps : List DrawnValue). sum_by black_in (take m ps)) count whole ∙ sym (tb.2.black asked)) in
+    let written : output.whole ≡ other.whole = ta.2.are ∙ (ap₂ (λ (m : ℕ) (ps : List DrawnValue). take m ps) count whole ∙ sym tb.2.are) in
     let line : line_of e ≡ line_of f = line_is e by ∙ (ap line_by end ∙ sym (line_is f also)) in (
       end,
       calls_are,
       loads,
-      subst (λ (o : Option Tally). report_text task.settings o (loads_of 1 after) history e ≡ report_text task.settings t (loads_of 1 now) calls f) (sym ta.1)
+      ap₂ (λ (x y : List ℕ). x ++ y) (ap lacks_text written)
+          (subst (λ (o : Option Tally). report_text task.settings o (loads_of 1 after) history e ≡ report_text task.settings t (loads_of 1 now) calls f) (sym ta.1)
           (subst (λ (o : Option Tally). report_text task.settings (Some ta.0) (loads_of 1 after) history e ≡ report_text task.settings o (loads_of 1 now) calls f) (sym tb.1)
-          (report_alike task.settings ta.0 tb.0 (loads_of 1 after) (loads_of 1 now) history calls e f count black calls_are line loads)),
+          (report_alike task.settings ta.0 tb.0 (loads_of 1 after) (loads_of 1 now) history calls e f count black calls_are line loads))),
     )

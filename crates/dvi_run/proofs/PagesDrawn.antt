@@ -22,6 +22,7 @@ use Rattle.page_workers.specs.Rounds.{IsOutcome}
 use Rattle.dvi_run.specs.Pages.{Setup, IsValueOf, finding, text_of}
 use Rattle.dvi_run.specs.Endings.{EndingValue, Written, Usage, Document, Page, Source, Input, Output, Notes, Memory, IsWriteStop, ending_at}
 use Rattle.dvi_run.specs.Looked.{WholeLooks, BrokenLooks, IsAllWritten, WasNotCutOff, sure_pages}
+use Rattle.dvi_run.specs.Pressing.{with_outcome}
 use Rattle.dvi_run.specs.Rounds.{IsOutcomeOf, WroteOutcome, black_of, keys_of, indexed_of}
 use Rattle.dvi_run.specs.declared.pages.WriteStop.{WriteStop}
 use Rattle.dvi_run.specs.declared.pages.WriteStop.TheVariants as stop
@@ -166,7 +167,8 @@ few_sure Memory written = omega arith
 -- a page that was written
 pub wrote_it : (counted : Bool) (before after : Option (List ℕ)) (OutputFails : Type 0) (g : Setup) (reading : Reading) (i : ℕ) (done : ℕ) (outcome : Result Drawn PageStop) → IsOutcomeOf g reading i outcome
     → WroteOutcome counted before after OutputFails outcome (Ok done) → (page : DrawnValue) × IsValueOf g reading i (Ok page) × Appends before after (text_of page) × (done ≡ black_of counted page)
-wrote_it counted before after OutputFails g reading i done (Ok page) value wrote = (value_of_drawn page, value, wrote.0, wrote.1)
+    × ((pages : List DrawnValue) → with_outcome outcome pages ≡ page ∷ pages)
+wrote_it counted before after OutputFails g reading i done (Ok page) value wrote = (value_of_drawn page, value, wrote.0, wrote.1, λ pages. refl)
 wrote_it counted before after OutputFails g reading i done (Err reason) value wrote = absurd wrote
 
 -- one member is replaced

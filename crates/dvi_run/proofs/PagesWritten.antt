@@ -32,22 +32,27 @@ values_more g r i n (w ∷ values) v have is value =
     (have.0, values_more g r (suc i) n values v have.1 next value)
 
 -- the pages before the one with a number, from 0, have bitmaps, and they were written; with their
--- black dots, where they are counted
-pub record IsWrittenTo (g : Setup) (r : Reading) (old now : Option (List ℕ)) (i : ℕ) (counted : Bool) (black : ℕ) : Type 0 where
+-- black dots, where they are counted; and `Are` holds of them
+pub record IsWrittenTo (g : Setup) (r : Reading) (old now : Option (List ℕ)) (i : ℕ) (counted : Bool) (black : ℕ) (Are : List DrawnValue → Type 0) : Type 0 where
   pub pages : List DrawnValue
   pub count : length pages ≡ i
   pub values : HaveValues g r 0 (map good pages)
   pub grew : Appends old now (flat_map text_of pages)
   pub dots : counted ≡ true → black ≡ sum_by black_in pages
+  pub are : Are pages
 
-unfoldable pub written_none : (g : Setup) (r : Reading) (old : Option (List ℕ)) (counted : Bool) → IsWrittenTo g r old old 0 counted 0
-written_none g r old counted = record { pages = []; count = refl; values = tt; grew = grown_none old; dots = λ is. refl }
+unfoldable pub written_none : (g : Setup) (r : Reading) (old : Option (List ℕ)) (counted : Bool) (Are : List DrawnValue → Type 0) → Are [] → IsWrittenTo g r old old 0 counted 0 Are
+written_none g r old counted Are are = record { pages = []; count = refl; values = tt; grew = grown_none old; dots = λ is. refl; are = are }
+
+-- something else holds of them
+pub written_so : (g : Setup) (r : Reading) (old now : Option (List ℕ)) (i : ℕ) (counted : Bool) (black : ℕ) (P Q : List DrawnValue → Type 0) (w : IsWrittenTo g r old now i counted black P) → Q w.pages → IsWrittenTo g r old now i counted black Q
+written_so g r old now i counted black P Q w are = record { pages = w.pages; count = w.count; values = w.values; grew = w.grew; dots = w.dots; are = are }
 
 -- where they are counted
 pub all_black : (counted : Bool) (page : DrawnValue) → counted ≡ true → black_of counted page ≡ black_in page
 all_black counted page is = ap (λ (b : Bool). black_of b page) is
 
-module _ (g : Setup) (r : Reading) (old now : Option (List ℕ)) (i : ℕ) (counted : Bool) (black : ℕ) (w : IsWrittenTo g r old now i counted black) where
+module _ (g : Setup) (r : Reading) (old now : Option (List ℕ)) (i : ℕ) (counted : Bool) (black : ℕ) (Are : List DrawnValue → Type 0) (w : IsWrittenTo g r old now i counted black Are) where
   pub size : length (map good w.pages) ≡ i
   size = length-map w.pages good ∙ w.count
 
@@ -58,8 +63,8 @@ module _ (g : Setup) (r : Reading) (old now : Option (List ℕ)) (i : ℕ) (coun
   texts page = ap (λ (t : List ℕ). flat_map text_of w.pages ++ t) (sym (append-nil (text_of page))) ∙ sym (flat_map-append text_of w.pages (page ∷ []))
 
   unfoldable pub written_more : (new : Option (List ℕ)) (page : DrawnValue) → IsValueOf g r i (Ok page) → Appends now new (text_of page)
-      → IsWrittenTo g r old new (suc i) counted (black + black_of counted page)
-  written_more new page value more = record {
+      → (Next : List DrawnValue → Type 0) → Next (w.pages ++ page ∷ []) → IsWrittenTo g r old new (suc i) counted (black + black_of counted page) Next
+  written_more new page value more Next are = record {
     pages = w.pages ++ page ∷ [];
     count = let count = w.count in let size = length-append w.pages (page ∷ []) in omega (arith, count, size);
     values = subst (HaveValues g r 0) (sym (map-append good w.pages (page ∷ []))) (one_more (Ok page) value);
@@ -69,6 +74,7 @@ module _ (g : Setup) (r : Reading) (old now : Option (List ℕ)) (i : ℕ) (coun
         let here = all_black counted page is in
         let all = sum_by_push black_in w.pages page in
         omega (arith, so_far, here, all);
+    are = are;
   }
 
   -- the values of the pages that were written, and of one more
@@ -93,30 +99,31 @@ module _ (g : Setup) (r : Reading) (old now : Option (List ℕ)) (i : ℕ) (coun
   first_pages : (values : List PageValue) (rest : List DrawnValue) → whole_pages values ≡ w.pages ++ rest → take i (whole_pages values) ≡ w.pages
   first_pages values rest is = ap (take i) is ∙ take_at w.pages rest i w.count
 
-  tally_of : (new : Option (List ℕ)) (e : EndingValue) (values : List PageValue) (rest : List DrawnValue) → whole_pages values ≡ w.pages ++ rest → IsAfter i e → AreWritten old new i e values
-      → TallyMatches counted old new (record { pages = i; black = black }) e values
-  tally_of new e values rest is next written = record {
+  tally_of : (noted : Bool) (new : Option (List ℕ)) (e : EndingValue) (values : List PageValue) (rest : List DrawnValue) → whole_pages values ≡ w.pages ++ rest → IsAfter i e → AreWritten old new i e values
+      → TallyMatches counted Are old new (record { pages = i; black = black; noted = noted }) e values
+  tally_of noted new e values rest is next written = record {
     few = let size = ap length is in let more = length-append w.pages rest in let count = w.count in omega (arith, size, more, count);
     black = λ asked. w.dots asked ∙ ap (sum_by black_in) (sym (first_pages values rest is));
     next = next;
     written = written;
+    are = subst Are (sym (first_pages values rest is)) w.are;
   }
 
   none_more : whole_pages (map good w.pages) ≡ w.pages ++ []
   none_more = whole_all w.pages ∙ sym (append-nil w.pages)
 
   -- how it ends, with the values that say so
-  abbrev Ends : (OutputFailed SourceFailed : Type 0) → Option (List ℕ) → EndingValue → Type 0
-  Ends OutputFailed SourceFailed new e = (values : List PageValue) × AreValues g r values × EndsPages old new OutputFailed SourceFailed e r values
-      × TallyMatches counted old new (record { pages = i; black = black }) e values
+  abbrev Ends : (noted : Bool) (OutputFailed SourceFailed : Type 0) → Option (List ℕ) → EndingValue → Type 0
+  Ends noted OutputFailed SourceFailed new e = (values : List PageValue) × AreValues g r values × EndsPages old new OutputFailed SourceFailed e r values
+      × TallyMatches counted Are old new (record { pages = i; black = black; noted = noted }) e values
 
   -- with all pages
-  pub ends_written : i ≡ pages_begun r
-      → AreValues g r (map good w.pages) × Wrote old now r (map good w.pages) × TallyMatches counted old now (record { pages = i; black = black }) Written (map good w.pages)
-  ends_written all = (
+  pub ends_written : (noted : Bool) → i ≡ pages_begun r
+      → AreValues g r (map good w.pages) × Wrote old now r (map good w.pages) × TallyMatches counted Are old now (record { pages = i; black = black; noted = noted }) Written (map good w.pages)
+  ends_written noted all = (
     before (omega (arith, all)),
     record { all = size ∙ all; good = (runs_of_good_pages w.pages).1; grew = grew_so },
-    tally_of now Written (map good w.pages) [] none_more tt (sym (ap length (whole_all w.pages) ∙ w.count)),
+    tally_of noted now Written (map good w.pages) [] none_more tt (sym (ap length (whole_all w.pages) ∙ w.count)),
   )
 
   -- the values of those that were written and of one more
@@ -173,19 +180,19 @@ module _ (g : Setup) (r : Reading) (old now : Option (List ℕ)) (i : ℕ) (coun
         )
 
     -- at a page that can't be written
-    pub ends_at : (OutputFails SourceFails OutputFailed SourceFailed : Type 0) → (OutputFails → OutputFailed) → (SourceFails → SourceFailed) → (s : WriteStop)
-        → IsWriteStop now new OutputFails SourceFails (IsValueOf g r i) (Unit {0}) s → Ends OutputFailed SourceFailed new (ending_at page s)
-    ends_at P Q P' Q' o s (stop.Draw (draw.Fault fault at)) h =
+    pub ends_at : (noted : Bool) (OutputFails SourceFails OutputFailed SourceFailed : Type 0) → (OutputFails → OutputFailed) → (SourceFails → SourceFailed) → (s : WriteStop)
+        → IsWriteStop now new OutputFails SourceFails (IsValueOf g r i) (Unit {0}) s → Ends noted OutputFailed SourceFailed new (ending_at page s)
+    ends_at noted P Q P' Q' o s (stop.Draw (draw.Fault fault at)) h =
         let f : PlacedFault = record { fault = value_of_fault fault; at = at } in
-        let e = stops f h.0 h.1 in (with_one (Err f), e.0, e.1, tally_of new _ (with_one (Err f)) [] (whole_first w.pages (Err f ∷ [])) number tt)
-    ends_at P Q P' Q' o s (stop.Draw draw.SourceFault) h =
-        let b = breaks h.2 in (map good w.pages, b.0, (b.1, s h.0), tally_of new _ (map good w.pages) [] none_more number tt)
-    ends_at P Q P' Q' o s (stop.Draw draw.NoMemory) h =
+        let e = stops f h.0 h.1 in (with_one (Err f), e.0, e.1, tally_of noted new _ (with_one (Err f)) [] (whole_first w.pages (Err f ∷ [])) number tt)
+    ends_at noted P Q P' Q' o s (stop.Draw draw.SourceFault) h =
+        let b = breaks h.2 in (map good w.pages, b.0, (b.1, s h.0), tally_of noted new _ (map good w.pages) [] none_more number tt)
+    ends_at noted P Q P' Q' o s (stop.Draw draw.NoMemory) h =
         let e = wants h.1 in
         let same = first_pages (map good w.pages) [] none_more in
         let grew = subst (λ (l : Option (List ℕ)). Appends old l (flat_map text_of (take i (whole_pages (map good w.pages))))) (sym h.1)
         (subst (λ (ps : List DrawnValue). Appends old now (flat_map text_of ps)) (sym same) w.grew) in
-        (map good w.pages, e.0, e.1, tally_of new _ (map good w.pages) [] none_more tt grew)
-    ends_at P Q P' Q' o s stop.Output h =
+        (map good w.pages, e.0, e.1, tally_of noted new _ (map good w.pages) [] none_more tt grew)
+    ends_at noted P Q P' Q' o s stop.Output h =
         let f = fails h.0 h.1 h.2 in
-        (with_one (Ok h.0), f.0, (f.1, o h.3), tally_of new _ (with_one (Ok h.0)) (h.0 ∷ []) (whole_first w.pages (Ok h.0 ∷ [])) number tt)
+        (with_one (Ok h.0), f.0, (f.1, o h.3), tally_of noted new _ (with_one (Ok h.0)) (h.0 ∷ []) (whole_first w.pages (Ok h.0 ∷ [])) number tt)

@@ -7,6 +7,7 @@ use Rattle.page_workers.specs.declared.worker.Worker.{Worker}
 use Rattle.dvi_run.specs.Sampled.{UsesTheSample}
 use Rattle.dvi_run.specs.Outside.{FaultsRose, Run, StreamChange, setup_of}
 use Rattle.dvi_run.specs.Promises.{FailingPageIsNamed, FaultIsNamed, GoodRunIsWhole, GoodRunIsWritten, HasFailingPage, InputFailed, StatusIsTrue, IsCutShort, IsNoted, IsWritten, SourceFailed, StoppedAt, document_of, rest_of}
+use Rattle.dvi_run.proofs.Lacking.{untolerated}
 use Rattle.dvi_run.proofs.Clauses as end
 use Rattle.dvi_run.proofs.Clauses.{of_all, of_each}
 
@@ -53,7 +54,7 @@ module _ {F : Type 0} (run : Run F) where
   nothing_by e h (inr (inr none)) = absurd none
 
   failing : (status : ℕ) (bytes : List ℕ) → StoppedAt g status output bytes → HasFailingPage g status bytes
-  failing status bytes at = (at.0, at.1, (at.2.0, at.2.1, at.2.2, at.2.3.fails))
+  failing status bytes at = (at.0, at.1, untolerated g at.2.0 at.2.1 at.0 at.2.2.pages.are at.2.3.fails, (at.2.0, at.2.1, at.2.2, at.2.3.fails))
 
   written_by : (e : EndingValue) → RunEnds e → IsWritten run (status_of e)
   written_by e h = record {

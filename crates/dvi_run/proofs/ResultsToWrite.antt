@@ -1,11 +1,11 @@
 -- The results of a round at hand, and how they are written.
-use Rattle.std.proofs.Common.{◌≡◌, inl, inr, ℕ, suc, ◌+◌, ◌*◌, ◌<◌, ◌≤◌, Bool, List, [], ◌∷◌, ◌++◌, length, get_or, All, Contains, Option, Result, Ok, Err, IfOk, IsOk, IsErrOf, refl, sym, ap, subst, ◌∙◌, add-one, arith}
+use Rattle.std.proofs.Common.{◌≡◌, inl, inr, ℕ, suc, ◌+◌, ◌*◌, ◌<◌, ◌≤◌, Bool, List, [], ◌∷◌, ◌++◌, length, get_or, All, Contains, Option, Result, Ok, Err, IfOk, IsOk, IsErrOf, refl, sym, ap, subst, ◌∙◌, add-one, append-nil, append_assoc, arith}
 use Rattle.std.proofs.lemmas.List.{length-append}
 use Rattle.std.proofs.lemmas.List.Elements.{Contains-get_or, Contains-append_cases}
 use Rattle.page_index.specs.Document.{Reading, pages_begun}
 use Rattle.page_draw.specs.Drawn.{IsWhole}
 use Rattle.page_draw.specs.Sheets.{IsDrawable}
-use Rattle.page_draw.specs.Values.{PageValue, value_of_drawn}
+use Rattle.page_draw.specs.Values.{DrawnValue, PageValue, value_of_drawn}
 use Rattle.page_draw.specs.declared.stop.PageStop.{PageStop}
 use Rattle.page_draw.specs.declared.stop.PageStop.TheVariants as draw
 use Rattle.page_draw.specs.declared.drawn.Drawn.{Drawn}
@@ -14,6 +14,7 @@ use Rattle.page_workers.specs.declared.worker.PageResult.{PageResult}
 use Rattle.dvi_run.specs.Pages.{AreValues, Setup, black_in}
 use Rattle.dvi_run.specs.Endings.{EndsPages, Source, ending_at}
 use Rattle.dvi_run.specs.Looked.{WasNotCutOff, sure_pages}
+use Rattle.dvi_run.specs.Pressing.{drawn_in}
 use Rattle.dvi_run.specs.Rounds.{IsOutcomeOf, WroteOutcome}
 use Rattle.dvi_run.specs.Stacks.{HasFewDots, WroteEach, WroteUpTo, WroteWhole}
 use Rattle.dvi_run.specs.Tally.{TallyMatches}
@@ -21,7 +22,7 @@ use Rattle.dvi_run.specs.declared.tally.Tally.{Tally}
 use Rattle.dvi_run.specs.declared.pages.WriteStop.{WriteStop}
 use Rattle.dvi_run.proofs.Dots.{few_on_sheet}
 use Rattle.dvi_run.proofs.PagesDrawn.{AreWhole, CutAmong, bitmap_whole, cons_cases, few_sure, only, source_failed, sure_where_cut, whole_outcome, why_stops, wrote_it}
-use Rattle.dvi_run.proofs.PagesWritten.{IsWrittenTo, ends_at, written_more}
+use Rattle.dvi_run.proofs.PagesWritten.{IsWrittenTo, ends_at, written_more, written_so}
 
 -- ---- lists
 
@@ -84,31 +85,39 @@ module _ (g : Setup) (reading : Reading) (SomeFailed : ℕ → Type 0) where
   -- ---- pages that were written
 
   module _ (old : Option (List ℕ)) (counted : Bool) where
-    abbrev To : Option (List ℕ) → ℕ → ℕ → Type 0
-    To now done black = IsWrittenTo g reading old now done counted black
+    abbrev To : Option (List ℕ) → ℕ → ℕ → (List DrawnValue → Type 0) → Type 0
+    To now done black Are = IsWrittenTo g reading old now done counted black Are
 
     good_one : (now new : Option (List ℕ)) (P : Type 0) (outcome : Result Drawn PageStop) (more : ℕ) → WroteOutcome counted now new P outcome (Ok more) → IsOk outcome
     good_one now new P (Ok page) more wrote = refl
     good_one now new P (Err reason) more wrote = absurd wrote
 
-    to_as : (now new : Option (List ℕ)) (done m black b : ℕ) → new ≡ now → m ≡ done → b ≡ black → To now done black → To new m b
-    to_as now new done m black b same pages dots w =
-        subst (λ (o : Option (List ℕ)). To o m b) (sym same) (subst (λ (i : ℕ). To now i b) (sym pages) (subst (λ (i : ℕ). To now done i) (sym dots) w))
+    to_as : (now new : Option (List ℕ)) (done m black b : ℕ) (Are : List DrawnValue → Type 0) → new ≡ now → m ≡ done → b ≡ black → To now done black Are → To new m b Are
+    to_as now new done m black b Are same pages dots w =
+        subst (λ (o : Option (List ℕ)). To o m b Are) (sym same) (subst (λ (i : ℕ). To now i b Are) (sym pages) (subst (λ (i : ℕ). To now done i Are) (sym dots) w))
 
-    written_each : (rs : List PageResult) (now new : Option (List ℕ)) (done black more : ℕ) → AreHeld done rs → WroteEach counted now new more rs → To now done black → To new (done + length rs) (black + more)
-    written_each [] now new done black more h wrote w =
-        let none : more ≡ 0 = wrote.1 in to_as now new done (done + 0) black (black + more) wrote.0 (omega arith) (omega arith) w
-    written_each (r ∷ rs) now new done black more h wrote w =
+    -- `Are` will hold of the pages and of those of these results
+    abbrev pub With : List PageResult → (List DrawnValue → Type 0) → List DrawnValue → Type 0
+    With rs Are pages = Are (pages ++ drawn_in rs)
+
+    written_each : (rs : List PageResult) (now new : Option (List ℕ)) (done black more : ℕ) (Are : List DrawnValue → Type 0) → AreHeld done rs → WroteEach counted now new more rs → To now done black (With rs Are) → To new (done + length rs) (black + more) Are
+    written_each [] now new done black more Are h wrote w =
+        let none : more ≡ 0 = wrote.1 in
+        let here : To now done black Are = written_so g reading old now done counted black (With [] Are) Are w (subst Are (append-nil w.pages) w.are) in
+        to_as now new done (done + 0) black (black + more) Are wrote.0 (omega arith) (omega arith) here
+    written_each (r ∷ rs) now new done black more Are h wrote w =
         let page = wrote_it counted now wrote.0 ⊥ g reading done wrote.1 r.outcome h.0.value wrote.3 in
-        let step = written_more g reading old now done counted black w wrote.0 page.0 page.1 page.2 in
-        let here : To wrote.0 (suc done) (black + wrote.1) = subst (λ (m : ℕ). To wrote.0 (suc done) (black + m)) (sym page.3) step in
-        let rest = written_each rs wrote.0 new (suc done) (black + wrote.1) wrote.2 h.1 wrote.5 here in
+        let are : Are ((w.pages ++ page.0 ∷ []) ++ drawn_in rs) =
+        subst Are (ap (λ (ps : List DrawnValue). w.pages ++ ps) (page.4 (drawn_in rs)) ∙ sym (append_assoc w.pages (page.0 ∷ []) (drawn_in rs))) w.are in
+        let step = written_more g reading old now done counted black (With (r ∷ rs) Are) w wrote.0 page.0 page.1 page.2 (With rs Are) are in
+        let here : To wrote.0 (suc done) (black + wrote.1) (With rs Are) = subst (λ (m : ℕ). To wrote.0 (suc done) (black + m) (With rs Are)) (sym page.3) step in
+        let rest = written_each rs wrote.0 new (suc done) (black + wrote.1) wrote.2 Are h.1 wrote.5 here in
         let sum : more ≡ wrote.1 + wrote.2 = wrote.4 in
-        to_as new new (suc done + length rs) (done + length (r ∷ rs)) (black + wrote.1 + wrote.2) (black + more) refl (omega arith) (omega arith) rest
+        to_as new new (suc done + length rs) (done + length (r ∷ rs)) (black + wrote.1 + wrote.2) (black + more) Are refl (omega arith) (omega arith) rest
 
-    pub wrote_whole : (rs : List PageResult) (now new : Option (List ℕ)) (t u : Tally) → AreHeld t.pages rs → WroteWhole counted now new rs t u → To now t.pages t.black → To new u.pages u.black
-    wrote_whole rs now new t u h wrote w =
-        to_as new new (t.pages + length rs) u.pages (t.black + wrote.black) u.black refl wrote.pages_are wrote.black_is (written_each rs now new t.pages t.black wrote.black h wrote.wrote w)
+    pub wrote_whole : (rs : List PageResult) (now new : Option (List ℕ)) (t u : Tally) (Are : List DrawnValue → Type 0) → AreHeld t.pages rs → WroteWhole counted now new rs t u → To now t.pages t.black (With rs Are) → To new u.pages u.black Are
+    wrote_whole rs now new t u Are h wrote w =
+        to_as new new (t.pages + length rs) u.pages (t.black + wrote.black) u.black Are refl wrote.pages_are wrote.black_is (written_each rs now new t.pages t.black wrote.black Are h wrote.wrote w)
 
     -- all of these have a bitmap
     good_each : (rs : List PageResult) (now new : Option (List ℕ)) (more : ℕ) → WroteEach counted now new more rs → (r : PageResult) → Contains rs r → HasBitmap r
@@ -136,11 +145,11 @@ module _ (g : Setup) (reading : Reading) (SomeFailed : ℕ → Type 0) where
           let parts = length-append up.written (up.refused ∷ up.rest) in
           (omega (arith, pages), omega (arith, pages, all, parts))
 
-      pub ends_up_to : (Fails : Type 0) → (P → Fails) → To now t.pages t.black → u.pages < pages_begun reading → (values : List PageValue) × AreValues g reading values
-          × EndsPages old new Fails (Unit {0}) (ending_at (u.pages + 1) why) reading values × TallyMatches counted old new u (ending_at (u.pages + 1) why) values
-      ends_up_to Fails fails w below =
-          let mid : To up.mid u.pages u.black = wrote_whole up.written now up.mid t u (held_first t.pages up.written (up.refused ∷ up.rest) held_here) up.whole w in
-          ends_at g reading old up.mid u.pages counted u.black mid new (u.pages + 1) (add-one u.pages) below P (Unit {0}) Fails (Unit {0}) fails (λ f. f) why
+      pub ends_up_to : (Fails : Type 0) → (P → Fails) → (Are : List DrawnValue → Type 0) → To now t.pages t.black (With up.written Are) → u.pages < pages_begun reading → (values : List PageValue) × AreValues g reading values
+          × EndsPages old new Fails (Unit {0}) (ending_at (u.pages + 1) why) reading values × TallyMatches counted Are old new u (ending_at (u.pages + 1) why) values
+      ends_up_to Fails fails Are w below =
+          let mid : To up.mid u.pages u.black Are = wrote_whole up.written now up.mid t u Are (held_first t.pages up.written (up.refused ∷ up.rest) held_here) up.whole w in
+          ends_at g reading old up.mid u.pages counted u.black Are mid new (u.pages + 1) (add-one u.pages) below u.noted P (Unit {0}) Fails (Unit {0}) fails (λ f. f) why
           (why_stops counted up.mid new P (Unit {0}) g reading u.pages up.refused.outcome why refused_held.value (λ f. tt) up.cause)
 
       pub cause_up_to : (page : ℕ) → ending_at (u.pages + 1) why ≡ Source page → SomeFailed page

@@ -14,26 +14,29 @@ use Rattle.cache_core.specs.Solo.{solo_history}
 use Rattle.turn_lock.specs.Histories.{AllMade}
 use Rattle.turn_lock.specs.Laws.{AloneIsHistory}
 use Rattle.page_index.specs.Document.{IsDocument, Reading}
-use Rattle.page_draw.specs.Values.{PageValue}
+use Rattle.page_draw.specs.Values.{DrawnValue, PageValue}
 use Rattle.page_workers.specs.declared.worker.Worker.{Worker}
 use Rattle.dvi_run.specs.CacheLimits.{cache_limits}
-use Rattle.dvi_run.specs.Pages.{Setup, setup_with}
+use Rattle.dvi_run.specs.Pages.{Setup, setup_with, whole_pages}
 use Rattle.dvi_run.specs.Sampled.{LoadedForSample}
 use Rattle.dvi_run.specs.Outside.{Drawing, FaultsRose, Run, Sources, StreamChange, Task, drawing_of, setup_of, task_for_sample}
 use Rattle.dvi_run.specs.Promises.{ReportMatchesRun, IsNoted, document_of}
-use Rattle.dvi_run.specs.Report.{loads_of, report_text}
+use Rattle.dvi_run.specs.Noted.{AreLacking, LackNothing, NotedLacks, WrotePages, is_noted, whole_count}
+use Rattle.dvi_run.specs.Report.{loads_of, notes_text}
 use Rattle.dvi_run.specs.Reading.{HoldsOfInput}
-use Rattle.dvi_run.specs.Endings.{EndingValue, Written, Usage, Document, Page, Source, Input, Output, Notes, Memory, EndsPages, WroteAll, page_status, status_of}
-use Rattle.dvi_run.specs.Looked.{IsAllWritten, EveryPageCameToItsEnd, IsIdle, MayBreakOff, WasNotCutOff, WasNotCutOffBy}
+use Rattle.dvi_run.specs.Endings.{EndingValue, Written, Usage, Document, Page, Source, Input, Output, Notes, Memory, EndsPages, status_of}
+use Rattle.dvi_run.specs.Looked.{EveryPageCameToItsEnd, IsIdle, MayBreakOff, WasNotCutOffBy}
 use Rattle.dvi_run.specs.Tally.{CountsTo, HadCache, TallyMatchesRun}
 use Rattle.command_line.specs.declared.settings.Settings.{Settings}
 use Rattle.dvi_run.specs.declared.tally.Tally.{Tally}
 use Rattle.dvi_run.specs.Rounds.{FailedAt, WorkerRan}
 use Rattle.dvi_run.proofs.FilesLoaded.{loads_as}
-use Rattle.dvi_run.proofs.Clauses.{AtPage, at_page, ends_late}
+use Rattle.dvi_run.proofs.Lacking.{AreCounted, are_counted, first_strictly, whole_strictly}
+use Rattle.dvi_run.proofs.Clauses.{ends_late}
+use Rattle.dvi_run.proofs.StatusOfEnd.{is_written, not_cut_off_by, to_its_end_by}
 use Rattle.page_workers.specs.Seating.{IsUnused}
 use Rattle.dvi_run.proofs.Shares.{none_shared, shared_as}
-use Rattle.dvi_run.specs.Together.{Answered, run_end, WorkersAreDone, DrewDocument, PagesMatchHistory, EachUsed, EveryPageCameToItsEndBy, GaveUpOnlyBroken, IsOneHistory, IsReadyWorker, RestIsKept, SomeUsed, SourceRose, WorkerDone}
+use Rattle.dvi_run.specs.Together.{Answered, run_end, WorkersAreDone, DrewDocument, PagesMatchHistory, EachUsed, GaveUpOnlyBroken, IsOneHistory, IsReadyWorker, RestIsKept, SomeUsed, SourceRose, WorkerDone}
 
 -- ---- whose source failed
 
@@ -65,42 +68,6 @@ ends_by old new P Q reading values Memory h failed = h
 pub some_rose : {F : Type 0} (faults : F → ℕ) (n : ℕ) (before after : List (Worker F)) (page : ℕ) → SomeUsed n before after (FailedAt faults page) → SomeUsed n before after (SourceRose faults)
 some_rose faults n before after page s = (s.0, s.1, λ d. (s.2 d).rose)
 
--- ---- by the status
-
-not_cut_off_by : (e : EndingValue) → WasNotCutOffBy (status_of e) → WasNotCutOff e
-not_cut_off_by Written h = tt
-not_cut_off_by Usage h = tt
-not_cut_off_by (Document fault) h = tt
-not_cut_off_by (Page page) h = tt
-not_cut_off_by (Source page) h = h.0 refl
-not_cut_off_by Input h = tt
-not_cut_off_by (Output page) h = tt
-not_cut_off_by Notes h = tt
-not_cut_off_by Memory h = h.1 refl
-
--- a page's status is neither 0 nor 8
-not_good : (n : ℕ) → AtPage n → WroteAll n → ⊥
-not_good n (inl three) (inl zero) = let e : 3 ≡ 0 = sym three ∙ zero in cc
-not_good n (inl three) (inr eight) = let e : 3 ≡ 8 = sym three ∙ eight in cc
-not_good n (inr four) (inl zero) = let e : 4 ≡ 0 = sym four ∙ zero in cc
-not_good n (inr four) (inr eight) = let e : 4 ≡ 8 = sym four ∙ eight in cc
-
--- a number is none of two
-is_neither : (n : ℕ) → (n ≡ 0 → ⊥) → (n ≡ 8 → ⊥) → WroteAll n → ⊥
-is_neither n a b (inl is) = a is
-is_neither n a b (inr is) = b is
-
-is_written : (e : EndingValue) → WroteAll (status_of e) → IsAllWritten e
-is_written Written is = tt
-is_written Usage is = is_neither 1 (λ e. cc) (λ e. cc) is
-is_written (Document fault) is = is_neither 2 (λ e. cc) (λ e. cc) is
-is_written (Page page) is = not_good (page_status page.fault) (at_page page.fault) is
-is_written (Source page) is = is_neither 5 (λ e. cc) (λ e. cc) is
-is_written Input is = is_neither 6 (λ e. cc) (λ e. cc) is
-is_written (Output page) is = is_neither 7 (λ e. cc) (λ e. cc) is
-is_written Notes is = tt
-is_written Memory is = is_neither 9 (λ e. cc) (λ e. cc) is
-
 -- ---- the tally
 
 had_cache : (old new : Option (List ℕ)) (P Q : Type 0) (reading : Reading) (values : List PageValue) (e : EndingValue) → EndsPages old new P Q e reading values → HadCache e
@@ -114,14 +81,10 @@ had_cache old new P Q reading values (Output page) h = tt
 had_cache old new P Q reading values Notes h = tt
 had_cache old new P Q reading values Memory h = tt
 
-counts_to : (counted : Bool) (old new : Option (List ℕ)) (history : List Call) (P Q : Type 0) (reading : Reading) (values : List PageValue) (e : EndingValue) (tally : Option Tally) → EndsPages old new P Q e reading values
-    → TallyMatchesRun counted old new history tally e values → CountsTo history tally e
-counts_to counted old new history P Q reading values e None h none = (subst IsIdle (sym none.0) tt, none.2)
-counts_to counted old new history P Q reading values e (Some t) h tallied = (had_cache old new P Q reading values e h, tallied.next)
-
-to_its_end_by : (n : ℕ) (e : EndingValue) → EveryPageCameToItsEndBy n (status_of e) → EveryPageCameToItsEnd n e
-to_its_end_by n e (inl good) = inl (is_written e good)
-to_its_end_by n e (inr one) = inr (one.0, not_cut_off_by e one.1)
+counts_to : (counted : Bool) (Are : List DrawnValue → Type 0) (old new : Option (List ℕ)) (history : List Call) (P Q : Type 0) (reading : Reading) (values : List PageValue) (e : EndingValue) (tally : Option Tally)
+    → EndsPages old new P Q e reading values → TallyMatchesRun counted Are old new history tally e values → CountsTo history tally e
+counts_to counted Are old new history P Q reading values e None h none = (subst IsIdle (sym none.0) tt, none.2)
+counts_to counted Are old new history P Q reading values e (Some t) h tallied = (had_cache old new P Q reading values e h, tallied.next)
 
 -- ---- one seat
 
@@ -234,7 +197,7 @@ one_history settings g reading drawing P values e tally ends legal made first fe
 
 -- ---- the pages of a document
 
-module _ {F : Type 0} (known : Option FileTable) (settings : Settings) (reading : Reading) (drawing : Drawing F) (e : EndingValue) (tally : Option Tally) (drew : DrewDocument (task_for_sample None known settings) reading drawing e tally) where
+module _ {F : Type 0} (known : Option FileTable) (settings : Settings) (reading : Reading) (drawing : Drawing F) (notes : StreamChange) (e : EndingValue) (tally : Option Tally) (drew : DrewDocument (task_for_sample None known settings) reading drawing notes e tally) where
   abbrev old : Option (List ℕ)
   old = drawing.output.before.bytes
 
@@ -243,7 +206,7 @@ module _ {F : Type 0} (known : Option FileTable) (settings : Settings) (reading 
 
   pub are_done : RestIsKept settings.workers drawing.before drawing.after → WorkersAreDone (task_for_sample None known settings) drawing e tally
   are_done rest = record {
-    counts = counts_to settings.summary old new drawing.history (FaultsRose drawing.output) (Unit {0}) reading drew.ends.0 e tally drew.ends.2 drew.ends.3;
+    counts = counts_to settings.summary (NotedLacks notes (is_noted tally)) old new drawing.history (FaultsRose drawing.output) (Unit {0}) reading drew.ends.0 e tally drew.ends.2 drew.ends.3;
     failed = drew.failed;
     one = drew.one;
     worked = λ k d lt. worked known settings drawing.sources reading e tally drawing.history k (get_or drawing.before k d) (get_or drawing.after k d) (drew.ran k d lt);
@@ -252,19 +215,34 @@ module _ {F : Type 0} (known : Option FileTable) (settings : Settings) (reading 
     rest = rest;
   }
 
-  pub drew_together : (bytes : List ℕ) → IsDocument settings.res bytes reading → AloneIsHistory → SoloIsOne → PagesMatchHistory (task_for_sample None known settings) drawing (status_of e) e tally bytes
-  drew_together bytes document alone law =
-      inr (
-        reading,
-        drew.ends.0,
-        record { document = document; pages = drew.ends.1 },
-        (
-          ends_so old new (FaultsRose drawing.output) (Unit {0}) reading drew.ends.0 e drew.ends.2,
-          drew.ends.3,
-          drew.shares,
-          λ k d lt. answered known settings drawing.sources reading e tally drawing.history k (get_or drawing.before k d) (get_or drawing.after k d) (drew.ran k d lt) drew.one alone law lt,
-        ),
-      )
+  -- the pages that were written whole
+  counted : AreCounted settings.summary (NotedLacks notes (is_noted tally)) old new drawing.history tally e drew.ends.0
+  counted = are_counted settings.summary (NotedLacks notes (is_noted tally)) old new drawing.history tally e drew.ends.0 drew.ends.3
+
+  lacking : AreLacking settings.sheet.tolerant counted.whole
+  lacking strict =
+      subst LackNothing (sym counted.first)
+      (first_strictly (whole_count tally) (whole_pages drew.ends.0) (whole_strictly (setup_with known settings) reading 0 drew.ends.0 strict drew.ends.1.are))
+
+  pub drew_together : (bytes : List ℕ) → IsDocument settings.res bytes reading → AloneIsHistory → SoloIsOne
+      → WrotePages notes settings.sheet.tolerant tally (λ whole. PagesMatchHistory (task_for_sample None known settings) drawing (status_of e) e tally whole bytes)
+  drew_together bytes document alone law = record {
+    whole = counted.whole;
+    count = counted.count;
+    lacking = lacking;
+    noted = counted.are;
+    are = inr (
+      reading,
+      drew.ends.0,
+      record { document = document; pages = drew.ends.1 },
+      (
+        ends_so old new (FaultsRose drawing.output) (Unit {0}) reading drew.ends.0 e drew.ends.2,
+        counted.tallied,
+        drew.shares,
+        λ k d lt. answered known settings drawing.sources reading e tally drawing.history k (get_or drawing.before k d) (get_or drawing.after k d) (drew.ran k d lt) drew.one alone law lt,
+      ),
+    );
+  }
 
   pub ends_used : EndsPages drawing.output.before.bytes drawing.output.after.bytes (FaultsRose drawing.output) (SomeUsed settings.workers drawing.before drawing.after (SourceRose drawing.sources.faults)) e reading drew.ends.0
   ends_used =
@@ -272,9 +250,12 @@ module _ {F : Type 0} (known : Option FileTable) (settings : Settings) (reading 
       (λ page is. some_rose drawing.sources.faults settings.workers drawing.before drawing.after page (drew.failed page is))
 
 -- the end of a run
-pub ended_at : {F : Type 0} (run : Run F) (e : EndingValue) (tally : Option Tally) → IsNoted run e (report_text run.task.settings tally (loads_of run.task.settings.workers run.after) run.history e) → WorkersAreDone run.task (drawing_of run) e tally
-    → HoldsOfInput (document_of run) (PagesMatchHistory run.task (drawing_of run) (status_of e) e tally) → (status : ℕ) → status ≡ status_of e → ReportMatchesRun run status e tally
-ended_at run e tally noted done drew status is = subst (λ (m : ℕ). ReportMatchesRun run m e tally) (sym is) (record { noted = noted; counted = done.counts; failed = done.failed; gave_up = done.gave_up; drew = drew })
+pub ended_at : {F : Type 0} (run : Run F) (e : EndingValue) (tally : Option Tally) (whole : List DrawnValue) → length whole ≡ whole_count tally → AreLacking run.task.settings.sheet.tolerant whole
+    → IsNoted run e (notes_text whole run.task.settings tally (loads_of run.task.settings.workers run.after) run.history e) → WorkersAreDone run.task (drawing_of run) e tally
+    → HoldsOfInput (document_of run) (PagesMatchHistory run.task (drawing_of run) (status_of e) e tally whole) → (status : ℕ) → status ≡ status_of e → ReportMatchesRun run status e tally
+ended_at run e tally whole count lacking noted done drew status is =
+    subst (λ (m : ℕ). ReportMatchesRun run m e tally) (sym is)
+    (record { whole = whole; count = count; lacking = lacking; noted = noted; counted = done.counts; failed = done.failed; gave_up = done.gave_up; drew = drew })
 
 -- a worker as it was made is ready for a run that knows no library
 pub ready_unknown : {F : Type 0} (library : F → Option FileTable) (w : Worker F) → IsUnused w → IsReadyWorker library None w
@@ -337,14 +318,14 @@ idle_done task sources output ws history e ready is_idle none =
       rest = λ k d le. refl;
     })
 
-pub idle_drew : {F : Type 0} (task : Task) (sources : Sources F) (output : StreamChange) (ws : List (Worker F)) (history : List Call) (status : ℕ) (e : EndingValue) (left : Option (List ℕ)) → IsIdle e → history ≡ []
-    → HoldsOfInput left (PagesMatchHistory task (no_drawing sources output ws history) status e None)
-idle_drew task sources output ws history status e None is_idle none = tt
-idle_drew task sources output ws history status e (Some bytes) is_idle none = inl (is_idle, refl, none, refl)
+pub idle_drew : {F : Type 0} (task : Task) (sources : Sources F) (output : StreamChange) (ws : List (Worker F)) (history : List Call) (status : ℕ) (e : EndingValue) (left : Option (List ℕ)) (whole : List DrawnValue) → IsIdle e → history ≡ []
+    → HoldsOfInput left (PagesMatchHistory task (no_drawing sources output ws history) status e None whole)
+idle_drew task sources output ws history status e None whole is_idle none = tt
+idle_drew task sources output ws history status e (Some bytes) whole is_idle none = inl (is_idle, refl, none, refl)
 
 -- ---- the first of some workers
 
-module _ {F : Type 0} (task : Task) (reading : Reading) (drawing : Drawing F) (e : EndingValue) (tally : Option Tally) (rest : List (Worker F)) (long : length drawing.after ≡ task.settings.workers) where
+module _ {F : Type 0} (task : Task) (reading : Reading) (drawing : Drawing F) (notes : StreamChange) (e : EndingValue) (tally : Option Tally) (rest : List (Worker F)) (long : length drawing.after ≡ task.settings.workers) where
   abbrev n : ℕ
   n = task.settings.workers
 
@@ -360,7 +341,7 @@ module _ {F : Type 0} (task : Task) (reading : Reading) (drawing : Drawing F) (e
   is : (k : ℕ) (d : Worker F) → k < n → get_or prefix k d ≡ get_or (prefix ++ rest) k d
   is k d lt = sym (get_or_append_left prefix rest d k (omega arith))
 
-  pub of_prefix : DrewDocument task reading (record drawing { before = take task.settings.workers drawing.before }) e tally → DrewDocument task reading (record drawing { after = drawing.after ++ rest }) e tally
+  pub of_prefix : DrewDocument task reading (record drawing { before = take task.settings.workers drawing.before }) notes e tally → DrewDocument task reading (record drawing { after = drawing.after ++ rest }) notes e tally
   of_prefix d = record {
     ends = d.ends;
     failed = λ page at.

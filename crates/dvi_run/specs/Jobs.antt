@@ -15,7 +15,7 @@ use Rattle.page_index.specs.Pages.{document_units}
 use Rattle.page_draw.specs.Values.{PageValue}
 use Rattle.page_workers.specs.Seats.{BenchFits, library_at, own_calls, room_at}
 use Rattle.page_workers.specs.declared.worker.Worker.{Worker}
-use Rattle.dvi_run.specs.Pages.{AreValues, FailingPage, finding, run_fault}
+use Rattle.dvi_run.specs.Pages.{AreValues, FailingPage, IsUntolerated, finding, run_fault}
 use Rattle.dvi_run.specs.Endings.{EndingValue, Source, EndsPages, IsAmong, page_status}
 use Rattle.dvi_run.specs.Looked.{BrokenLooks, MayBreakOff, MayWantMemory, WholeLooks}
 use Rattle.dvi_run.specs.Outside.{FaultsRose, StreamChange}
@@ -110,10 +110,10 @@ module _ {F : Type 0} (s : Site F) (stream : StreamChange) (before after : List 
   pub record JobAnswerIsTrue (status : ℕ) : Type 0 where
     pub answers : IsAmong status (0 ∷ 3 ∷ 4 ∷ 5 ∷ 7 ∷ 9 ∷ [])
     -- 3 and 4: exactly where a page has no bitmap, 4 where the fault is its font's, and neither a
-    -- write nor a source failed before
+    -- write nor a source failed before. What a tolerant sheet goes past is no such page's fault
     pub page : IsAmong status (3 ∷ 4 ∷ []) → (values : List PageValue) × (page : FailingPage)
         × AreValues s.given s.reading values × (run_fault values ≡ Some page)
-        × (status ≡ page_status page.fault)
+        × (status ≡ page_status page.fault) × IsUntolerated s.given page
     pub stopped : (files : FileTable) → s.given.library ≡ Some files → (values : List PageValue)
         (page : FailingPage) → AreValues s.given s.reading values → run_fault values ≡ Some page
         → IsAmong status (page_status page.fault ∷ 5 ∷ 7 ∷ 9 ∷ [])

@@ -15,6 +15,7 @@ pub mod Pressing
 pub mod Shares
 pub mod Tally
 pub mod Report
+pub mod Noted
 pub mod Sampled
 pub mod Outside
 pub mod Together

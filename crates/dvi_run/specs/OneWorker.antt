@@ -13,9 +13,9 @@ use Rattle.dvi_run.specs.CacheLimits.{cache_limits}
 use Rattle.dvi_run.specs.Pages.{FailingPage}
 use Rattle.dvi_run.specs.Endings.{EndingValue, Written, Page, Notes, status_of}
 use Rattle.dvi_run.specs.Looked.{WasNotCutOffBy}
-use Rattle.dvi_run.specs.Report.{loads_of, report_text}
+use Rattle.dvi_run.specs.Report.{loads_of, notes_text}
 use Rattle.dvi_run.specs.Outside.{Task, setup_of}
-use Rattle.dvi_run.specs.Together.{Answered, DrewPages, KnownBytes, RunEnd, run_end}
+use Rattle.dvi_run.specs.Together.{Answered, DrewPages, KnownOutput, RunEnd, run_end}
 use Rattle.dvi_run.specs.declared.tally.Tally.{Tally}
 
 -- all pages were written, or a page has no bitmap: nothing but the pages decided how it ended
@@ -32,11 +32,11 @@ page_named _ = None
 
 -- Two runs by one worker over the same bytes, for the same settings and known font files, that
 -- nothing but their pages ended: they end at the same page, if at one, their calls of the cache are
--- one history, they load as many files, and their reports are one text. Each is given by what it
--- says of its pages, whatever its streams and its source are.
+-- one history, they load as many files, and what they print to their notes is one text. Each is
+-- given by what it says of its pages, whatever its streams and its source are.
 abbrev pub RunsOfOneWorkerAreAlike : (F G : Type 0) → Type 0
 RunsOfOneWorkerAreAlike F G =
-    (task : Task) (files : FileTable) (bytes : List ℕ) (output other : KnownBytes)
+    (task : Task) (files : FileTable) (bytes : List ℕ) (output other : KnownOutput)
     (before after : List (Worker F)) (was now : List (Worker G)) (history calls : List Call)
     (e f : EndingValue) (tally t : Option Tally)
     → task.settings.workers ≡ 1 → (setup_of task).library ≡ Some files
@@ -44,8 +44,8 @@ RunsOfOneWorkerAreAlike F G =
     → DrewPages task output before after history (run_end (status_of e) e tally) bytes
     → DrewPages task other was now calls (run_end (status_of f) f t) bytes
     → (page_named e ≡ page_named f) × (history ≡ calls) × (loads_of 1 after ≡ loads_of 1 now)
-    × (report_text task.settings tally (loads_of 1 after) history e
-    ≡ report_text task.settings t (loads_of 1 now) calls f)
+    × (notes_text output.whole task.settings tally (loads_of 1 after) history e
+    ≡ notes_text other.whole task.settings t (loads_of 1 now) calls f)
 
 -- The calls of the cache in a run by one worker over known font files that was cut off neither by
 -- its source nor for want of memory: they are one list, given what each key's font weighs in the

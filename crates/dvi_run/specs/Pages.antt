@@ -1,5 +1,5 @@
 -- The pages of a document drawn: the text that a run writes, and the page that ends it.
-use Rattle.std.specs.Prelude.{◌≡◌, ◌≤◌, ℕ, suc, List, [], ◌∷◌, length, Option, Some, None, Ok, Err}
+use Rattle.std.specs.Prelude.{◌≡◌, ◌≤◌, ℕ, suc, List, [], ◌∷◌, length, Option, Some, None, Ok, Err, IsFalse, IsTrue}
 use Rattle.std.specs.Option.{option_map}
 use Rattle.std.specs.List.{flat_map}
 use Rattle.outside.specs.Library.{FileTable}
@@ -8,7 +8,7 @@ use Rattle.packed_rows.specs.Changes.{black_count}
 use Rattle.page_index.specs.Document.{IsDocument, Reading, pages_begun}
 use Rattle.page_index.specs.Pages.{document_units}
 use Rattle.font_decode.specs.Decoding.{IsFontOf}
-use Rattle.vf_expand.specs.Faults.{PageFaultValue}
+use Rattle.vf_expand.specs.Faults.{PageFaultValue, is_lack}
 use Rattle.page_draw.specs.Members.{Finding}
 use Rattle.page_draw.specs.Values.{DrawnValue, PageValue, PlacedFault}
 use Rattle.page_draw.specs.Drawn.{IsPageValue}
@@ -84,6 +84,10 @@ pub record FailingPage : Type 0 where
 
 abbrev pub failing_page : ℕ → PlacedFault → FailingPage
 failing_page n f = record { page = n; fault = f.fault; at = f.at }
+
+-- on a tolerant sheet the fault is no missing font, character, glyph or packet, which it goes past
+abbrev pub IsUntolerated : Setup → FailingPage → Type 0
+IsUntolerated g page = IsTrue g.sheet.tolerant → IsFalse (is_lack page.fault)
 
 -- a page's bitmap as a text, and how many of its pixels are black
 abbrev pub text_of : DrawnValue → List ℕ

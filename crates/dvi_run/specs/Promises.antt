@@ -1,17 +1,18 @@
 -- What holds of a run: why it ended as its status says, what it wrote and noted, and what was
 -- drawn.
-use Rattle.std.specs.Prelude.{◌≡◌, ◌⊎◌, ◌≤◌, ◌+◌, ℕ, List, [], ◌∷◌, Option, Some, None, IfSome}
+use Rattle.std.specs.Prelude.{◌≡◌, ◌⊎◌, ◌≤◌, ◌+◌, ℕ, List, [], ◌∷◌, length, Option, Some, None, IfSome}
 use Rattle.outside.specs.Library.{FileTable}
 use Rattle.cache_core.specs.Histories.{own}
 use Rattle.page_index.specs.Document.{Reading}
 use Rattle.page_index.specs.Faults.{IsFirstFault}
 use Rattle.page_index.specs.declared.faults.DocFault.{DocFault}
-use Rattle.page_draw.specs.Values.{PageValue}
+use Rattle.page_draw.specs.Values.{DrawnValue, PageValue}
 use Rattle.command_line.specs.declared.settings.Settings.{Settings}
 use Rattle.dvi_run.specs.Reading.{IsAllRead, HoldsOfInput}
-use Rattle.dvi_run.specs.Pages.{FailingPage, Setup, IsRun, IsWholeRun, run_fault}
+use Rattle.dvi_run.specs.Pages.{FailingPage, Setup, IsRun, IsUntolerated, IsWholeRun, run_fault}
 use Rattle.dvi_run.specs.Lines.{line_of}
-use Rattle.dvi_run.specs.Report.{loads_of, report_text}
+use Rattle.dvi_run.specs.Noted.{AreLacking, whole_count}
+use Rattle.dvi_run.specs.Report.{loads_of, notes_text}
 use Rattle.dvi_run.specs.Tally.{CountsTo}
 use Rattle.dvi_run.specs.Endings.{EndingValue, Source, IsAmong, IsPlaced, HoldsOfDocument, Stopped, Prints, PrintsBy, Wrote, WroteAll, WroteBefore, WrotePrefix, WroteSome, page_status, status_of, statuses}
 use Rattle.dvi_run.specs.Rounds.{FailedAt}
@@ -32,9 +33,11 @@ abbrev pub FaultIsNamed : Setup → ℕ → List ℕ → Type 0
 FaultIsNamed g status bytes =
     (fault : DocFault) → IsFirstFault g.res bytes fault → IsAmong status (2 ∷ 6 ∷ 9 ∷ [])
 
--- they are a document with a page that has no bitmap, which has this status
+-- they are a document with a page that has no bitmap, which has this status. What a tolerant sheet
+-- goes past is no such page's fault: neither a missing font nor a missing character, glyph or packet
 abbrev pub HasFailingPage : Setup → ℕ → List ℕ → Type 0
 HasFailingPage g status bytes = (page : FailingPage) × (status ≡ page_status page.fault)
+    × IsUntolerated g page
     × HoldsOfDocument g bytes (λ _ values. run_fault values ≡ Some page)
 
 -- if they are a document with a page that has no bitmap the status is the first such page's, or
@@ -156,24 +159,30 @@ pub record IsCutShort {F : Type 0} (run : Run F) (status : ℕ) : Type 0 where
       ⊎ HoldsOfInput (document_of run) (λ bytes. HoldsOfDocument (setup_of run.task) bytes
       (λ _. WroteSome run.streams.output.before.bytes run.streams.output.after.bytes))
 
--- What the notes took of the report of a run that ends so, and that its last line is true.
-pub record IsNoted {F : Type 0} (run : Run F) (e : EndingValue) (report : List ℕ) : Type 0 where
+-- What the notes took of the text of a run that ends so, and that its last line is true.
+pub record IsNoted {F : Type 0} (run : Run F) (e : EndingValue) (text : List ℕ) : Type 0 where
   -- what the line names is the document's: its first fault, its page without a bitmap with the
   -- fault and its place, or the page that the source or the output failed at
   pub placed : IsPlaced (setup_of run.task) e (document_of run) run.streams.output.before.bytes
       run.streams.output.after.bytes
-  -- 0: the notes grew by the report; 8: they failed, and grew by a prefix of it, never all; else
-  -- they grew by it, or by a prefix of it where they failed
+  -- 0: the notes grew by the text; 8: they failed, and grew by a prefix of it, never all; else they
+  -- grew by it, or by a prefix of it where they failed
   pub printed : PrintsBy e run.streams.notes.before.bytes run.streams.notes.after.bytes
-      run.streams.notes.before.faults run.streams.notes.after.faults report
+      run.streams.notes.before.faults run.streams.notes.after.faults text
 
 -- The end of a run over the workers that its settings name: what it noted, whose source failed,
 -- what was written whole, and what was drawn.
 pub record ReportMatchesRun {F : Type 0} (run : Run F) (status : ℕ) (e : EndingValue)
     (tally : Option Tally) : Type 0 where
-  -- the notes took the report of this end: the history's lines and the summary where they are asked
-  -- for, with the tally and all loads of the used workers, and the line of the end, which is true
-  pub noted : IsNoted run e (report_text run.task.settings tally
+  -- the pages that were written whole, as many as the tally counts; they lack nothing, unless the
+  -- sheet is tolerant
+  pub whole : List DrawnValue
+  pub count : length whole ≡ whole_count tally
+  pub lacking : AreLacking run.task.settings.sheet.tolerant whole
+  -- the notes took the text of this end: a line for each lack of these pages, in their order; the
+  -- history's lines and the summary where they are asked for, with the tally and all loads of the
+  -- used workers; and the line of the end, which is true
+  pub noted : IsNoted run e (notes_text whole run.task.settings tally
       (loads_of run.task.settings.workers run.after) run.history e)
   -- there is no tally where the run ended before a cache was made, so that there is no call, and
   -- else it counts pages up to the one that the line names
@@ -189,10 +198,10 @@ pub record ReportMatchesRun {F : Type 0} (run : Run F) (status : ℕ) (e : Endin
   -- for its key: the pages have the values that this gives them, which say what was written; the
   -- workers drew the first pages, each page once, to the end of the round of the page named at
   -- most, or of the next one where its write failed; the calls of each worker answer what its pages
-  -- looked up; and the tally is that of the pages written whole, with their black pixels if the
-  -- summary is asked for
+  -- looked up; and the tally is that of the pages written whole, which are those above, with their
+  -- black pixels if the summary is asked for
   pub drew : HoldsOfInput (document_of run) (PagesMatchHistory run.task (drawing_of run) status e
-      tally)
+      tally whole)
 
 -- The counts of faults of the input, the output and the notes didn't fall.
 pub record NoCountFalls (streams : Streams) : Type 0 where
@@ -208,7 +217,7 @@ pub record KeepsPromises {F : Type 0} (run : Run F) (status : ℕ) : Type 0 wher
   pub caused : StatusIsTrue run status
   -- the bytes written where it ended well
   pub written : IsWritten run status
-  -- the report in the notes, what was written whole, the worker whose source failed, and the pages
+  -- the text in the notes, what was written whole, the worker whose source failed, and the pages
   -- drawn, with what each look-up found and the calls that it made, of one and the same end
   pub ended : (ending : EndingValue) × (tally : Option Tally) × (status ≡ status_of ending)
       × ReportMatchesRun run status ending tally

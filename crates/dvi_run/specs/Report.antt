@@ -1,13 +1,15 @@
--- What a run prints in its notes: the trace, the summary and the line of its end.
+-- What a run prints in its notes: what its pages lack, and then its report, which is the trace, the
+-- summary and the line of its end.
 use Rattle.std.specs.Prelude.{ℕ, Bool, true, false, List, [], ◌++◌, take, Option, Some, None}
 use Rattle.std.specs.List.{sum_by}
 use Rattle.cache_core.specs.declared.calls.Call.{Call}
+use Rattle.page_draw.specs.Values.{DrawnValue}
 use Rattle.page_workers.specs.declared.worker.Worker.{Worker}
 use Rattle.run_report.specs.Trace.{trace_text}
 use Rattle.run_report.specs.Summary.{summary_text}
 use Rattle.run_report.specs.declared.counts.Counts.{Counts}
 use Rattle.dvi_run.specs.Endings.{EndingValue}
-use Rattle.dvi_run.specs.Lines.{line_of}
+use Rattle.dvi_run.specs.Lines.{lacks_text, line_of}
 use Rattle.command_line.specs.declared.settings.Settings.{Settings}
 use Rattle.dvi_run.specs.declared.tally.Tally.{Tally}
 
@@ -34,3 +36,10 @@ abbrev pub report_text : Settings → Option Tally → (loads : ℕ) → List Ca
 report_text settings None loads history e = line_of e
 report_text settings (Some t) loads history e =
     trace_and_summary settings t loads history ++ line_of e
+
+-- what the pages lack that were written whole, and then the report. No page was where no cache was
+-- made
+abbrev pub notes_text : List DrawnValue → Settings → Option Tally → (loads : ℕ) → List Call
+    → EndingValue → List ℕ
+notes_text whole settings tally loads history e =
+    lacks_text whole ++ report_text settings tally loads history e

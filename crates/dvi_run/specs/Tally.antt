@@ -3,7 +3,7 @@ use Rattle.std.specs.Prelude.{◌≡◌, ◌≤◌, ℕ, suc, Bool, true, List, 
 use Rattle.std.specs.List.{flat_map, sum_by}
 use Rattle.std.specs.Io.KnownBytes.{Appends}
 use Rattle.cache_core.specs.declared.calls.Call.{Call}
-use Rattle.page_draw.specs.Values.{PageValue}
+use Rattle.page_draw.specs.Values.{DrawnValue, PageValue}
 use Rattle.dvi_run.specs.Pages.{black_in, text_of, whole_pages}
 use Rattle.dvi_run.specs.Endings.{EndingValue, Written, Usage, Document, Page, Source, Input}
 use Rattle.dvi_run.specs.Endings.{Output, Notes, Memory}
@@ -28,21 +28,25 @@ AreWritten old new pages Memory values =
 AreWritten old new pages _ values = Unit {0}
 
 -- what was written whole of a document whose first pages have these values, in a run that ended so;
--- black pixels where they were counted
-pub record TallyMatches (counted : Bool) (old new : Option (List ℕ)) (t : Tally) (e : EndingValue)
+-- black pixels where they were counted; and `Are` holds of the pages that were written whole
+pub record TallyMatches (counted : Bool) (Are : List DrawnValue → Type 0)
+    (old new : Option (List ℕ)) (t : Tally) (e : EndingValue)
     (values : List PageValue) : Type 0 where
   pub few : t.pages ≤ length (whole_pages values)
   pub black : counted ≡ true
       → t.black ≡ sum_by black_in (take t.pages (whole_pages values))
   pub next : IsAfter t.pages e
   pub written : AreWritten old new t.pages e values
+  pub are : Are (take t.pages (whole_pages values))
 
 -- and there is no tally where no cache was made, since memory ran out before: so no call was made
-abbrev pub TallyMatchesRun : Bool → (old new : Option (List ℕ)) → (history : List Call)
+abbrev pub TallyMatchesRun : Bool → (Are : List DrawnValue → Type 0)
+    → (old new : Option (List ℕ)) → (history : List Call)
     → Option Tally → EndingValue → List PageValue → Type 0
-TallyMatchesRun counted old new history None e values =
-    (e ≡ Memory) × (new ≡ old) × (history ≡ [])
-TallyMatchesRun counted old new history (Some t) e values = TallyMatches counted old new t e values
+TallyMatchesRun counted Are old new history None e values =
+    (e ≡ Memory) × (new ≡ old) × (history ≡ []) × Are []
+TallyMatchesRun counted Are old new history (Some t) e values =
+    TallyMatches counted Are old new t e values
 
 -- a cache was made before a run ended so, or may have been
 abbrev pub HadCache : EndingValue → Type 0

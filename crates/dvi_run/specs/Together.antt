@@ -14,7 +14,7 @@ use Rattle.font_decode.specs.Loads.{MAX_LOADS}
 use Rattle.font_decode.specs.Weights.{IsWeightOf}
 use Rattle.page_index.specs.Document.{Reading, pages_begun}
 use Rattle.page_index.specs.Pages.{document_units}
-use Rattle.page_draw.specs.Values.{PageValue}
+use Rattle.page_draw.specs.Values.{DrawnValue, PageValue}
 use Rattle.page_workers.specs.SparePages.{HasNoSparePages}
 use Rattle.page_workers.specs.declared.worker.Worker.{Worker}
 use Rattle.command_line.specs.declared.settings.Settings.{Settings}
@@ -26,7 +26,8 @@ use Rattle.dvi_run.specs.Rounds.{FailedAt, IsFresh, LoadsAreOf, WorkerRan, index
 use Rattle.dvi_run.specs.Shares.{PartitionPages, WorkersDrew}
 use Rattle.dvi_run.specs.Tally.{CountsTo, TallyMatchesRun}
 use Rattle.dvi_run.specs.Sampled.{LoadedForSample}
-use Rattle.dvi_run.specs.Outside.{Drawing, FaultsRose, Sources, Task, setup_of}
+use Rattle.dvi_run.specs.Noted.{NotedLacks, is_noted}
+use Rattle.dvi_run.specs.Outside.{Drawing, FaultsRose, Sources, StreamChange, Task, setup_of}
 use Rattle.dvi_run.specs.declared.tally.Tally.{Tally}
 
 -- ---- the workers that a run uses: the first n of them
@@ -148,13 +149,16 @@ pub record Answered {F : Type 0} (task : Task) (reading : Reading) (history : Li
       → (weight : FontKey → ℕ) → WeighSo weight (own (place + 1) history)
       → history ≡ solo_history (cache_limits task.settings) 1 weight keys
 
--- what is known of an output's bytes before a run and after it
-pub record KnownBytes : Type 0 where
+-- what is known of an output's bytes before a run and after it, and the pages that were written
+-- whole
+pub record KnownOutput : Type 0 where
   pub before : Option (List ℕ)
   pub after : Option (List ℕ)
+  pub whole : List DrawnValue
 
-abbrev pub known_bytes : (before after : Option (List ℕ)) → KnownBytes
-known_bytes before after = record { before = before; after = after }
+abbrev pub known_output : StreamChange → (whole : List DrawnValue) → KnownOutput
+known_output output whole =
+    record { before = output.before.bytes; after = output.after.bytes; whole = whole }
 
 -- What was drawn of these bytes, which are a document, in a run that ended so: its pages have the
 -- values that say what was written, each font being what the library has for its key; the used
@@ -162,35 +166,36 @@ known_bytes before after = record { before = before; after = after }
 -- and none after its round, or where its write failed after the next one; the calls of each answer
 -- what its pages looked up; and the tally is that of the pages written whole, with their black
 -- pixels where the settings ask for the summary.
-abbrev pub DrewPages : {F : Type 0} → Task → KnownBytes → (before after : List (Worker F))
+abbrev pub DrewPages : {F : Type 0} → Task → KnownOutput → (before after : List (Worker F))
     → (history : List Call) → RunEnd → (bytes : List ℕ) → Type 0
 DrewPages task output before after history end bytes =
     HoldsOfDocument (setup_of task) bytes (λ reading values.
     EndsPages output.before output.after (Unit {0}) (Unit {0}) end.ending reading values
-    × TallyMatchesRun task.settings.summary output.before output.after history end.tally end.ending
-    values
+    × TallyMatchesRun task.settings.summary (λ pages. output.whole ≡ pages) output.before
+    output.after history end.tally end.ending values
     × WorkersDrew (pages_begun reading) task.settings.workers end.ending end.tally after
     × EachUsed task.settings.workers before after
     (λ k _ now. Answered task reading history end k now))
 
 -- And where no cache was made nothing was.
 abbrev pub PagesMatchHistory : {F : Type 0} → Task → Drawing F → (status : ℕ) → EndingValue
-    → Option Tally → (bytes : List ℕ) → Type 0
-PagesMatchHistory task drawing status e tally bytes =
+    → Option Tally → (whole : List DrawnValue) → (bytes : List ℕ) → Type 0
+PagesMatchHistory task drawing status e tally whole bytes =
     (IsIdle e × (tally ≡ None) × (drawing.history ≡ []) × (drawing.after ≡ drawing.before))
-    ⊎ DrewPages task (known_bytes drawing.output.before.bytes drawing.output.after.bytes)
-    drawing.before drawing.after drawing.history (run_end status e tally) bytes
+    ⊎ DrewPages task (known_output drawing.output whole) drawing.before drawing.after
+    drawing.history (run_end status e tally) bytes
 
 -- ---- the parts of a run
 
--- the pages of a document were drawn by the workers that the settings name, and it ended so
+-- the pages of a document were drawn by the workers that the settings name, what they lack was
+-- noted, and it ended so
 pub record DrewDocument {F : Type 0} (task : Task) (reading : Reading) (drawing : Drawing F)
-    (e : EndingValue) (tally : Option Tally) : Type 0 where
+    (notes : StreamChange) (e : EndingValue) (tally : Option Tally) : Type 0 where
   pub ends : (values : List PageValue) × AreValues (setup_of task) reading values
       × EndsPages drawing.output.before.bytes drawing.output.after.bytes
       (FaultsRose drawing.output) (Unit {0}) e reading values
-      × TallyMatchesRun task.settings.summary drawing.output.before.bytes drawing.output.after.bytes
-      drawing.history tally e values
+      × TallyMatchesRun task.settings.summary (NotedLacks notes (is_noted tally))
+      drawing.output.before.bytes drawing.output.after.bytes drawing.history tally e values
   pub failed : (page : ℕ) → e ≡ Source page
       → SomeUsed task.settings.workers drawing.before drawing.after
       (FailedAt drawing.sources.faults page)

@@ -12,7 +12,9 @@ ghost use Rattle.dvi_run.specs.Jobs.{DrewJob, JobAnswerIsTrue};
 ghost use Rattle.dvi_run.specs.Outside.{change_of};
 ghost use Rattle.dvi_run.specs.Rounds.{site};
 
+use crate::host::Host;
 use crate::rounds::write_rounds;
+use crate::silence::Silence;
 use outside::{FontSource, Output};
 use page_draw::Sheet;
 use page_draw::laws::values;
@@ -38,6 +40,9 @@ use std::thread::Threads;
 /// source failed in this call, or for want of memory: never where the answer is 0, and with one
 /// worker only where it is 9. Such a page is its worker's last one, and a claim is given up only
 /// there.
+///
+/// On a tolerant sheet a page may lack fonts, characters, glyphs and packets, as in `run_with`; here
+/// it isn't told which.
 ///
 /// What is said of fonts holds for the files `known`, which the common part of the seats has, where
 /// it has some.
@@ -81,6 +86,7 @@ pub fn draw_job<R: Threads + Wait + Sync, F: FontSource + Send, O: Output>(
         index: &*index,
         sheet: &*sheet,
     };
-    let (ending, _) = write_rounds(rt, alloc, workers, &job, out, false);
+    let host = Host { rt, alloc };
+    let (ending, _) = write_rounds(&host, workers, &job, out, &mut Silence, false);
     ending.status(true)
 }

@@ -8,6 +8,7 @@
 #![tactic(auto)]
 
 mod ending;
+mod host;
 mod job;
 pub mod laws;
 mod note;
@@ -20,6 +21,7 @@ mod rounds;
 mod run;
 mod sampled;
 mod shared_cache;
+mod silence;
 mod stages;
 mod tally;
 mod texts;

@@ -1,18 +1,21 @@
-//! The line of a run's end.
+//! The lines of what a page lacks, and the line of a run's end.
 ghost use Rattle.std.specs.Prelude.{[]};
+ghost use Rattle.outside.specs.Streams.{Writes};
 ghost use Rattle.vf_expand.specs.Faults.{value_of_fault};
+ghost use Rattle.page_draw.specs.Lacks.{value_of_lack, values_of};
 ghost use Rattle.run_report.specs.Puts.{Puts};
 ghost use Rattle.dvi_run.specs.Endings.{value_of_ending};
-ghost use Rattle.dvi_run.specs.Lines.{document_line, line_of, output_line, page_line, source_line};
+ghost use Rattle.dvi_run.specs.Lines.{document_line, lack_line, lack_lines, line_of, output_line, page_line, place_text, source_line};
 
 use crate::ending::Ending;
 use crate::texts::document::{doc_name, place};
 use crate::texts::name::put_name;
 use crate::texts::page::put_fault;
-use outside::{Gather, Output};
+use outside::{Failed, Gather, Output};
 use page_index::DocFault;
 use run_report::puts::{put, put_number};
-use vf_expand::PageFault;
+use std::alloc::Global;
+use vf_expand::{Lack, PageFault};
 
 // Puts the line of a document's fault.
 fn put_document<N: Output>(gather: &mut Gather, notes: &mut N, fault: &DocFault)
@@ -24,6 +27,61 @@ fn put_document<N: Output>(gather: &mut Gather, notes: &mut N, fault: &DocFault)
     put(gather, notes, b" at ");
     put_number(gather, notes, place(fault));
     put(gather, notes, b"\n");
+}
+
+// A command of a page, counted from 1, by its position in the file.
+#[derive(Clone, Copy, Debug)]
+struct PagePlace {
+    page: usize,
+    at: usize,
+}
+
+// Puts where on a page something is.
+fn put_place<N: Output>(gather: &mut Gather, notes: &mut N, place: PagePlace)
+    ensures { Puts gather.old gather.new (N.written notes.old) (N.written notes.new)
+        (N.faults notes.old) (N.faults notes.new) (place_text place.page place.at) }
+{
+    put(gather, notes, b"dvipbm: page ");
+    put_number(gather, notes, place.page);
+    put(gather, notes, b" at ");
+    put_number(gather, notes, place.at);
+    put(gather, notes, b": ");
+}
+
+// Puts the line of what a page lacks.
+fn put_lack<N: Output>(gather: &mut Gather, notes: &mut N, page: usize, lack: &Lack)
+    ensures { Puts gather.old gather.new (N.written notes.old) (N.written notes.new)
+        (N.faults notes.old) (N.faults notes.new) (lack_line page (value_of_lack lack.now)) }
+{
+    put_place(gather, notes, PagePlace { page, at: lack.at });
+    put(gather, notes, b"tolerated ");
+    put_fault(gather, notes, &lack.fault);
+    put(gather, notes, b"\n");
+}
+
+// Puts the line of each lack of a page.
+fn put_lacks<N: Output>(gather: &mut Gather, notes: &mut N, page: usize, lacks: &[Lack])
+    ensures { Puts gather.old gather.new (N.written notes.old) (N.written notes.new)
+        (N.faults notes.old) (N.faults notes.new) (lack_lines page (values_of lacks.now)) }
+{
+    for lack in lacks {
+        put_lack(gather, notes, page, lack);
+    }
+}
+
+/// Prints the line of each lack of a page, which is counted from 1.
+pub fn print_lacks<N: Output>(
+    alloc: Global,
+    notes: &mut N,
+    page: usize,
+    lacks: &[Lack],
+) -> Result<(), Failed>
+    ensures { Writes (N.written notes.old) (N.written notes.new) (N.faults notes.old)
+        (N.faults notes.new) (lack_lines page (values_of lacks.now)) result }
+{
+    let mut gather = Gather::new(alloc);
+    put_lacks(&mut gather, notes, page, lacks);
+    gather.finish(notes)
 }
 
 // Puts the line of a page that fails at the command with this position.
@@ -38,11 +96,7 @@ fn put_page<N: Output>(
         (N.faults notes.old) (N.faults notes.new)
         (page_line (record { page = page; fault = value_of_fault fault.now; at = at })) }
 {
-    put(gather, notes, b"dvipbm: page ");
-    put_number(gather, notes, page);
-    put(gather, notes, b" at ");
-    put_number(gather, notes, at);
-    put(gather, notes, b": ");
+    put_place(gather, notes, PagePlace { page, at });
     put_fault(gather, notes, fault);
     put(gather, notes, b"\n");
 }

@@ -1,13 +1,14 @@
 //! What a run prints in its notes, as one text.
-ghost use Rattle.std.specs.Prelude.{◌≡◌, ◌≤◌, length, true};
+ghost use Rattle.std.specs.Prelude.{◌≡◌, ◌≤◌, is_ok, length, true};
 ghost use Rattle.std.specs.List.{sum_by};
-ghost use Rattle.outside.specs.Streams.{Writes};
 ghost use Rattle.cache_core.specs.Views.{calls_of};
 ghost use Rattle.run_report.specs.Puts.{Puts};
 ghost use Rattle.run_report.specs.Summary.{summary_text};
 ghost use Rattle.run_report.specs.Trace.{trace_text};
 ghost use Rattle.dvi_run.specs.Endings.{IsPrinted, value_of_ending, status_of, with_notes};
 ghost use Rattle.dvi_run.specs.Lines.{line_of};
+ghost use Rattle.dvi_run.specs.Noted.{TookAfter, is_noted};
+ghost use Rattle.dvi_run.specs.Outside.{change_of};
 ghost use Rattle.dvi_run.specs.Report.{counts_of, if_asked, report_text, trace_and_summary};
 ghost use Rattle.page_workers.specs.Limits.{MAX_WORKERS};
 
@@ -84,6 +85,16 @@ fn put_trace_and_summary<N: Output>(
     put_counts(gather, notes, settings.summary, tally, loads, history);
 }
 
+// Whether the notes took all that was printed to them while the pages were written.
+fn may_print(tally: &Option<Tally>) -> bool
+    ensures { result ≡ is_noted tally.now }
+{
+    match tally {
+        None => true,
+        Some(tally) => tally.noted,
+    }
+}
+
 // Puts the whole report of a run that ends.
 fn put_report<N: Output>(
     gather: &mut Gather,
@@ -109,7 +120,8 @@ fn put_report<N: Output>(
 }
 
 /// Prints the report of a run that ends: the trace and the summary, as far as they are asked for
-/// and a cache was made, and the line of its end.
+/// and a cache was made, and the line of its end. Where the notes failed before, at what the pages
+/// lack, nothing more is written to them.
 pub fn print<N: Output>(
     alloc: Global,
     notes: &mut N,
@@ -119,10 +131,15 @@ pub fn print<N: Output>(
     history: &[Entry],
     ending: &Ending,
 ) -> Result<(), Failed>
-    ensures { Writes (N.written notes.old) (N.written notes.new) (N.faults notes.old)
-        (N.faults notes.new) (report_text settings.now tally.now loads (calls_of history.now)
-        (value_of_ending ending.now)) result }
+    ensures printed { TookAfter (is_noted tally.now) (is_ok result)
+        (change_of N.written N.faults notes.old notes.new)
+        (report_text settings.now tally.now loads (calls_of history.now)
+        (value_of_ending ending.now)) }
+    ensures count { N.faults notes.old ≤ N.faults notes.new }
 {
+    if !may_print(tally) {
+        return Err(Failed);
+    }
     let mut gather = Gather::new(alloc);
     put_report(&mut gather, notes, settings, tally, loads, history, ending);
     gather.finish(notes)

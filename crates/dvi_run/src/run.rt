@@ -10,6 +10,7 @@ ghost use Rattle.dvi_run.specs.Promises.{ForSettings, KeepsPromises, NoCountFall
 ghost use Rattle.page_workers.specs.Limits.{MAX_WORKERS};
 
 use crate::ending::Ending;
+use crate::host::Host;
 use crate::laws::runs;
 use crate::report::{loads_asked, print, print_line};
 use crate::sampled::draw_asked;
@@ -27,7 +28,7 @@ use std::thread::Threads;
 /// and all before it are whole. `settings` give the resolution, the sheet, how many workers are
 /// used (the first ones), how many fonts their cache keeps, and what is printed to `notes` besides
 /// the line of the end. The answer is an exit status; with each but 0 and 8 a line is printed to
-/// `notes`.
+/// `notes`, which is the last one.
 ///
 /// The input is read to its end, or to one byte more than a document may have (67,108,864 bytes);
 /// it may fail (6). Bytes that aren't a document have a first fault, which the line names with its
@@ -44,12 +45,21 @@ use std::thread::Threads;
 /// line names, whole, and a prefix of that one. In place of any of these the answer may be that
 /// memory ran out (9); no page is then written in part.
 ///
+/// A tolerant sheet takes a page with a font whose metrics or glyphs are in no file, or with a
+/// character, a glyph or a packet that isn't in its font. Such a character marks nothing, and moves
+/// as far as its width, where the font has it. As soon as a page is written whole a line is written
+/// to the notes for each fault that it goes past, equal ones once, in their order on the page: the
+/// page, the position of the first command with this fault, and the fault. So the lines come in the
+/// order of the pages, whatever the workers. No such fault ends the run then, neither with 3 nor
+/// with 4. On any other sheet nothing is gone past, and there is no such line.
+///
 /// At the end the report is written to the notes, piece by piece: with `trace` a line for each call
 /// of the cache, in their order; with `summary` nine lines of counts, of the pages written whole,
 /// the calls of each kind, the loads asked of the used sources, and the black pixels of the pages
 /// written whole; and then the line of the end, which is alone where the run ended before a cache
-/// was made. Notes that fail decide only between 0 and 8, where all pages were written: at 0 the
-/// notes took all of this, and at 8 they failed and took a prefix of it.
+/// was made. After a failed write to the notes nothing more is written there, and the run goes on.
+/// Notes that fail decide only between 0 and 8, where all pages were written: at 0 the notes took
+/// all of this, the lines of the pages and the report, and at 8 they failed and took a prefix of it.
 ///
 /// `history` is empty when handed in. Afterwards it is the list of the cache's calls, in order,
 /// where those of worker k, counted from 1, have the number k. The list stays empty where no page
@@ -109,7 +119,8 @@ pub fn run_with<R: Threads + Wait + Sync, I: Input, F: FontSource + Send, O: Out
     // For the proof: bytes that have a fault are no document, and a document's pages have one value
     // each.
     runs();
-    let (ending, tally) = draw_asked(rt, alloc, settings, input, workers, out, history);
+    let host = Host { rt, alloc };
+    let (ending, tally) = draw_asked(&host, settings, input, workers, out, notes, history);
     let loads = loads_asked(&workers[..settings.workers as usize]);
     let taken = print(
         alloc,

@@ -9,10 +9,12 @@ ghost use Rattle.dvi_run.specs.Reading.{HoldsOfInput};
 ghost use Rattle.dvi_run.specs.Pages.{setup_with};
 ghost use Rattle.dvi_run.specs.Endings.{IsEnding, value_of_ending, status_of};
 ghost use Rattle.dvi_run.specs.Sampled.{FailedForSettings, UsesTheSample, document_for_settings, setup_for_settings, rest_for_settings};
+ghost use Rattle.dvi_run.specs.Noted.{WrotePages};
 ghost use Rattle.dvi_run.specs.Outside.{change_of, task_for_sample};
 ghost use Rattle.dvi_run.specs.Together.{WorkersAreDone, PagesMatchHistory, IsReadyWorker, SomeUsed, SourceRose};
 
 use crate::ending::Ending;
+use crate::host::Host;
 use crate::own_workers::{move_results, own_workers};
 use crate::stages::{draw_document, draw_input};
 use crate::tally::Tally;
@@ -41,15 +43,16 @@ fn made_sample(alloc: Global, pages: u32, packed: bool) -> Result<Sample, NoMemo
     }
 }
 
-// Draws and writes the sample of n pages by as many workers of its own as the settings say,
-// and answers how that ended. The worker in the place of each is handed what it drew.
-fn draw_sample<R: Threads + Wait + Sync, F: FontSource + Send, O: Output>(
-    rt: &R,
-    alloc: Global,
+// Draws and writes the sample of n pages by as many workers of its own as the settings say, notes
+// what its pages lack, and answers how that ended. The worker in the place of each is handed what
+// it drew.
+fn draw_sample<R: Threads + Wait + Sync, F: FontSource + Send, O: Output, N: Output>(
+    host: &Host<R>,
     settings: &Settings,
     pages: u32,
     workers: &mut [Worker<F>],
     out: &mut O,
+    notes: &mut N,
     history: &mut Vec<Entry>,
 ) -> (Ending, Option<Tally>)
     ghost known: { Option FileTable }
@@ -72,7 +75,8 @@ fn draw_sample<R: Threads + Wait + Sync, F: FontSource + Send, O: Output>(
       history = calls_of history.new.items;
     })
         (value_of_ending result.0) result.1 }
-    ensures drew { HoldsOfInput (Some (sample_document pages))
+    ensures drew { WrotePages (change_of N.written N.faults notes.old notes.new)
+        settings.now.sheet.tolerant result.1 (λ whole. HoldsOfInput (Some (sample_document pages))
         (PagesMatchHistory (task_for_sample (Some pages) known settings.now) (record {
           sources = record { library = F.library; faults = F.faults; loads = F.loads };
           output = change_of O.written O.faults out.old out.new;
@@ -80,7 +84,7 @@ fn draw_sample<R: Threads + Wait + Sync, F: FontSource + Send, O: Output>(
           after = workers.new;
           history = calls_of history.new.items;
         })
-        (status_of (value_of_ending result.0)) (value_of_ending result.0) result.1) }
+        (status_of (value_of_ending result.0)) (value_of_ending result.0) result.1 whole)) }
     ensures sample { UsesTheSample (status_of (value_of_ending result.0)) (Unit {0})
         workers.old workers.new }
     ensures output { O.faults out.old ≤ O.faults out.new }
@@ -88,27 +92,27 @@ fn draw_sample<R: Threads + Wait + Sync, F: FontSource + Send, O: Output>(
     // For the proof: a sample is a document, which has no fault, and fits the limit of one.
     samples();
     documents();
-    let Ok(Sample { document, library }) = made_sample(alloc, pages, settings.packed) else {
+    let Ok(Sample { document, library }) = made_sample(host.alloc, pages, settings.packed) else {
         return (Ending::Memory, None);
     };
-    let Ok(mut made) = own_workers(alloc, library, settings.workers) else {
+    let Ok(mut made) = own_workers(host.alloc, library, settings.workers) else {
         return (Ending::Memory, None);
     };
     let own = made.as_mut_slice();
-    let drawn = draw_document(rt, alloc, settings, &document, own, out, history);
+    let drawn = draw_document(host, settings, &document, own, out, notes, history);
     move_results(own, workers);
     drawn
 }
 
-/// Draws and writes the sample, where the settings ask for it, and else what is read, and answers
-/// how that ended.
-pub fn draw_asked<R: Threads + Wait + Sync, I: Input, F: FontSource + Send, O: Output>(
-    rt: &R,
-    alloc: Global,
+/// Draws and writes the sample, where the settings ask for it, and else what is read, notes what the
+/// pages lack, and answers how that ended.
+pub fn draw_asked<R: Threads + Wait + Sync, I: Input, F: FontSource + Send, O: Output, N: Output>(
+    host: &Host<R>,
     settings: &Settings,
     input: &mut I,
     workers: &mut [Worker<F>],
     out: &mut O,
+    notes: &mut N,
     history: &mut Vec<Entry>,
 ) -> (Ending, Option<Tally>)
     ghost known: { Option FileTable }
@@ -133,7 +137,9 @@ pub fn draw_asked<R: Threads + Wait + Sync, I: Input, F: FontSource + Send, O: O
       history = calls_of history.new.items;
     })
         (value_of_ending result.0) result.1 }
-    ensures drew { HoldsOfInput (document_for_settings settings.now (I.left input.old))
+    ensures drew { WrotePages (change_of N.written N.faults notes.old notes.new)
+        settings.now.sheet.tolerant result.1 (λ whole. HoldsOfInput
+        (document_for_settings settings.now (I.left input.old))
         (PagesMatchHistory (record { settings = settings.now; known = known }) (record {
           sources = record { library = F.library; faults = F.faults; loads = F.loads };
           output = change_of O.written O.faults out.old out.new;
@@ -141,7 +147,7 @@ pub fn draw_asked<R: Threads + Wait + Sync, I: Input, F: FontSource + Send, O: O
           after = workers.new;
           history = calls_of history.new.items;
         })
-        (status_of (value_of_ending result.0)) (value_of_ending result.0) result.1) }
+        (status_of (value_of_ending result.0)) (value_of_ending result.0) result.1 whole)) }
     ensures sample { IfSome settings.now.sample (λ pages.
         UsesTheSample (status_of (value_of_ending result.0)) (input.new ≡ input.old) workers.old
         workers.new) }
@@ -149,7 +155,7 @@ pub fn draw_asked<R: Threads + Wait + Sync, I: Input, F: FontSource + Send, O: O
     ensures output { O.faults out.old ≤ O.faults out.new }
 {
     match settings.sample {
-        None => draw_input(rt, alloc, settings, input, workers, out, history),
-        Some(pages) => draw_sample(rt, alloc, settings, pages, workers, out, history),
+        None => draw_input(host, settings, input, workers, out, notes, history),
+        Some(pages) => draw_sample(host, settings, pages, workers, out, notes, history),
     }
 }

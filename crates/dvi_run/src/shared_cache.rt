@@ -16,6 +16,8 @@ ghost use Rattle.turn_lock.specs.Histories.{AllMade};
 ghost use Rattle.turn_lock.specs.Views.{opening_view};
 ghost use Rattle.dvi_run.specs.CacheLimits.{cache_limits};
 ghost use Rattle.dvi_run.specs.Pages.{AreValues};
+ghost use Rattle.dvi_run.specs.Noted.{NotedLacks, is_noted};
+ghost use Rattle.dvi_run.specs.Outside.{change_of};
 ghost use Rattle.dvi_run.specs.Endings.{EndsPages, Source, value_of_ending};
 ghost use Rattle.dvi_run.specs.Looked.{EveryPageCameToItsEnd, MayBreakOff};
 ghost use Rattle.dvi_run.specs.Shares.{WorkersDrew};
@@ -24,6 +26,7 @@ ghost use Rattle.dvi_run.specs.Tally.{TallyMatches, TallyMatchesRun};
 ghost use Rattle.page_workers.specs.Limits.{MAX_WORKERS};
 
 use crate::ending::Ending;
+use crate::host::Host;
 use crate::rounds::write_rounds;
 use crate::tally::Tally;
 use cache_core::Entry;
@@ -33,20 +36,19 @@ use font_decode::Decoded;
 use outside::{FontSource, Output};
 use page_index::{Index, MAX_PAGES};
 use page_workers::{Bench, Job, Worker, drop_spare_pages, join_all, seat_all};
-use std::alloc::Global;
 use std::sync::Wait;
 use std::thread::Threads;
 
-/// Draws and writes the pages with a new bench and the first seat of its cache, and gives the
-/// history of this cache.
-pub fn draw_with_cache<R: Threads + Wait + Sync, F: FontSource + Send, O: Output>(
-    rt: &R,
-    alloc: Global,
+/// Draws and writes the pages with a new bench and the first seat of its cache, notes what each
+/// lacks, and gives the history of this cache.
+pub fn draw_with_cache<R: Threads + Wait + Sync, F: FontSource + Send, O: Output, N: Output>(
+    host: &Host<R>,
     settings: &Settings,
     index: &Index,
     workers: &mut [Worker<F>],
     opening: (Bench, CacheSeat<Decoded>),
     out: &mut O,
+    notes: &mut N,
 ) -> (Ending, Tally, Vec<Entry>)
     ghost known: { Option FileTable }
     requires some { 1 ≤ length workers.old }
@@ -71,7 +73,8 @@ pub fn draw_with_cache<R: Threads + Wait + Sync, F: FontSource + Send, O: Output
         × EndsPages (O.written out.old) (O.written out.new)
         (Rose (O.faults out.old) (O.faults out.new))
         (Unit {0}) (value_of_ending result.0) index.now.reading values
-        × TallyMatches settings.now.summary (O.written out.old) (O.written out.new) result.1
+        × TallyMatches settings.now.summary (NotedLacks (change_of N.written N.faults notes.old
+        notes.new) result.1.noted) (O.written out.old) (O.written out.new) result.1
         (value_of_ending result.0) values }
     ensures cause { (page : ℕ) → value_of_ending result.0 ≡ Source page
         → (k : ℕ) × (k < length workers.old)
@@ -105,7 +108,7 @@ pub fn draw_with_cache<R: Threads + Wait + Sync, F: FontSource + Send, O: Output
         index: &*index,
         sheet: &*sheet,
     };
-    let (ending, tally) = write_rounds(rt, alloc, workers, &job, out, counted);
+    let (ending, tally) = write_rounds(host, workers, &job, out, notes, counted);
     join_all(&bench.cache, &mut first, workers);
     drop_spare_pages(workers);
     let Bench { cache, units: _ } = bench;
@@ -113,16 +116,16 @@ pub fn draw_with_cache<R: Threads + Wait + Sync, F: FontSource + Send, O: Output
 }
 
 /// Draws and writes the pages with a new bench and the first seat of its cache, where there was
-/// memory for these, and gives the history of this cache. There is a tally exactly where there is a
-/// cache.
-pub fn draw_with_shared_cache<R: Threads + Wait + Sync, F: FontSource + Send, O: Output>(
-    rt: &R,
-    alloc: Global,
+/// memory for these, notes what each lacks, and gives the history of this cache. There is a tally
+/// exactly where there is a cache.
+pub fn draw_with_shared_cache<R: Threads + Wait + Sync, F: FontSource + Send, O: Output, N: Output>(
+    host: &Host<R>,
     settings: &Settings,
     index: &Index,
     workers: &mut [Worker<F>],
     opening: Option<(Bench, CacheSeat<Decoded>)>,
     out: &mut O,
+    notes: &mut N,
 ) -> (Ending, Option<Tally>, Vec<Entry>)
     ghost known: { Option FileTable }
     requires some { 1 ≤ length workers.old }
@@ -141,7 +144,8 @@ pub fn draw_with_shared_cache<R: Threads + Wait + Sync, F: FontSource + Send, O:
         × EndsPages (O.written out.old) (O.written out.new)
         (Rose (O.faults out.old) (O.faults out.new))
         (Unit {0}) (value_of_ending result.0) index.now.reading values
-        × TallyMatchesRun settings.now.summary (O.written out.old) (O.written out.new)
+        × TallyMatchesRun settings.now.summary (NotedLacks (change_of N.written N.faults notes.old
+        notes.new) (is_noted result.1)) (O.written out.old) (O.written out.new)
         (calls_of result.2.items) result.1 (value_of_ending result.0) values }
     ensures cause { (page : ℕ) → value_of_ending result.0 ≡ Source page
         → (k : ℕ) × (k < length workers.old)
@@ -164,8 +168,10 @@ pub fn draw_with_shared_cache<R: Threads + Wait + Sync, F: FontSource + Send, O:
     ensures output { O.faults out.old ≤ O.faults out.new }
 {
     let Some(opening) = opening else {
-        return (Ending::Memory, None, Vec::new(alloc));
+        return (Ending::Memory, None, Vec::new(host.alloc));
     };
-    let (ending, tally, calls) = draw_with_cache(rt, alloc, settings, index, workers, opening, out);
+    let (ending, tally, calls) = draw_with_cache(
+        host, settings, index, workers, opening, out, notes,
+    );
     (ending, Some(tally), calls)
 }

@@ -7,10 +7,12 @@ ghost use Rattle.command_line.specs.Settings.{AreSettings};
 ghost use Rattle.dvi_run.specs.Reading.{HoldsOfInput};
 ghost use Rattle.dvi_run.specs.Pages.{setup_with};
 ghost use Rattle.dvi_run.specs.Endings.{EndsBytes, IsEnding, value_of_ending, status_of};
+ghost use Rattle.dvi_run.specs.Noted.{WrotePages};
 ghost use Rattle.dvi_run.specs.Outside.{change_of, task_for_sample};
 ghost use Rattle.dvi_run.specs.Together.{WorkersAreDone, DrewDocument, PagesMatchHistory, IsReadyWorker, RestIsKept, SomeUsed, SourceRose};
 
 use crate::ending::Ending;
+use crate::host::Host;
 use crate::opening::{bench_with, open_cache};
 use crate::reading::{ReadStop, read_all};
 use crate::shared_cache::draw_with_shared_cache;
@@ -21,20 +23,19 @@ use command_line::Settings;
 use outside::{FontSource, Input, Output};
 use page_index::{Index, IndexStop};
 use page_workers::Worker;
-use std::alloc::Global;
 use std::sync::Wait;
 use std::thread::Threads;
 use turn_lock::laws::own_calls;
 
-// Draws and writes the pages of a document by the first workers, as many as the settings say, and
-// answers how that ended.
-fn draw_pages<R: Threads + Wait + Sync, F: FontSource + Send, O: Output>(
-    rt: &R,
-    alloc: Global,
+// Draws and writes the pages of a document by the first workers, as many as the settings say, notes
+// what the pages lack, and answers how that ended.
+fn draw_pages<R: Threads + Wait + Sync, F: FontSource + Send, O: Output, N: Output>(
+    host: &Host<R>,
     settings: &Settings,
     index: &Index,
     workers: &mut [Worker<F>],
     out: &mut O,
+    notes: &mut N,
     history: &mut Vec<Entry>,
 ) -> (Ending, Option<Tally>)
     ghost known: { Option FileTable }
@@ -52,34 +53,35 @@ fn draw_pages<R: Threads + Wait + Sync, F: FontSource + Send, O: Output>(
           after = workers.new;
           history = calls_of history.new.items;
         })
-        (value_of_ending result.0) result.1 }
+        (change_of N.written N.faults notes.old notes.new) (value_of_ending result.0) result.1 }
     ensures rest { RestIsKept settings.now.workers workers.old workers.new }
     ensures output { O.faults out.old ≤ O.faults out.new }
 {
     let units = index.units();
-    let opened = open_cache(alloc, settings.cache as usize, settings.room, &units);
+    let opened = open_cache(host.alloc, settings.cache as usize, settings.room, &units);
     let opening = bench_with(opened, units);
     let (ending, tally, calls) = draw_with_shared_cache(
-        rt,
-        alloc,
+        host,
         settings,
         index,
         &mut workers[..settings.workers as usize],
         opening,
         out,
+        notes,
     );
     *history = calls;
     (ending, tally)
 }
 
-/// Draws and writes the document of these bytes, and answers how that ended.
-pub fn draw_document<R: Threads + Wait + Sync, F: FontSource + Send, O: Output>(
-    rt: &R,
-    alloc: Global,
+/// Draws and writes the document of these bytes, notes what its pages lack, and answers how that
+/// ended.
+pub fn draw_document<R: Threads + Wait + Sync, F: FontSource + Send, O: Output, N: Output>(
+    host: &Host<R>,
     settings: &Settings,
     bytes: &[u8],
     workers: &mut [Worker<F>],
     out: &mut O,
+    notes: &mut N,
     history: &mut Vec<Entry>,
 ) -> (Ending, Option<Tally>)
     ghost known: { Option FileTable }
@@ -101,35 +103,38 @@ pub fn draw_document<R: Threads + Wait + Sync, F: FontSource + Send, O: Output>(
       history = calls_of history.new.items;
     })
         (value_of_ending result.0) result.1 }
-    ensures drew { PagesMatchHistory (task_for_sample None known settings.now) (record {
-      sources = record { library = F.library; faults = F.faults; loads = F.loads };
-      output = change_of O.written O.faults out.old out.new;
-      before = workers.old;
-      after = workers.new;
-      history = calls_of history.new.items;
-    })
-        (status_of (value_of_ending result.0)) (value_of_ending result.0) result.1 bytes.now }
+    ensures drew { WrotePages (change_of N.written N.faults notes.old notes.new)
+        settings.now.sheet.tolerant result.1 (λ whole. PagesMatchHistory
+        (task_for_sample None known settings.now) (record {
+          sources = record { library = F.library; faults = F.faults; loads = F.loads };
+          output = change_of O.written O.faults out.old out.new;
+          before = workers.old;
+          after = workers.new;
+          history = calls_of history.new.items;
+        })
+        (status_of (value_of_ending result.0)) (value_of_ending result.0) result.1 whole
+        bytes.now) }
     ensures output { O.faults out.old ≤ O.faults out.new }
 {
     // For the proof: where one worker is used its calls are the history, and the keys that it asked
     // for determine them.
     own_calls();
     solo();
-    match Index::read(alloc, bytes, settings.res) {
-        Ok(index) => draw_pages(rt, alloc, settings, &index, workers, out, history),
+    match Index::read(host.alloc, bytes, settings.res) {
+        Ok(index) => draw_pages(host, settings, &index, workers, out, notes, history),
         Err(IndexStop::Fault(fault)) => (Ending::Document(fault), None),
         Err(IndexStop::NoMemory) => (Ending::Memory, None),
     }
 }
 
-/// Reads, draws and writes, and answers how that ended.
-pub fn draw_input<R: Threads + Wait + Sync, I: Input, F: FontSource + Send, O: Output>(
-    rt: &R,
-    alloc: Global,
+/// Reads, draws, writes and notes, and answers how that ended.
+pub fn draw_input<R: Threads + Wait + Sync, I: Input, F: FontSource + Send, O: Output, N: Output>(
+    host: &Host<R>,
     settings: &Settings,
     input: &mut I,
     workers: &mut [Worker<F>],
     out: &mut O,
+    notes: &mut N,
     history: &mut Vec<Entry>,
 ) -> (Ending, Option<Tally>)
     ghost known: { Option FileTable }
@@ -152,20 +157,24 @@ pub fn draw_input<R: Threads + Wait + Sync, I: Input, F: FontSource + Send, O: O
       history = calls_of history.new.items;
     })
         (value_of_ending result.0) result.1 }
-    ensures drew { HoldsOfInput (I.left input.old) (PagesMatchHistory
-        (task_for_sample None known settings.now) (record {
+    ensures drew { WrotePages (change_of N.written N.faults notes.old notes.new)
+        settings.now.sheet.tolerant result.1 (λ whole. HoldsOfInput (I.left input.old)
+        (PagesMatchHistory (task_for_sample None known settings.now) (record {
           sources = record { library = F.library; faults = F.faults; loads = F.loads };
           output = change_of O.written O.faults out.old out.new;
           before = workers.old;
           after = workers.new;
           history = calls_of history.new.items;
         })
-        (status_of (value_of_ending result.0)) (value_of_ending result.0) result.1) }
+        (status_of (value_of_ending result.0)) (value_of_ending result.0) result.1 whole)) }
     ensures input { I.faults input.old ≤ I.faults input.new }
     ensures output { O.faults out.old ≤ O.faults out.new }
 {
-    match read_all(alloc, input) {
-        Ok(bytes) => draw_document(rt, alloc, settings, bytes.as_slice(), workers, out, history),
+    match read_all(host.alloc, input) {
+        Ok(bytes) => {
+            let bytes = bytes.as_slice();
+            draw_document(host, settings, bytes, workers, out, notes, history)
+        }
         Err(ReadStop::Failed) => (Ending::Input, None),
         Err(ReadStop::NoMemory) => (Ending::Memory, None),
     }

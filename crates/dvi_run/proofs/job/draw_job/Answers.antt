@@ -55,7 +55,10 @@ write_rounds-ending-requires g c κs within =
         search rules fits 100000 depth 60,
         (
           search rules fits 100000 depth 60,
-          (search rules fits 100000 depth 60, (search rules fits 100000 depth 60, (q.0, (q.1.0, λ k d lt. may_begin_job s (get_or xs k d) q.1.1.1.0 (q.1.1.1.1.0 k d lt) (q.1.1.1.1.1 k d lt))))),
+          (
+            search rules fits 100000 depth 60,
+            (search rules fits 100000 depth 60, (search rules fits 100000 depth 60, (q.0, (q.1.0, λ k d lt. may_begin_job s (get_or xs k d) q.1.1.1.0 (q.1.1.1.1.0 k d lt) (q.1.1.1.1.1 k d lt))))),
+          ),
         ),
       ),
     )

@@ -2,5 +2,4 @@ use Rattle.dvi_run.proofs.Puts.{puts_twice}
 use Rattle.dvi_run.proofs.note.put_page.Goals as goal
 
 pub returns : goal.returns
-returns g c =
-    puts_twice (puts_twice (puts_twice (puts_twice (puts_twice (puts_twice c.put.ensures c.put_number.ensures) c.put-2.ensures) c.put_number-2.ensures) c.put-3.ensures) c.put_fault.ensures) c.put-4.ensures
+returns g c = puts_twice (puts_twice c.put_place.ensures c.put_fault.ensures) c.put.ensures

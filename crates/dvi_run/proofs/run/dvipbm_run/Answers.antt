@@ -44,11 +44,11 @@ returns-in-Err-NoMemory-clause-promises g c =
     let task : Task = record { settings = s; known = g.told } in
     let run : Run _ = record { task = task; streams = streams; sources = sources; before = ws; after = ws; history = history } in
     let done = idle_done task sources streams.output ws history Memory (λ k d lt. q.1.1.0 k d (omega (arith, lt, most))) tt none in
-    let drew = idle_drew task sources streams.output ws history 9 Memory (document_of run) tt none in
+    let drew = idle_drew task sources streams.output ws history 9 Memory (document_of run) [] tt none in
     rw printed.status (record {
       caused = idle_caused run;
       written = idle_wrote run;
-      ended = (Memory, None, refl, record { noted = record { placed = tt; printed = printed.printed.prints }; counted = done.counts; failed = done.failed; gave_up = done.gave_up; drew = drew });
+      ended = (Memory, None, refl, record { whole = []; count = refl; lacking = λ strict. tt; noted = record { placed = tt; printed = printed.printed.prints }; counted = done.counts; failed = done.failed; gave_up = done.gave_up; drew = drew });
       history = done.one;
       called = done.worked;
       cut_short = idle_cut_short run refl;

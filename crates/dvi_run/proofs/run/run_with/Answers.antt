@@ -1,22 +1,25 @@
-use Rattle.std.proofs.Common.{◌≡◌, ◌∙◌, ℕ, ◌+◌, Bool, List, get_or, ap, ap₂, subst, sym, rules}
+use Rattle.std.proofs.Common.{◌≡◌, ◌∙◌, ◌++◌, ℕ, ◌+◌, Bool, true, List, get_or, ap, ap₂, subst, sym, rules}
 use Rattle.std.specs.Prelude.{IfSome, is_ok}
 use Rattle.cache_core.specs.Histories.{own}
 use Rattle.cache_core.specs.Views.{calls_of}
 use Rattle.cache_core.specs.declared.calls.Call.{Call}
-use Rattle.dvi_run.specs.Endings.{PrintsBy, value_of_ending, status_of, with_notes}
-use Rattle.dvi_run.specs.Report.{loads_of, report_text}
+use Rattle.dvi_run.specs.Endings.{value_of_ending, status_of, with_notes}
+use Rattle.dvi_run.specs.Lines.{lacks_text}
+use Rattle.dvi_run.specs.Noted.{Took, is_noted}
+use Rattle.dvi_run.specs.Report.{loads_of, notes_text, report_text}
 use Rattle.dvi_run.specs.Sampled.{UsesTheSample}
 use Rattle.dvi_run.specs.Outside.{Run, Sources, Streams, Task, change_of, drawing_of}
 use Rattle.dvi_run.specs.Together.{IsOneHistory, WorkerDone}
 use Rattle.dvi_run.proofs.PromisesKept.{caused_at, cut_short_at, noted_at, written_at}
 use Rattle.dvi_run.proofs.EndAfterReport.{done_on, drew_on, ends_on, failed_on, report_on, sample_on, prints_on}
+use Rattle.dvi_run.proofs.Noting.{took_twice}
 use Rattle.dvi_run.proofs.RunOfWorkers.{ended_at}
 use Rattle.dvi_run.proofs.run.run_with.Goals as goal
 
 pub draw_asked-ending-requires : goal.draw_asked-ending-requires
 draw_asked-ending-requires g c κs within =
     let q = c.requires.1.1.1.1.1.1.1 in
-    (search rules fits 100000 depth 60, (search rules fits 100000 depth 60, (search rules fits 100000 depth 60, (search rules fits 100000 depth 60, (search rules fits 100000 depth 60, (search rules fits 100000 depth 60, (q.0, (q.1.0, (q.1.1.0, q.1.1.1)))))))))
+    (search rules fits 100000 depth 60, (search rules fits 100000 depth 60, (search rules fits 100000 depth 60, (search rules fits 100000 depth 60, (search rules fits 100000 depth 60, (search rules fits 100000 depth 60, (search rules fits 100000 depth 60, (q.0, (q.1.0, (q.1.1.0, q.1.1.1))))))))))
 
 pub returns-clause-promises : goal.returns-clause-promises
 returns-clause-promises g c =
@@ -39,18 +42,21 @@ returns-clause-promises g c =
     let is = c.status.ensures ∙ ap (λ (b : Bool). status_of (with_notes (value_of_ending x) b)) c.is_ok-taken.ensures.value in
     let ends = ends_on _ _ _ _ _ _ _ _ _ x taken end.ends in
     let done = done_on task (drawing_of run) tally x taken end.done in
-    let drew = drew_on task (drawing_of run) tally x taken _ end.drew in
+    let pages = end.drew in
+    let whole = pages.whole in
+    let drew = drew_on task (drawing_of run) tally whole x taken _ pages.are in
     let loads : c.loads_asked-loads.result ≡ loads_of settings.workers workers = c.loads_asked-loads.ensures in
     let calls : calls_of c.as_slice.result.now ≡ history = ap calls_of c.as_slice.ensures.value in
     let report = ap₂ (λ (l : ℕ) (h : List Call). report_text settings tally l h (value_of_ending x)) loads calls ∙ report_on settings tally (loads_of settings.workers workers) history x taken in
-    let start = streams.notes.before in
-    let last = streams.notes.after in
-    let printed = subst (λ (text : List ℕ). PrintsBy (with_notes (value_of_ending x) taken) start.bytes last.bytes start.faults last.faults text) report
-    (prints_on start.bytes last.bytes start.faults last.faults _ x c.print.result c.print.ensures) in
+    let text = notes_text whole settings tally (loads_of settings.workers workers) history (with_notes (value_of_ending x) taken) in
+    let took : Took taken streams.notes text =
+    subst (λ (line : List ℕ). Took taken streams.notes (lacks_text whole ++ line)) report
+    (took_twice g.N.Output.written g.N.Output.faults c.args.notes.now c.draw_asked-ending.new.notes c.print.new.notes true (is_noted tally) taken (lacks_text whole) _ pages.noted.count c.print.ensures.count pages.noted.took c.print.ensures.printed) in
+    let printed = prints_on streams.notes text x taken took in
     record {
-      caused = caused_at run runs.reading runs.values runs.no_fault (with_notes (value_of_ending x) taken) (failed_on _ _ _ _ _ x c.print.result c.print.ensures) ends _ is;
+      caused = caused_at run runs.reading runs.values runs.no_fault (with_notes (value_of_ending x) taken) (failed_on streams.notes text x taken took) ends _ is;
       written = written_at run (with_notes (value_of_ending x) taken) ends _ is;
-      ended = (with_notes (value_of_ending x) taken, tally, is, ended_at run (with_notes (value_of_ending x) taken) tally (noted_at run (with_notes (value_of_ending x) taken) ends _ printed) done drew _ is);
+      ended = (with_notes (value_of_ending x) taken, tally, is, ended_at run (with_notes (value_of_ending x) taken) tally whole pages.count pages.lacking (noted_at run (with_notes (value_of_ending x) taken) ends _ printed) done drew _ is);
       history = subst (λ (status : ℕ). IsOneHistory settings status history) (sym is) done.one;
       called = λ k d lt.
           subst (λ (status : ℕ). WorkerDone task sources status (own (k + 1) history) (get_or c.args.workers.now k d) (get_or workers k d)) (sym is) (done.worked k d lt);

@@ -6,14 +6,15 @@ use Rattle.dvi_run.specs.Reading.{HoldsOfInput}
 use Rattle.dvi_run.specs.Endings.{IsEnding, value_of_ending, status_of}
 use Rattle.dvi_run.specs.Pages.{setup_with}
 use Rattle.dvi_run.specs.Sampled.{FailedForSample, document_for_sample, library_for_sample, rest_for_sample}
+use Rattle.dvi_run.specs.Noted.{WrotePages}
 use Rattle.dvi_run.specs.Outside.{Drawing, Sources, change_of, task_for_sample}
 use Rattle.dvi_run.specs.Together.{WorkersAreDone, PagesMatchHistory, SomeUsed, SourceRose}
 use Rattle.dvi_run.proofs.sampled.draw_asked.Goals as goal
 
 pub draw_sample-requires : goal.draw_sample-requires
 draw_sample-requires g c κs within =
-    let q = c.requires.1.1.1.1.1.1 in
-    let sent = c.requires.1.1.1.1.0 in
+    let q = c.requires.1.1.1.1.1.1.1 in
+    let sent = c.requires.1.1.1.1.1.0 in
     let range = subst (λ (o : Option ℕ). IfSome o (λ pages. (1 ≤ pages) × (pages ≤ 1000))) c.in-Some.is q.0.sample in (
       search rules fits 100000 depth 60,
       (
@@ -21,8 +22,11 @@ draw_sample-requires g c κs within =
         (
           search rules fits 100000 depth 60,
           (
-            record { owned = sent.owned; leaving = λ k x w. sent.leaving (λ _. k (of_param 1)) x w },
-            (search rules fits 100000 depth 60, (q.0, (range.0, (range.1, (q.1.0, (q.1.1.0, q.1.1.1)))))),
+            search rules fits 100000 depth 60,
+            (
+              record { owned = sent.owned; leaving = λ k x w. sent.leaving (λ _. k (of_param 1)) x w },
+              (search rules fits 100000 depth 60, (q.0, (range.0, (range.1, (q.1.0, (q.1.1.0, q.1.1.1)))))),
+            ),
           ),
         ),
       ),
@@ -52,7 +56,9 @@ returns-in-Some-clause-drew g c =
     let output = change_of g.O.Output.written g.O.Output.faults c.args.out.now c.draw_sample.new.out in
     let drawing : Drawing _ = record { sources = sources; output = output; before = c.args.workers.now; after = c.draw_sample.new.workers; history = calls_of c.draw_sample.new.history.items } in
     let e = value_of_ending c.draw_sample.result.0 in
-    subst (λ (o : Option ℕ). HoldsOfInput (document_for_sample o (g.I.Input.left c.args.input.now)) (PagesMatchHistory (task_for_sample o g.known c.args.settings.now) drawing (status_of e) e c.draw_sample.result.1)) (sym c.in-Some.is) c.draw_sample.ensures.drew
+    let notes = change_of g.N.Output.written g.N.Output.faults c.args.notes.now c.draw_sample.new.notes in
+    subst (λ (o : Option ℕ). WrotePages notes c.args.settings.now.sheet.tolerant c.draw_sample.result.1
+    (λ whole. HoldsOfInput (document_for_sample o (g.I.Input.left c.args.input.now)) (PagesMatchHistory (task_for_sample o g.known c.args.settings.now) drawing (status_of e) e c.draw_sample.result.1 whole))) (sym c.in-Some.is) c.draw_sample.ensures.drew
 
 pub returns-in-None-clause-done : goal.returns-in-None-clause-done
 returns-in-None-clause-done g c =
@@ -67,4 +73,6 @@ returns-in-None-clause-drew g c =
     let output = change_of g.O.Output.written g.O.Output.faults c.args.out.now c.draw_input.new.out in
     let drawing : Drawing _ = record { sources = sources; output = output; before = c.args.workers.now; after = c.draw_input.new.workers; history = calls_of c.draw_input.new.history.items } in
     let e = value_of_ending c.draw_input.result.0 in
-    subst (λ (o : Option ℕ). HoldsOfInput (document_for_sample o (g.I.Input.left c.args.input.now)) (PagesMatchHistory (task_for_sample o g.known c.args.settings.now) drawing (status_of e) e c.draw_input.result.1)) (sym c.in-None.is) c.draw_input.ensures.drew
+    let notes = change_of g.N.Output.written g.N.Output.faults c.args.notes.now c.draw_input.new.notes in
+    subst (λ (o : Option ℕ). WrotePages notes c.args.settings.now.sheet.tolerant c.draw_input.result.1
+    (λ whole. HoldsOfInput (document_for_sample o (g.I.Input.left c.args.input.now)) (PagesMatchHistory (task_for_sample o g.known c.args.settings.now) drawing (status_of e) e c.draw_input.result.1 whole))) (sym c.in-None.is) c.draw_input.ensures.drew

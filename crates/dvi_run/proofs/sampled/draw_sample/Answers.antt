@@ -1,5 +1,5 @@
 use denote.Param.Send.{sendable}
-use Rattle.std.proofs.Common.{◌≡◌, ◌∙◌, ◌<◌, ◌≤◌, ℕ, List, [], Option, Some, length, get_or, refl, ap, sym, subst, arith, rules}
+use Rattle.std.proofs.Common.{◌≡◌, ◌∙◌, inl, ◌<◌, ◌≤◌, ℕ, List, [], Option, Some, length, get_or, refl, ap, sym, subst, arith, rules}
 use Rattle.outside.specs.Library.{FileTable}
 use Rattle.outside.specs.declared.mem_fonts.SureFonts.{SureFonts}
 use Rattle.outside.proofs.mem_fonts.SureFonts.TheSendSync.{the_send}
@@ -14,6 +14,8 @@ use Rattle.dvi_run.specs.Sampled.{TookResults}
 use Rattle.dvi_run.specs.Outside.{Drawing, FaultsRose, Sources, change_of, task_for_sample}
 use Rattle.dvi_run.specs.Together.{PagesMatchHistory, IsReadyWorker, RestIsKept}
 use Rattle.dvi_run.proofs.MovedResults.{done_handed, drew_handed, none_rose, sources_kept}
+use Rattle.page_draw.specs.Values.{DrawnValue}
+use Rattle.dvi_run.proofs.Noting.{idle_pages, pages_so}
 use Rattle.dvi_run.proofs.Outcomes.{bytes_end}
 use Rattle.dvi_run.proofs.OwnDocument.{all_taken, answers_of, ends_without}
 use Rattle.dvi_run.proofs.RunOfWorkers.{idle_done}
@@ -29,12 +31,22 @@ own_ready : (files told : FileTable) (n : ℕ) (items now : List (Worker SureFon
 own_ready files told n items now same known each k d lt =
     subst (λ (ws : List (Worker SureFonts)). IsReadyWorker Library (Some told) (get_or ws k d)) (sym same) (subst (λ (fs : FileTable). IsReadyWorker Library (Some fs) (get_or items k d)) known (each k d lt))
 
+pub returns-in_default-clause-drew : goal.returns-in_default-clause-drew
+returns-in_default-clause-drew g c =
+    let q = c.requires.1.1.1.1.1.1 in
+    idle_pages g.N.Output.written g.N.Output.faults c.args.notes.now c.args.settings.now.sheet.tolerant _ (inl (tt, refl, ap calls_of q.1.1.1.1.1, refl))
+
+pub returns-in_default-own_workers-clause-drew : goal.returns-in_default-own_workers-clause-drew
+returns-in_default-own_workers-clause-drew g c =
+    let q = c.requires.1.1.1.1.1.1 in
+    idle_pages g.N.Output.written g.N.Output.faults c.args.notes.now c.args.settings.now.sheet.tolerant _ (inl (tt, refl, ap calls_of q.1.1.1.1.1, refl))
+
 pub returns-in_default-own_workers-clause-done : goal.returns-in_default-own_workers-clause-done
-returns-in_default-own_workers-clause-done g c = let q = c.requires.1.1.1.1.1 in idle_done _ _ _ _ _ _ q.1.1.1.1.0 tt (ap calls_of q.1.1.1.1.1)
+returns-in_default-own_workers-clause-done g c = let q = c.requires.1.1.1.1.1.1 in idle_done _ _ _ _ _ _ q.1.1.1.1.0 tt (ap calls_of q.1.1.1.1.1)
 
 pub draw_document-drawn-requires : goal.draw_document-drawn-requires
 draw_document-drawn-requires g c κs within =
-    let q = c.requires.1.1.1.1.1 in
+    let q = c.requires.1.1.1.1.1.1 in
     let settings = c.args.settings.now in
     let own = c.in-Ok-own_workers.ensures in
     let first = c.as_mut_slice-own.result.now in
@@ -47,14 +59,17 @@ draw_document-drawn-requires g c κs within =
         search rules fits 100000 depth 60,
         (
           search rules fits 100000 depth 60,
-          (search (sendable, rules, the_send) fits 100000 depth 60, (search rules fits 100000 depth 60, (q.0, (omega (arith, long), (ready, q.1.1.1.1.1))))),
+          (
+            search rules fits 100000 depth 60,
+            (search (sendable, rules, the_send) fits 100000 depth 60, (search rules fits 100000 depth 60, (q.0, (omega (arith, long), (ready, q.1.1.1.1.1))))),
+          ),
         ),
       ),
     )
 
 pub returns-clause-ends : goal.returns-clause-ends
 returns-clause-ends g c =
-    let q = c.requires.1.1.1.1.1 in
+    let q = c.requires.1.1.1.1.1.1 in
     let settings = c.args.settings.now in
     let own = c.in-Ok-own_workers.ensures in
     let first = c.as_mut_slice-own.result.now in
@@ -83,7 +98,7 @@ returns-clause-ends g c =
 
 pub returns-clause-sample : goal.returns-clause-sample
 returns-clause-sample g c =
-    let q = c.requires.1.1.1.1.1 in
+    let q = c.requires.1.1.1.1.1.1 in
     let settings = c.args.settings.now in
     let own = c.in-Ok-own_workers.ensures in
     let first = c.as_mut_slice-own.result.now in
@@ -120,7 +135,7 @@ returns-clause-sample g c =
 
 pub returns-clause-done : goal.returns-clause-done
 returns-clause-done g c =
-    let q = c.requires.1.1.1.1.1 in
+    let q = c.requires.1.1.1.1.1.1 in
     let settings = c.args.settings.now in
     let own = c.in-Ok-own_workers.ensures in
     let first = c.as_mut_slice-own.result.now in
@@ -144,7 +159,7 @@ returns-clause-done g c =
 
 pub returns-clause-drew : goal.returns-clause-drew
 returns-clause-drew g c =
-    let q = c.requires.1.1.1.1.1 in
+    let q = c.requires.1.1.1.1.1.1 in
     let settings = c.args.settings.now in
     let own = c.in-Ok-own_workers.ensures in
     let first = c.as_mut_slice-own.result.now in
@@ -168,10 +183,12 @@ returns-clause-drew g c =
     let tally = c.draw_document-drawn.result.1 in
     let sources : Sources _ = record { library = g.F.FontSource.library; faults = g.F.FontSource.faults; loads = g.F.FontSource.loads } in
     let drawing : Drawing _ = record { sources = sources; output = output; before = before; after = after; history = history } in
-    let Of = PagesMatchHistory (task_for_sample (Some c.args.pages) g.known settings) drawing (status_of e) e tally in
+    let Of : List DrawnValue → List ℕ → Type 0 = PagesMatchHistory (task_for_sample (Some c.args.pages) g.known settings) drawing (status_of e) e tally in
     let text = c.deref.result.now in
     let sizes : length before ≡ length after = search rules in
-    of_read Of (Some doc) (Some []) doc (all_taken doc (c.samples.ensures.fit c.args.pages q.1.1.0))
-    (subst Of bytes
-    (drew_handed settings first last before after long long_last handed rest g.F.FontSource.library g.known q.1.1.1.1.0 _ ready (omega (arith, q.0.workers.0)) (λ s. 0) (λ s. 0) g.F.FontSource.faults g.F.FontSource.loads output history e tally sizes c.args.pages (status_of e) text
-    c.draw_document-drawn.ensures.drew))
+    pages_so _ _ _ _ _
+    (λ whole h.
+    of_read (Of whole) (Some doc) (Some []) doc (all_taken doc (c.samples.ensures.fit c.args.pages q.1.1.0))
+    (subst (Of whole) bytes
+    (drew_handed settings first last before after long long_last handed rest g.F.FontSource.library g.known q.1.1.1.1.0 _ ready (omega (arith, q.0.workers.0)) (λ s. 0) (λ s. 0) g.F.FontSource.faults g.F.FontSource.loads output history e tally sizes c.args.pages (status_of e) whole text h)))
+    c.draw_document-drawn.ensures.drew

@@ -14,7 +14,7 @@ use Rattle.dvi_run.proofs.shared_cache.draw_with_cache.Goals as goal
 
 pub write_rounds-ending-requires : goal.write_rounds-ending-requires
 write_rounds-ending-requires g c κs within =
-    let q = c.requires.1.1.1.1.1 in
+    let q = c.requires.1.1.1.1.1.1 in
     let xs = c.args.workers.now in
     let ws = c.seat_all.new.workers in
     let s = site g.F.FontSource.library g.F.FontSource.faults g.F.FontSource.loads c.args.opening.0 g.known c.args.index.now c.args.settings.now.sheet in
@@ -32,13 +32,16 @@ write_rounds-ending-requires g c κs within =
             (
               search rules fits 100000 depth 60,
               (
-                search rules,
+                search rules fits 100000 depth 60,
                 (
                   search rules,
-                  λ k d lt.
-                      let below : k < length xs = subst (λ (n : ℕ). k < n) long lt in
-                      may_begin s part (ap (λ v. v.part.library) opens) (ap (λ v. v.part.units) opens) q.1.1.1.0 q.1.1.1.1.0 (k + 1) (get_or xs k d) (get_or ws k d) (q.1.1.1.1.1.1.1 k d below)
-                      (c.seat_all.ensures.seated k d below) few,
+                  (
+                    search rules,
+                    λ k d lt.
+                        let below : k < length xs = subst (λ (n : ℕ). k < n) long lt in
+                        may_begin s part (ap (λ v. v.part.library) opens) (ap (λ v. v.part.units) opens) q.1.1.1.0 q.1.1.1.1.0 (k + 1) (get_or xs k d) (get_or ws k d) (q.1.1.1.1.1.1.1 k d below)
+                        (c.seat_all.ensures.seated k d below) few,
+                  ),
                 ),
               ),
             ),
@@ -49,7 +52,7 @@ write_rounds-ending-requires g c κs within =
 
 pub join_all-requires-clause-leave : goal.join_all-requires-clause-leave
 join_all-requires-clause-leave g c =
-    let q = c.requires.1.1.1.1.1 in
+    let q = c.requires.1.1.1.1.1.1 in
     let xs = c.args.workers.now in
     let ws = c.seat_all.new.workers in
     let now = c.write_rounds-ending.new.workers in
@@ -74,7 +77,7 @@ close-requires-clause-joined g c =
 
 pub returns-clause-workers : goal.returns-clause-workers
 returns-clause-workers g c =
-    let q = c.requires.1.1.1.1.1 in
+    let q = c.requires.1.1.1.1.1.1 in
     let xs = c.args.workers.now in
     let ws = c.seat_all.new.workers in
     let now = c.write_rounds-ending.new.workers in
@@ -100,13 +103,13 @@ returns-clause-workers g c =
 
 pub returns-clause-first : goal.returns-clause-first
 returns-clause-first g c =
-    let q = c.requires.1.1.1.1.1 in
+    let q = c.requires.1.1.1.1.1.1 in
     let opens = q.1.1.1.1.1.1.0 in
     ap (own 0) c.close.ensures.history ∙ c.join_all.ensures.mine ∙ ap (own 0) (c.seat_all.ensures.seen ∙ ap (λ v. v.seen) opens)
 
 pub returns-clause-cause : goal.returns-clause-cause
 returns-clause-cause g c =
-    let q = c.requires.1.1.1.1.1 in
+    let q = c.requires.1.1.1.1.1.1 in
     let xs = c.args.workers.now in
     let ws = c.seat_all.new.workers in
     let now = c.write_rounds-ending.new.workers in
@@ -151,7 +154,7 @@ returns-clause-shares g c =
     let left : length joined ≡ length now = search rules in
     let e = value_of_ending c.write_rounds-ending.result.0 in
     let tally = Some c.write_rounds-ending.result.1 in
-    let q = c.requires.1.1.1.1.1 in
+    let q = c.requires.1.1.1.1.1.1 in
     let shares : WorkersDrewSince (pages_begun reading) (length xs) e tally ws now =
     subst (λ (n : ℕ). WorkersDrewSince (pages_begun reading) n e tally ws now) long c.write_rounds-ending.ensures.shares in
     record {

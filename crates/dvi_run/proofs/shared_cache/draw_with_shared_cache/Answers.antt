@@ -13,6 +13,7 @@ use Rattle.dvi_run.specs.CacheLimits.{cache_limits}
 use Rattle.dvi_run.specs.Endings.{Memory}
 use Rattle.dvi_run.specs.Looked.{EveryPageCameToItsEnd, MayBreakOff}
 use Rattle.dvi_run.specs.Rounds.{IsNewBench, WorkerRan}
+use Rattle.dvi_run.proofs.Noting.{noted_none}
 use Rattle.dvi_run.proofs.WorkerSeats.{unused}
 use Rattle.dvi_run.proofs.Shares.{none_shared}
 use Rattle.dvi_run.proofs.shared_cache.draw_with_shared_cache.Goals as goal
@@ -25,11 +26,11 @@ opening_is v limits u l e =
 
 pub returns-in_default-clause-ends : goal.returns-in_default-clause-ends
 returns-in_default-clause-ends g c =
-    ([], record { few = omega arith; are = tt }, record { count = 0; grew = grown_none (g.O.Output.written c.args.out.now) }, (refl, refl, ap calls_of c.new.ensures.items))
+    ([], record { few = omega arith; are = tt }, record { count = 0; grew = grown_none (g.O.Output.written c.args.out.now) }, (refl, refl, ap calls_of c.new.ensures.items, noted_none g.N.Output.written g.N.Output.faults c.args.notes.now))
 
 pub returns-in_default-clause-workers : goal.returns-in_default-clause-workers
 returns-in_default-clause-workers g c =
-    let q = c.requires.1.1.1.1.1 in
+    let q = c.requires.1.1.1.1.1.1 in
     λ k d lt.
     subst (λ h. WorkerRan (MayBreakOff Memory None) (EveryPageCameToItsEnd (length c.args.workers.now) Memory) g.F.FontSource.library g.F.FontSource.faults g.F.FontSource.loads (record { library = g.known; res = c.args.index.now.res; sheet = c.args.settings.now.sheet }) c.args.index.now.reading (calls_of h) (k + 1)
     (get_or c.args.workers.now k d) (get_or c.args.workers.now k d)) (sym c.new.ensures.items)
@@ -38,7 +39,7 @@ returns-in_default-clause-workers g c =
 
 pub draw_with_cache-ending-requires : goal.draw_with_cache-ending-requires
 draw_with_cache-ending-requires g c κs within =
-    let q = c.requires.1.1.1.1.1 in
+    let q = c.requires.1.1.1.1.1.1 in
     let made : IsNewBench (cache_limits c.args.settings.now) g.known c.args.index.now c.in-Some.opening.0 c.in-Some.opening.1 =
     subst (λ o. IfSome o (λ made. IsNewBench (cache_limits c.args.settings.now) g.known c.args.index.now made.0 made.1)) c.in-Some.is q.1.1.1.0 in (
       search rules fits 100000 depth 60,
@@ -51,18 +52,21 @@ draw_with_cache-ending-requires g c κs within =
             (
               search rules fits 100000 depth 60,
               (
-                q.0,
+                search rules fits 100000 depth 60,
                 (
-                  q.1.0,
+                  q.0,
                   (
-                    q.1.1.0,
+                    q.1.0,
                     (
-                      made.units,
+                      q.1.1.0,
                       (
-                        made.sound,
+                        made.units,
                         (
-                          made.lock,
-                          (opening_is c.in-Some.opening.1.view (cache_limits c.args.settings.now) c.in-Some.opening.0.units g.known made.opening, q.1.1.1.1.0),
+                          made.sound,
+                          (
+                            made.lock,
+                            (opening_is c.in-Some.opening.1.view (cache_limits c.args.settings.now) c.in-Some.opening.0.units g.known made.opening, q.1.1.1.1.0),
+                          ),
                         ),
                       ),
                     ),
@@ -77,7 +81,7 @@ draw_with_cache-ending-requires g c κs within =
 
 pub returns-in_default-clause-shares : goal.returns-in_default-clause-shares
 returns-in_default-clause-shares g c =
-    let q = c.requires.1.1.1.1.1 in
+    let q = c.requires.1.1.1.1.1.1 in
     let xs = c.args.workers.now in
     record {
       drawn = 0;

@@ -38,7 +38,7 @@ new_bench known limits indexed units of_document sound opened (Some b) lock seat
 
 pub draw_with_shared_cache-ending-requires : goal.draw_with_shared_cache-ending-requires
 draw_with_shared_cache-ending-requires g c κs within =
-    let q = c.requires.1.1.1.1.1 in
+    let q = c.requires.1.1.1.1.1.1 in
     let n = c.args.settings.now.workers in
     let ws = c.args.workers.now in
     let there : n ≤ length ws = q.1.0 in
@@ -46,11 +46,11 @@ draw_with_shared_cache-ending-requires g c κs within =
     let bench = c.bench_with-opening.ensures in
     let opening =
     new_bench g.known (cache_limits c.args.settings.now) c.args.index.now c.units-units.result c.units-units.ensures.value c.units-units.ensures.fits c.open_cache-opened.result c.bench_with-opening.result cache.lock cache.seat bench.same bench.made in
-    (search rules fits 100000 depth 60, (search rules fits 100000 depth 60, (search rules fits 100000 depth 60, (search rules fits 100000 depth 60, (search rules fits 100000 depth 60, (prefix_some n ws there q.0.workers.0, (prefix_few n ws there q.0.workers.1, (search rules, (opening, (prefix_fresh g.F.FontSource.library g.known n ws there q.1.1.0, prefix_seatless g.F.FontSource.library g.known n ws there q.1.1.0))))))))))
+    (search rules fits 100000 depth 60, (search rules fits 100000 depth 60, (search rules fits 100000 depth 60, (search rules fits 100000 depth 60, (search rules fits 100000 depth 60, (search rules fits 100000 depth 60, (prefix_some n ws there q.0.workers.0, (prefix_few n ws there q.0.workers.1, (search rules, (opening, (prefix_fresh g.F.FontSource.library g.known n ws there q.1.1.0, prefix_seatless g.F.FontSource.library g.known n ws there q.1.1.0)))))))))))
 
 pub returns-clause-drew : goal.returns-clause-drew
 returns-clause-drew g c =
-    let q = c.requires.1.1.1.1.1 in
+    let q = c.requires.1.1.1.1.1.1 in
     let settings = c.args.settings.now in
     let n = settings.workers in
     let ws = c.args.workers.now in
@@ -64,9 +64,10 @@ returns-clause-drew g c =
     let tally = c.draw_with_shared_cache-ending.result.1 in
     let sources : Sources _ = record { library = g.F.FontSource.library; faults = g.F.FontSource.faults; loads = g.F.FontSource.loads } in
     let output = change_of g.O.Output.written g.O.Output.faults c.args.out.now c.draw_with_shared_cache-ending.new.out in
+    let notes = change_of g.N.Output.written g.N.Output.faults c.args.notes.now c.draw_with_shared_cache-ending.new.notes in
     let drawing : Drawing _ = record { sources = sources; output = output; before = take n ws; after = prefix; history = calls_of c.draw_with_shared_cache-ending.result.2.items } in
     let given : Settings = record settings { res = c.args.index.now.res; workers = length (take n ws) } in
-    let drew : DrewDocument (task_for_sample None g.known given) reading drawing e tally = record {
+    let drew : DrewDocument (task_for_sample None g.known given) reading drawing notes e tally = record {
       ends = done.ends;
       failed = done.cause;
       shares = done.shares;
@@ -74,14 +75,14 @@ returns-clause-drew g c =
           (one_history given (setup_with g.known given) reading drawing (FaultsRose output) done.ends.0 e tally done.ends.2 done.legal done.made done.first done.few_claims done.workers (λ k lt. one_of (take n ws) k lt));
       ran = done.workers;
     } in
-    let all : DrewDocument (task_for_sample None g.known (record settings { res = c.args.index.now.res })) reading drawing e tally =
-    subst (λ (m : ℕ). DrewDocument (task_for_sample None g.known (record settings { res = c.args.index.now.res; workers = m })) reading drawing e tally) long drew in
-    of_prefix (task_for_sample None g.known settings) reading (record drawing { before = ws }) e tally (drop n ws) many
-    (subst (λ (r : ℕ). DrewDocument (task_for_sample None g.known (record settings { res = r })) reading drawing e tally) q.1.1.1.1 all)
+    let all : DrewDocument (task_for_sample None g.known (record settings { res = c.args.index.now.res })) reading drawing notes e tally =
+    subst (λ (m : ℕ). DrewDocument (task_for_sample None g.known (record settings { res = c.args.index.now.res; workers = m })) reading drawing notes e tally) long drew in
+    of_prefix (task_for_sample None g.known settings) reading (record drawing { before = ws }) notes e tally (drop n ws) many
+    (subst (λ (r : ℕ). DrewDocument (task_for_sample None g.known (record settings { res = r })) reading drawing notes e tally) q.1.1.1.1 all)
 
 pub returns-clause-rest : goal.returns-clause-rest
 returns-clause-rest g c =
-    let q = c.requires.1.1.1.1.1 in
+    let q = c.requires.1.1.1.1.1.1 in
     let n = c.args.settings.now.workers in
     let ws = c.args.workers.now in
     let there : n ≤ length ws = q.1.0 in
