@@ -1,11 +1,10 @@
 -- The loads of a worker, by the files that its look-ups looked for.
-use Rattle.std.proofs.Common.{◌≡◌, ℕ, ◌*◌, ◌≤◌, List, [], Option, Some, None, refl, arith}
+use Rattle.std.proofs.Common.{◌≡◌, ℕ, List, [], Option, Some, None, refl, arith}
 use Rattle.std.specs.Prelude.{IfSome}
 use Rattle.outside.specs.Library.{FileTable}
 use Rattle.pixel_round.specs.declared.units.Units.{Units}
 use Rattle.cache_core.specs.declared.calls.Call.{Call}
-use Rattle.font_decode.specs.Desks.{LoadedFiles, files_loaded, misses}
-use Rattle.font_decode.specs.Loads.{MAX_LOADS}
+use Rattle.font_decode.specs.Desks.{LoadedFiles, files_loaded}
 use Rattle.page_index.specs.Document.{Reading}
 use Rattle.page_index.specs.Pages.{document_units}
 use Rattle.dvi_run.specs.Pages.{Setup}

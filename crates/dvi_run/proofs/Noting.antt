@@ -1,8 +1,6 @@
 -- What is printed to the notes in steps.
-use Rattle.std.proofs.Common.{◌≡◌, ◌∙◌, ◌++◌, ◌+◌, ◌≤◌, ℕ, suc, Bool, true, false, List, [], ◌∷◌, length, take, refl, sym, ap, subst, append_assoc, arith, Option, Some, None, Ok}
-use Rattle.outside.specs.Counts.{Rose}
+use Rattle.std.proofs.Common.{◌≡◌, ◌∙◌, ◌++◌, ◌+◌, ◌≤◌, ℕ, suc, Bool, true, false, List, [], ◌∷◌, length, refl, sym, ap, subst, append_assoc, arith, Option, None}
 use Rattle.outside.proofs.Growth.{grown_none, grown_twice, prefix_of_first, prefix_of_more, rose_later}
-use Rattle.page_draw.specs.Lacks.{LackValue}
 use Rattle.page_draw.specs.Values.{DrawnValue}
 use Rattle.dvi_run.specs.Lines.{lack_lines, lacks_from, lacks_text}
 use Rattle.dvi_run.specs.Noted.{NotedLacks, Took, TookAfter, WrotePages}

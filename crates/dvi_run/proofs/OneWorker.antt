@@ -1,19 +1,17 @@
 -- What runs by one worker have in common.
-use Rattle.std.proofs.Common.{◌≡◌, ◌⊎◌, inl, inr, ℕ, zero, suc, ◌+◌, ◌-◌, ◌<◌, ◌≤◌, Bool, true, false, List, [], ◌∷◌, ◌++◌, length, take, get_or, Option, Some, None, refl, sym, ap, ap₂, subst, ◌∙◌, append-nil, arith}
+use Rattle.std.proofs.Common.{◌≡◌, inl, inr, ℕ, suc, ◌<◌, ◌≤◌, Bool, true, false, List, [], ◌∷◌, ◌++◌, length, take, get_or, Option, Some, None, refl, sym, ap, ap₂, subst, ◌∙◌, append-nil, arith}
 use Rattle.std.specs.List.{sum_by}
 use Rattle.std.proofs.lemmas.Bool.{cases_lt}
-use Rattle.std.proofs.lemmas.List.{ext_get_or, length-append}
+use Rattle.std.proofs.lemmas.List.{length-append}
 use Rattle.outside.specs.Library.{FileTable}
 use Rattle.outside.specs.declared.keys.FontKey.{FontKey}
 use Rattle.cache_core.specs.declared.calls.Call.{Call}
 use Rattle.cache_core.specs.Histories.{AllWeigh, SeatCalls, own}
 use Rattle.cache_core.specs.Solo.{solo_history}
 use Rattle.font_decode.specs.Weights.{IsWeightOf, OneWeightInALibrary}
-use Rattle.pixel_round.specs.declared.units.Units.{Units}
 use Rattle.page_index.specs.Document.{Reading, pages_begun}
 use Rattle.page_index.specs.Pages.{document_units}
 use Rattle.page_draw.specs.Laws.{PagesHaveOneValue}
-use Rattle.page_workers.specs.declared.worker.Worker.{Worker}
 use Rattle.page_draw.specs.Values.{PageValue, DrawnValue}
 use Rattle.run_report.specs.Summary.{summary_text}
 use Rattle.run_report.specs.Trace.{trace_text}

@@ -1,7 +1,6 @@
 -- The calls of one worker: what the fonts weigh, and how many files were loaded for them.
-use Rattle.std.proofs.Common.{◌≡◌, ℕ, ◌+◌, ◌-◌, ◌≤◌, List, [], ◌∷◌, ◌++◌, length, take, get_or, Option, Some, sym, ap, subst, ◌∙◌, arith}
+use Rattle.std.proofs.Common.{◌≡◌, ℕ, ◌+◌, ◌-◌, ◌≤◌, List, [], ◌∷◌, ◌++◌, length, get_or, Option, Some, sym, ap, subst, ◌∙◌, arith}
 use Rattle.std.specs.Prelude.{IfSome, ◌^◌, min}
-use Rattle.std.specs.List.{sum_by}
 use Rattle.outside.specs.Library.{FileTable}
 use Rattle.outside.specs.declared.keys.FontKey.{FontKey}
 use Rattle.pixel_round.specs.declared.units.Units.{Units}

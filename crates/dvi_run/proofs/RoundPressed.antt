@@ -1,6 +1,6 @@
 -- A round that was drawn and pressed, after rounds that were written whole.
-use Rattle.std.proofs.Common.{◌≡◌, ℕ, ◌+◌, ◌*◌, ◌<◌, ◌≤◌, Bool, List, ◌++◌, length, get_or, map, Contains, Option, refl, sym, subst, ◌∙◌, add-one, arith}
-use Rattle.std.specs.Prelude.{None, Some}
+use Rattle.std.proofs.Common.{◌≡◌, ℕ, ◌+◌, ◌*◌, ◌<◌, ◌≤◌, Bool, List, ◌++◌, length, get_or, map, Contains, Option, sym, subst, ◌∙◌, add-one, arith}
+use Rattle.std.specs.Prelude.{None}
 use Rattle.page_index.specs.Document.{pages_begun}
 use Rattle.page_draw.specs.Sheets.{IsDrawable}
 use Rattle.page_draw.specs.Values.{DrawnValue, PageValue}

@@ -33,8 +33,8 @@ abbrev pub FaultIsNamed : Setup → ℕ → List ℕ → Type 0
 FaultIsNamed g status bytes =
     (fault : DocFault) → IsFirstFault g.res bytes fault → IsAmong status (2 ∷ 6 ∷ 9 ∷ [])
 
--- they are a document with a page that has no bitmap, which has this status. What a tolerant sheet
--- goes past is no such page's fault: neither a missing font nor a missing character, glyph or packet
+-- they are a document with a page that has no bitmap, which has this status. On a tolerant sheet
+-- its fault is no missing font, character, glyph or packet
 abbrev pub HasFailingPage : Setup → ℕ → List ℕ → Type 0
 HasFailingPage g status bytes = (page : FailingPage) × (status ≡ page_status page.fault)
     × IsUntolerated g page

@@ -1,18 +1,13 @@
 -- The results of a round, and how they are written.
-use Rattle.std.specs.Prelude.{◌≡◌, ◌⊎◌, ℕ, suc, ◌+◌, ◌-◌, ◌*◌, ◌<◌, ◌≤◌, ◌++◌, Bool, List, [], ◌∷◌, length, reverse, Contains, IfOk, Option, None, Ok, Err, slice_index_or}
-use Rattle.outside.specs.Library.{FileTable}
-use Rattle.page_index.specs.Document.{pages_begun}
-use Rattle.page_index.specs.Pages.{Indexed}
+use Rattle.std.specs.Prelude.{◌≡◌, ℕ, ◌+◌, ◌*◌, ◌<◌, ◌≤◌, ◌++◌, Bool, List, [], ◌∷◌, length, IfOk, Option, Ok, Err, slice_index_or}
 use Rattle.page_draw.specs.Values.{value_of_drawn}
-use Rattle.page_workers.specs.Rounds.{MayDraw, DrewNothing}
-use Rattle.page_workers.specs.declared.bench.Bench.{Bench}
+use Rattle.page_workers.specs.Rounds.{DrewNothing}
 use Rattle.page_workers.specs.declared.worker.PageResult.{PageResult}
 use Rattle.page_workers.specs.declared.worker.Worker.{Worker}
 use Rattle.dvi_run.specs.Rounds.{WroteOutcome}
 use Rattle.dvi_run.specs.declared.pages.WriteStop.{WriteStop}
 use Rattle.dvi_run.specs.declared.tally.Tally.{Tally}
 use Rattle.raster_page.specs.Limits.{MAX_PAGE_SIDE}
-use Rattle.page_workers.specs.Limits.{MAX_WORKERS}
 use Rattle.dvi_run.specs.Pages.{black_in}
 
 -- ---- a round

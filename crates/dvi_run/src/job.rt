@@ -41,8 +41,8 @@ use std::thread::Threads;
 /// worker only where it is 9. Such a page is its worker's last one, and a claim is given up only
 /// there.
 ///
-/// On a tolerant sheet a page may lack fonts, characters, glyphs and packets, as in `run_with`; here
-/// it isn't told which.
+/// On a tolerant sheet a page may lack fonts, characters, glyphs and packets, as in `run_with`; it
+/// isn't told here which.
 ///
 /// What is said of fonts holds for the files `known`, which the common part of the seats has, where
 /// it has some.

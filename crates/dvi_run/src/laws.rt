@@ -33,8 +33,8 @@ pub fn runs()
 
 /// Two runs by one worker over the same document, for the same settings and known font files, that
 /// end well or at a page end alike: at the same page, with one history of the cache's calls, as
-/// many loads and one text for their notes. The history is given by the keys that the pages look up and by what
-/// each key's font weighs in the library. `F` and `G` are the workers' sources.
+/// many loads and one text for their notes. The history is given by the keys that the pages look up
+/// and by what each key's font weighs in the library. `F` and `G` are the workers' sources.
 pub fn one_worker<F: FontSource, G: FontSource>()
     ensures alike { RunsOfOneWorkerAreAlike F G }
     ensures history { OneWorkerHasOneHistory F }

@@ -61,8 +61,9 @@ fn press_rounds<R: Threads + Wait + Sync, F: FontSource + Send, O: Output, N: Ou
         × EndsPages (O.written out.old) (O.written out.new)
         (Rose (O.faults out.old) (O.faults out.new))
         (Unit {0}) (value_of_ending result) job.now.index.now.reading values
-        × TallyMatches press.old.counted (NotedLacks (change_of N.written N.faults press.old.notes.now press.new.notes.now)
-        press.new.tally.noted) (O.written out.old) (O.written out.new) press.new.tally
+        × TallyMatches press.old.counted (NotedLacks (change_of N.written N.faults
+        press.old.notes.now press.new.notes.now) press.new.tally.noted) (O.written out.old)
+        (O.written out.new) press.new.tally
         (value_of_ending result) values }
     ensures whole { EveryPageCameToItsEnd (length workers.old) (value_of_ending result)
         → (k : ℕ) (d : _) → k < length workers.old

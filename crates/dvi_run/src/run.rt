@@ -59,7 +59,7 @@ use std::thread::Threads;
 /// written whole; and then the line of the end, which is alone where the run ended before a cache
 /// was made. After a failed write to the notes nothing more is written there, and the run goes on.
 /// Notes that fail decide only between 0 and 8, where all pages were written: at 0 the notes took
-/// all of this, the lines of the pages and the report, and at 8 they failed and took a prefix of it.
+/// all of this, the pages' lines and the report, and at 8 they failed and took a prefix of it.
 ///
 /// `history` is empty when handed in. Afterwards it is the list of the cache's calls, in order,
 /// where those of worker k, counted from 1, have the number k. The list stays empty where no page

@@ -104,8 +104,8 @@ fn draw_sample<R: Threads + Wait + Sync, F: FontSource + Send, O: Output, N: Out
     drawn
 }
 
-/// Draws and writes the sample, where the settings ask for it, and else what is read, notes what the
-/// pages lack, and answers how that ended.
+/// Draws and writes the sample, where the settings ask for it, and else what is read, notes what
+/// the pages lack, and answers how that ended.
 pub fn draw_asked<R: Threads + Wait + Sync, I: Input, F: FontSource + Send, O: Output, N: Output>(
     host: &Host<R>,
     settings: &Settings,

@@ -1,4 +1,4 @@
-use Rattle.std.proofs.Common.{◌≡◌, ◌<◌, List, [], length, get_or, refl, subst, sym, rules, arith}
+use Rattle.std.proofs.Common.{◌≡◌, ◌<◌, [], length, get_or, refl, subst, sym, rules, arith}
 use Rattle.page_workers.proofs.Lists.{each_step, here, left_step}
 use Rattle.dvi_run.specs.Sampled.{TookResults}
 use Rattle.dvi_run.proofs.own_workers.move_results.Goals as goal

@@ -1,4 +1,4 @@
-use Rattle.std.proofs.Common.{◌≡◌, [], ℕ, Bool, true, false, List, Option, Result, Ok, Err, refl, sym, ◌∙◌}
+use Rattle.std.proofs.Common.{◌≡◌, [], ℕ, Bool, true, false, List, Option, Result, Ok, Err, refl, sym}
 use Rattle.std.specs.Prelude.{is_ok}
 use Rattle.outside.specs.Streams.{Writes}
 use Rattle.dvi_run.specs.Noted.{TookAfter, is_noted}
