@@ -3,17 +3,12 @@
 //! `DVIPBM_FONTS`; where that isn't set it is the current folder.
 #![tactic(auto)]
 
-mod adapters;
-mod folder;
-mod workers;
-
-use adapters::{FromReader, ToWriter};
 use dvi_run::dvipbm_run;
+use real_outside::{FromReader, ToWriter, workers_over};
 use std::env::{self, VarError};
 use std::io::ErrorKind;
 use std::path::PathBuf;
 use std::process::ExitCode;
-use workers::workers_over;
 
 // Memory runs out for the arguments, for the folder's name or for the workers.
 const NO_MEMORY: u8 = 9;

@@ -2,7 +2,7 @@ use Rattle.std.proofs.Common.{◌≡◌, ◌<◌, ◌++◌, ◌∷◌, [], lengt
 use Rattle.std.proofs.lemmas.List.{length_push}
 use Rattle.page_workers.specs.Seating.{IsUnused}
 use Rattle.dvi_run.proofs.RunOfWorkers.{more_unused}
-use Rattle.dvipbm.proofs.workers.workers_over.Goals as goal
+use Rattle.real_outside.proofs.workers.workers_over.Goals as goal
 
 pub loop-k-init : goal.loop-k-init
 loop-k-init g c = record { count = search rules; unused = λ k d lt. absurd (omega arith) }

@@ -1,6 +1,6 @@
 use Rattle.std.proofs.Common.{◌≡◌, ℕ, ◌<◌, length, get_or}
 use Rattle.page_workers.specs.Seating.{IsUnused}
-use Rattle.dvipbm.proofs.workers.workers_over.Given as goal
+use Rattle.real_outside.proofs.workers.workers_over.Given as goal
 
 abbrev pub invariant-loop-k : goal.invariant-loop-k
 invariant-loop-k g l = record {
