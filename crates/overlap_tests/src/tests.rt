@@ -6,6 +6,7 @@
 
 mod calls;
 mod document;
+mod jobs;
 mod meeting;
 mod output;
 mod runs;

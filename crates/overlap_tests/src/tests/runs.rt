@@ -43,8 +43,8 @@ fn settings() -> Settings
     }
 }
 
-// n workers whose sources go by a plan.
-fn crew(
+/// n workers whose sources go by a plan.
+pub fn crew(
     alloc: Global,
     count: usize,
     begun: &Arc<AtomicU32>,
