@@ -109,7 +109,7 @@ read_options() {
   res=300 paper='' sized='' given=''
   while [ $# -gt 0 ]; do
     case $1 in
-    --trace | --summary)
+    --tolerant | --trace | --summary)
       given="$given $1"
       shift
       continue
@@ -157,7 +157,7 @@ take_documents() {
   shift
   while [ $# -gt 0 ]; do
     case $1 in
-    --trace | --summary | --*=*) taken=1 ;;
+    --tolerant | --trace | --summary | --*=*) taken=1 ;;
     --*) taken=2 ;;
     *) break ;;
     esac

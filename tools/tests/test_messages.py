@@ -24,6 +24,7 @@ class Messages(unittest.TestCase):
             ('FAULT of a page is `', 'FAULT of a page is `newly wrong`, `', 'newly wrong'),
             ('FAULT of a document is `', 'FAULT of a document is `all wrong K`, `', 'all wrong K'),
             ('FONT is `', 'FONT is `late`, `', 'late'),
+            ('LACK is `', 'LACK is `no ink in KEY`, `', 'tolerated no ink in KEY'),
             ('| WidthZero |', '| WidthOdd(c) | it is odd |\n| WidthZero |', 'tfm width odd C'),
             ('Overrun (a run', 'Loop(row) (it turns), Overrun (a run', 'pk runs C loop ROW'),
             ('FontTooBig (the rasters of all packets', 'NoGlyphs (none is there), FontTooBig (the rasters of all packets', 'pk no glyphs'),
@@ -44,9 +45,9 @@ class Messages(unittest.TestCase):
         module = loaded()
         formats, manual = module.others_of_formats(read('FORMATS.md')), module.others_of_manual(read('man/dvipbm.1'))
         self.assertEqual(formats ^ manual, set())
-        self.assertLessEqual({'--room', '--top', 'trace: look KEY busy', 'trace: fill KEY evict -', 'trace: fill KEY evict KEY, KEY',
+        self.assertLessEqual({'--room', '--tolerant', '--top', 'trace: look KEY busy', 'trace: fill KEY evict -', 'trace: fill KEY evict KEY, KEY',
                               'trace: fill KEY not kept', 'summary: claims', 'summary: evictions'}, manual)
-        self.assertEqual((sum(word.startswith('--') for word in manual), sum(word.startswith('summary') for word in manual)), (12, 9))
+        self.assertEqual((sum(word.startswith('--') for word in manual), sum(word.startswith('summary') for word in manual)), (13, 9))
 
 
 if __name__ == '__main__':

@@ -194,6 +194,12 @@ class Manifest(Rooms):
         self.assertEqual(self.called('manifest', 'list', 'fonts', input=b'c.dvi\0b.dvi\0'), (0, b'', '2 documents, 0 with another status than 0\n'))
         self.assertEqual(self.read('list').decode(), f'{self.HEAD}#options\n{lines["b.dvi"]}fonts\n{lines["c.dvi"]}fonts\n')
 
+    def test_options_without_a_value(self):
+        lines = self.documents()
+        self.assertEqual(self.called('manifest', '--tolerant', '--res', '7', '--trace', 'list', 'fonts', 'b.dvi')[0], 0)
+        self.assertEqual(self.read('list').decode(), f'{self.HEAD}#options\t--tolerant\t--res\t7\t--trace\n{lines["b.dvi"]}--tolerant --res 7 --trace fonts\n')
+        self.assertEqual(self.called('manifest', '--check', 'list', 'fonts'), (0, b'', ''))
+
     def test_a_name_with_tabs_and_bytes_that_are_no_text(self):
         name = b'a\tb\n\\\xff.dvi'
         with open(os.path.join(os.fsencode(self.room), name), 'wb') as file:

@@ -187,6 +187,18 @@ class Pages(Room):
         self.assertEqual(self.read('page-1.png'), OLD)
         self.assertFalse(os.path.exists(self.path('page-2.png')))
 
+    @needs('pamsplit', 'pnmtopng')
+    def test_what_pages_lack_is_shown(self):
+        """A program in the place of dvipbm draws a page and says what it lacks; the option is handed on."""
+        line = 'dvipbm: page 1 at 87: tolerated font nosuchfont 786432 786432: missing tfm'
+        lacks = self.program('lacks', f'#!/bin/sh\necho "$*" >>"$ASKED"\nprintf "P4\\n8 1\\nx"\necho "{line}" >&2\n')
+        self.write('odd.dvi', document(b'\xabA', definition(0, name=b'nosuchfont')))
+        for recipe, made in (('to-png', 'page-1.png'), ('draw', 'page')):
+            self.write('asked', '')
+            status, _, said = self.run_recipe(recipe, 'odd.dvi', 'page', '--tolerant', '--workers', '2', DVIPBM=lacks)
+            self.assertEqual((status, said.splitlines().count(line), self.read('asked').split()), (0, 1, [b'--tolerant', b'--workers', b'2']), said)
+            self.assertTrue(os.path.exists(self.path(made)))
+
     @needs('latex')
     def test_latex_runs_until_references_settle(self):
         """A document without references once, one with a list of contents as often as its pages' numbers change, and one that never
@@ -238,6 +250,7 @@ class Many(Room):
     def test_options(self):
         names = self.lay('a')
         for words, asked in ((['--res', '600', '--paper', 'a4'], '--res 600 --width 4961 --height 7016'), (['--workers=2', '--trace'], '--workers 2 --trace'),
+                             (['--tolerant', '--res=600'], '--tolerant --res 600'),
                              (['--paper=a5-landscape'], '--width 2480 --height 1748'), ([], '')):
             self.write('asked', '')
             status, _, said = self.run_recipe('many', *words, 'fonts', *names)

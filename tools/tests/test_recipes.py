@@ -1,7 +1,7 @@
 """The recipes of docs/USING.md, each where its tools are installed: what they make has the dots of the pages that the program drew."""
 import os, shutil, struct, subprocess, tempfile, unittest
 
-from common import PROGRAM, RECIPES, TOP, environment_of, needs, needs_program
+from common import PROGRAM, RECIPES, TOP, definition, document, environment_of, needs, needs_program
 
 WIDE, HIGH, ROW = 2550, 3300, 319
 HEAD = b'P4\n2550 3300\n'
@@ -89,6 +89,17 @@ class Recipes(unittest.TestCase):
             found += bitmaps(ran.stdout)
         self.same(found)
         self.assertFalse(os.path.exists(self.path(f'screen-{len(self.pages) + 1}.png')))
+
+    @needs('pamsplit', 'pnmtopng', 'pngtopam')
+    def test_to_png_of_a_document_whose_font_is_missing(self):
+        with open(self.path('odd.dvi'), 'wb') as file:
+            file.write(document(b'\xabA', definition(0, name=b'nosuchfont')))
+        line = 'page 1 at 87: {}font nosuchfont 786432 786432: missing tfm'
+        self.assertIn(f'dvipbm: {line.format("")}\n', self.recipe('to-png', 'odd.dvi', 'odd', status=4))
+        self.assertFalse(os.path.exists(self.path('odd-1.png')))
+        self.assertIn(f'dvipbm: {line.format("tolerated ")}\n', self.recipe('to-png', 'odd.dvi', 'odd', '--tolerant'))
+        ran = subprocess.run(['pngtopam', self.path('odd-1.png')], capture_output=True, check=True)
+        self.assertEqual(bitmaps(ran.stdout), [(WIDE, HIGH, bytes(ROW * HIGH))])
 
     def shown(self, name):
         """The pages of a PostScript or PDF file, as Ghostscript shows them."""

@@ -53,6 +53,11 @@ class Using(unittest.TestCase):
         with open(f'{TOP}/docs/USING.md', encoding='utf-8') as file:
             self.assertIn(f'```text\n{shown[0]}\n```', file.read())
         self.assertIn('scaled from 600', said['Fonts'])
+        # (where a font is first needed depends on what LaTeX puts at the beginning of a page)
+        lacks = re.findall(r'^dvipbm: page \d+ at .*', said['Missing fonts'], re.M)
+        with open(f'{TOP}/docs/USING.md', encoding='utf-8') as file:
+            shown = re.findall(r'^dvipbm: page \d+ at .*', file.read(), re.M)
+        self.assertEqual([re.sub(r' at \d+:', ' at N:', line) for line in lacks], [re.sub(r' at \d+:', ' at N:', line) for line in shown])
         self.assertIn('pages 2\n', said['Long documents'])
         with open(f'{room}/printed') as file:
             self.assertEqual([line.split()[-1] for line in file], ['story.pdf', 'story.ps', 'story.ras'])
@@ -67,6 +72,7 @@ class Using(unittest.TestCase):
             'PDF and PostScript': {'story.pbm': b'P4\n2550 3300\n', 'story.pdf': b'%PDF', 'fine.pdf': b'%PDF', 'story.ps': b'%!PS'},
             'A printer': {'story.ras': b''},
             'Fonts': {'fonts/cmr10.tfm': b'', 'story.pbm': b'P4\n2550 3300\n'},
+            'Missing fonts': {'rough.pbm': b'P4\n2550 3300\n', 'story.pbm': b'P4\n2550 3300\n', 'few/cmr10.300pk': b''},
             'Long documents': {'story.pbm': b'P4\n2550 3300\n'},
             'A thousand documents': {'thousand/story.pbm': b'P4\n1240 1754\n', 'thousand/lost.pbm': b'P4\n1240 1754\n'},
             'An archive': {'story.tiff': b'', 'pages.list': b'#status'},
