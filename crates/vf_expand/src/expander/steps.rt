@@ -1,8 +1,7 @@
 //! The steps of a page, by what stands next.
-ghost use Rattle.std.specs.Prelude.{◌≡◌, Some, None, IfOk, IfSome, IsNone, OnErr};
+ghost use Rattle.std.specs.Prelude.{◌≡◌, Some, None, IfOk, OnErr};
 ghost use Rattle.vf_expand.specs.Expansion.{IsEnded};
 ghost use Rattle.vf_expand.specs.Steps.{StepFits, Steps};
-ghost use Rattle.vf_expand.specs.declared.step.Step.TheVariants as step;
 
 use super::Expander;
 use crate::current::Current;
@@ -14,6 +13,13 @@ use crate::{Lack, PageFault, Step};
 use drift_rules::Flat;
 use dvi_commands::command_at;
 use std::alloc::AllocError as NoMemory;
+
+// Whether a command is seen by its opcode to give a flat command by itself: any but a character and
+// a font change. Motions are most of them. No contract rests on it.
+#[inline(always)]
+fn gives_flat(opcode: u8) -> bool {
+    matches!(opcode, 137..=170 | 132 | 239..=246)
+}
 
 impl<'a> Expander<'a> {
     // What comes after the packet of a character that was set, or in place of a lacking character.
@@ -33,7 +39,7 @@ impl<'a> Expander<'a> {
     }
 
     // The page's end, or the end of a packet.
-    #[inline(never)]
+    #[inline(always)]
     fn ended(&mut self) -> Step
         requires nothing_pending { self.old.pending ≡ None }
         requires ended { IsEnded self.old.stack }
@@ -57,14 +63,14 @@ impl<'a> Expander<'a> {
         Step::Flat(Flat::Leave)
     }
 
-    // The flat command that the next command gives by itself. `None` where anything else stands
-    // next, and where no more may be given: then nothing has changed.
-    #[inline(always)]
-    fn next_flat(&mut self) -> Option<Flat>
+    // The next command, whatever it is, or the end. The end, and a command that gives a flat command
+    // by itself, are found here, where few locals need be cleared.
+    #[inline(never)]
+    pub(super) fn expand(&mut self) -> Result<Step, NoMemory>
         requires nothing_pending { self.old.pending ≡ None }
-        ensures step { IfSome result (λ flat. Steps self.old (step.Flat flat) self.new) }
-        ensures fits { IfSome result (λ flat. StepFits (step.Flat flat)) }
-        ensures none { IsNone result → self.new ≡ self.old }
+        ensures step { IfOk result (λ step. Steps self.old step self.new) }
+        ensures fits { IfOk result StepFits }
+        ensures err { OnErr result (self.new ≡ self.old) }
     {
         let reading = current_level(
             self.index,
@@ -75,35 +81,23 @@ impl<'a> Expander<'a> {
             self.progress.at,
         );
         let at = reading.at;
-        if self.level.pos == reading.text.len() || self.progress.budget == 0 {
-            return None;
+        if self.level.pos == reading.text.len() {
+            return Ok(self.ended());
         }
-        // Characters and font changes are seen by their opcode, before their fields are read.
-        if matches!(reading.text[self.level.pos], 0..=131 | 133..=136 | 171..=238) {
-            return None;
+        if self.progress.budget > 0 && gives_flat(reading.text[self.level.pos]) {
+            let (command, end) = command_at(reading.text, self.level.pos, reading.context);
+            if let Some(flat) = flat_of(reading.place, &self.level.current, &command) {
+                self.level.pos = end;
+                self.progress = self.progress.after_flat(at, false);
+                return Ok(Step::Flat(flat));
+            }
         }
-        let (command, end) = command_at(reading.text, self.level.pos, reading.context);
-        let flat = flat_of(reading.place, &self.level.current, &command)?;
-        self.level.pos = end;
-        self.progress = self.progress.after_flat(at, false);
-        Some(flat)
+        // Taken out of its `Result`, so that a flat command is written where the caller reads it.
+        let step = self.expand_any()?;
+        Ok(step)
     }
 
-    // The next command, whatever it is, or the end.
-    #[inline(never)]
-    pub(super) fn expand(&mut self) -> Result<Step, NoMemory>
-        requires nothing_pending { self.old.pending ≡ None }
-        ensures step { IfOk result (λ step. Steps self.old step self.new) }
-        ensures fits { IfOk result StepFits }
-        ensures err { OnErr result (self.new ≡ self.old) }
-    {
-        match self.next_flat() {
-            Some(flat) => Ok(Step::Flat(flat)),
-            None => self.expand_any(),
-        }
-    }
-
-    // The same. In a function of its own, whose many locals needn't be cleared for most commands.
+    // The same, with the many locals that a character and a font change need.
     #[inline(never)]
     fn expand_any(&mut self) -> Result<Step, NoMemory>
         requires nothing_pending { self.old.pending ≡ None }
