@@ -63,8 +63,8 @@ impl<'a> Expander<'a> {
         Step::Flat(Flat::Leave)
     }
 
-    // The next command, whatever it is, or the end. The end, and a command that gives a flat command
-    // by itself, are found here, where few locals need be cleared.
+    // The next command, whatever it is, or the end. The end, and a command that gives a flat one by
+    // itself, are found here, where few locals need be cleared.
     #[inline(never)]
     pub(super) fn expand(&mut self) -> Result<Step, NoMemory>
         requires nothing_pending { self.old.pending ≡ None }
