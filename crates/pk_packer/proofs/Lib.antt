@@ -13,6 +13,7 @@ pub mod PlainLaws
 pub mod Pixels
 pub mod Placed
 pub mod HeldBytes
+pub mod FourDigits
 pub mod KeptRuns
 pub mod Lengthened
 pub mod Begun

@@ -16,7 +16,7 @@ pub fn pass_blocks(row: &[u8], from: usize, black: bool) -> usize
     ensures same { (x : ℕ) → 8 * from ≤ x → x < 8 * result → pixel row.now x ≡ black }
 {
     let wide = pass_512(row, from, black);
-    if wide == row.len() {
+    if ends_at(row, wide, black) {
         return wide;
     }
     let narrow = pass_64(row, wide, black);
@@ -26,7 +26,16 @@ pub fn pass_blocks(row: &[u8], from: usize, black: bool) -> usize
     pass_8(row, narrow, black)
 }
 
-// As far as blocks of 512 bytes have the colour. Those that are left are passed by the last 512.
+// Whether no further word has the colour: where a run fills whole blocks, it ends here.
+#[inline(always)]
+fn ends_at(row: &[u8], at: usize, black: bool) -> bool
+    requires short { length row.now < 2 ^ 16 }
+    requires inside { at ≤ length row.now }
+{
+    at == row.len() || at + 8 <= row.len() && others_8(row, at, black) != 0
+}
+
+// As far as blocks of 512 bytes have the colour.
 #[inline(always)]
 fn pass_512(row: &[u8], from: usize, black: bool) -> usize
     requires short { length row.now < 2 ^ 16 }
@@ -35,7 +44,7 @@ fn pass_512(row: &[u8], from: usize, black: bool) -> usize
     ensures most { result ≤ length row.now }
     ensures same { (x : ℕ) → 8 * from ≤ x → x < 8 * result → pixel row.now x ≡ black }
 {
-    if row.len() < 512 {
+    if row.len() < from + 512 {
         return from;
     }
     let last = row.len() - 512;
@@ -45,9 +54,6 @@ fn pass_512(row: &[u8], from: usize, black: bool) -> usize
             return at;
         }
         at += 512;
-    }
-    if others_512(row, last, black) == 0 {
-        return row.len();
     }
     at
 }
@@ -72,7 +78,7 @@ fn pass_64(row: &[u8], from: usize, black: bool) -> usize
         }
         at += 64;
     }
-    if others_64(row, last, black) == 0 {
+    if at < row.len() && others_64(row, last, black) == 0 {
         return row.len();
     }
     at

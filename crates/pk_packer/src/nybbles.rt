@@ -61,6 +61,28 @@ impl Nybbles {
         Ok(())
     }
 
+    /// Writes three zeros and the four digits of a number, to base sixteen.
+    #[inline(always)]
+    pub fn push_four(&mut self, value: u16) -> Result<(), NoMemory>
+        requires { self.old.high < 16 }
+        ensures written { OnOk result (nybbles_written self.new
+            ≡ nybbles_written self.old ++ 0 ∷ 0 ∷ 0 ∷ (value / 4096) ∷ (value / 256 % 16)
+            ∷ (value / 16 % 16) ∷ (value % 16) ∷ []) }
+        ensures high { self.new.high < 16 }
+    {
+        if self.half {
+            let (upper, lower) = ((value / 256) as u8, (value % 256) as u8);
+            self.bytes.extend_from_slice(&[16 * self.high, 0, upper, lower])?;
+            self.half = false;
+            return Ok(());
+        }
+        let (upper, lower) = ((value / 4096) as u8, (value / 16 % 256) as u8);
+        self.bytes.extend_from_slice(&[0, upper, lower])?;
+        self.high = (value % 16) as u8;
+        self.half = true;
+        Ok(())
+    }
+
     /// The bytes; a nybble left over is 0.
     pub fn finish(self) -> Result<Vec<u8>, NoMemory>
         requires { self.high < 16 }

@@ -24,6 +24,7 @@ pub struct Place {
 }
 
 /// The beginning of a row, or the place behind the last one.
+#[inline(always)]
 pub fn row_begin(bits: &PackedBitmap, row: u32) -> Place
     requires some { 1 ≤ bits.now.width }
     requires narrow { bits.now.width ≤ MAX_GLYPH_SIDE }
@@ -36,7 +37,7 @@ pub fn row_begin(bits: &PackedBitmap, row: u32) -> Place
         ≡ with_rows (first_colour (pixel_rows bits.now)) items
         (written_rows (drop row (pixel_rows bits.now))) }
 {
-    if row == bits.height() {
+    if row >= bits.height() {
         return Place {
             row,
             column: 0,
@@ -60,6 +61,7 @@ pub fn row_begin(bits: &PackedBitmap, row: u32) -> Place
 }
 
 /// The place in the same row where the other colour begins.
+#[inline(always)]
 pub fn next_colour(bits: &PackedBitmap, place: Place) -> Place
     requires narrow { bits.now.width ≤ MAX_GLYPH_SIDE }
     requires place { IsPlace bits.now place }
@@ -83,6 +85,7 @@ pub fn next_colour(bits: &PackedBitmap, place: Place) -> Place
 }
 
 // Where the pixels of a colour that begin in a column end.
+#[inline(always)]
 fn colour_end(bits: &PackedBitmap, column: u32, row: u32, black: bool) -> u32
     requires narrow { bits.now.width ≤ MAX_GLYPH_SIDE }
     requires low { row < bits.now.height }

@@ -22,8 +22,27 @@ pub fn copies_below(bits: &PackedBitmap, column: u32, row: u32) -> u32
 }
 
 /// How many rows below a row equal it, up to the first that doesn't. Two rows are compared first at
-/// a column where they are likely to differ.
+/// a column where they are likely to differ, and the first two without a call.
+#[inline(always)]
 pub fn equal_below(bits: &PackedBitmap, column: u32, row: u32) -> u32
+    requires inside { row < bits.now.height }
+    requires in_row { column < bits.now.width }
+    ensures fit { row + 1 + result ≤ bits.now.height }
+    ensures same { (k : ℕ) → k < result → row_of (pixel_rows bits.now) (row + 1 + k)
+        ≡ row_of (pixel_rows bits.now) row }
+    ensures other { row + 1 + result < bits.now.height → row_of (pixel_rows bits.now) row
+        ≡ row_of (pixel_rows bits.now) (row + 1 + result) → ⊥ }
+{
+    let height = bits.height();
+    if row + 1 < height && agree_at(bits, column, row, row + 1) {
+        return count_equal(bits, column, row);
+    }
+    0
+}
+
+// How many rows below a row equal it, up to the first that doesn't.
+#[inline(never)]
+fn count_equal(bits: &PackedBitmap, column: u32, row: u32) -> u32
     requires inside { row < bits.now.height }
     requires in_row { column < bits.now.width }
     ensures fit { row + 1 + result ≤ bits.now.height }
@@ -47,10 +66,21 @@ fn are_equal(bits: &PackedBitmap, x: u32, y: u32, z: u32) -> bool
     requires lower { z < bits.now.height }
     ensures { IsTrue result ↔ (row_of (pixel_rows bits.now) y ≡ row_of (pixel_rows bits.now) z) }
 {
-    let (upper, lower) = (bits.row(y), bits.row(z));
-    let at = x as usize / 8;
-    if upper[at] != lower[at] {
+    if !agree_at(bits, x, y, z) {
         return false;
     }
-    upper == lower
+    bits.row(y) == bits.row(z)
+}
+
+// Whether two rows have the same byte at a column: a quick test, which most rows fail.
+#[inline(always)]
+fn agree_at(bits: &PackedBitmap, x: u32, y: u32, z: u32) -> bool
+    requires in_row { x < bits.now.width }
+    requires upper { y < bits.now.height }
+    requires lower { z < bits.now.height }
+    ensures { row_of (pixel_rows bits.now) y ≡ row_of (pixel_rows bits.now) z → IsTrue result }
+{
+    let (upper, lower) = (bits.row(y), bits.row(z));
+    let at = x as usize / 8;
+    upper[at] == lower[at]
 }

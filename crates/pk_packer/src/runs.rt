@@ -34,7 +34,7 @@ pub fn next_run(bits: &PackedBitmap, place: Place) -> Option<Step>
     ensures passed { MatchOption result (Unit {0}) (λ s.
         pixels_after bits.now s.after + s.len ≤ pixels_after bits.now place) }
 {
-    if place.row == bits.height() {
+    if place.row >= bits.height() {
         return None;
     }
     let mut len = 0;

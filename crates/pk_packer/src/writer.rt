@@ -13,6 +13,7 @@ use crate::nybbles::Nybbles;
 use std::alloc::AllocError as NoMemory;
 
 // Writes a number of more than two nybbles: a zero, and as many bytes as there are further digits.
+// Most runs of more than a few thousand pixels have four digits, which are written at once.
 #[inline(always)]
 fn write_long(out: &mut Nybbles, value: u32) -> Result<(), NoMemory>
     requires long { 16 ≤ value }
@@ -21,6 +22,9 @@ fn write_long(out: &mut Nybbles, value: u32) -> Result<(), NoMemory>
         ≡ nybbles_written out.old ++ long_text value) }
     ensures high { out.new.high < 16 }
 {
+    if value >= 4096 && value < 65536 {
+        return out.push_four(value as u16);
+    }
     let bytes = digit_count(value) - 1;
     out.push(0)?;
     for i in 0..bytes {

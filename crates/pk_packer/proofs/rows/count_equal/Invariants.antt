@@ -1,7 +1,7 @@
 use Rattle.std.proofs.Common.{◌≡◌, ℕ, ◌+◌, ◌-◌, ◌<◌, ◌≤◌}
 use Rattle.pk_packer.specs.Places.{row_of}
 use Rattle.pk_packer.specs.Written.{pixel_rows}
-use Rattle.pk_packer.proofs.rows.equal_below.Given as goal
+use Rattle.pk_packer.proofs.rows.count_equal.Given as goal
 
 abbrev pub invariant-loop-n : goal.invariant-loop-n
 invariant-loop-n l = record {
