@@ -15,36 +15,23 @@ pub fn pass_blocks(row: &[u8], from: usize, black: bool) -> usize
     ensures most { result ≤ length row.now }
     ensures same { (x : ℕ) → 8 * from ≤ x → x < 8 * result → pixel row.now x ≡ black }
 {
-    let wide = pass_512(row, from, black);
-    if ends_at(row, wide, black) {
-        return wide;
-    }
-    let narrow = pass_64(row, wide, black);
+    let narrow = pass_64(row, from, black);
     if narrow == row.len() {
         return narrow;
     }
     pass_8(row, narrow, black)
 }
 
-// Whether no further word has the colour: where a run fills whole blocks, it ends here.
+/// As far as blocks of 512 bytes have the colour.
 #[inline(always)]
-fn ends_at(row: &[u8], at: usize, black: bool) -> bool
-    requires short { length row.now < 2 ^ 16 }
-    requires inside { at ≤ length row.now }
-{
-    at == row.len() || at + 8 <= row.len() && others_8(row, at, black) != 0
-}
-
-// As far as blocks of 512 bytes have the colour.
-#[inline(always)]
-fn pass_512(row: &[u8], from: usize, black: bool) -> usize
+pub fn pass_512(row: &[u8], from: usize, black: bool) -> usize
     requires short { length row.now < 2 ^ 16 }
     requires inside { from ≤ length row.now }
     ensures least { from ≤ result }
     ensures most { result ≤ length row.now }
     ensures same { (x : ℕ) → 8 * from ≤ x → x < 8 * result → pixel row.now x ≡ black }
 {
-    if row.len() < from + 512 {
+    if row.len() < 512 {
         return from;
     }
     let last = row.len() - 512;

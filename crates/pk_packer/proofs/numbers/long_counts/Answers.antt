@@ -15,12 +15,21 @@ loop-beyond-preserved c =
       low = omega (arith, ap (λ (j : ℕ). 16 ^ j) (less d), i.power, c.loop-beyond-test.true, c.from.ensures);
     }
 
+pub returns-then-from-beyond-clause-counts : goal.returns-then-from-beyond-clause-counts
+returns-then-from-beyond-clause-counts c = λ f form.
+    let d : ℕ = c.loop-beyond.digits in
+    let v : ℕ = c.args.value in
+    let i = c.loop-beyond.invariant in
+    by_turn f 14 (2 * d - 1) (2 * d + 1) (length (long_text (v + 15 * f)))
+    (λ below. long_before d v (v + 15 * f) i.some c.requires.long i.low (omega arith) (omega (arith, form, i.power, c.if-from-beyond.true, c.from-2.ensures)))
+    (λ above. absurd (omega (arith, above, form)))
+
 pub returns-clause-counts : goal.returns-clause-counts
 returns-clause-counts c = λ f form.
     let d : ℕ = c.loop-beyond.digits in
     let v : ℕ = c.args.value in
     let i = c.loop-beyond.invariant in
-    by_turn f ((c.loop-beyond.beyond + 14 - c.from-2.result) / 15) (2 * d - 1) (2 * d + 1) (length (long_text (v + 15 * f)))
-    (λ below. long_before d v (v + 15 * f) i.some c.requires.long i.low (omega arith) (omega (arith, below, c.from-2.ensures, i.power, c.loop-beyond-test.false, c.from.ensures)))
-    (λ above. long_from d (v + 15 * f) i.some (omega (arith, i.large, i.power)) (omega (arith, above, c.from-2.ensures, i.power, c.loop-beyond-test.false, c.from.ensures))
+    by_turn f ((c.loop-beyond.beyond + 14 - c.from-3.result) / 15) (2 * d - 1) (2 * d + 1) (length (long_text (v + 15 * f)))
+    (λ below. long_before d v (v + 15 * f) i.some c.requires.long i.low (omega arith) (omega (arith, below, c.from-3.ensures, i.power, c.loop-beyond-test.false, c.from.ensures)))
+    (λ above. long_from d (v + 15 * f) i.some (omega (arith, i.large, i.power)) (omega (arith, above, c.from-3.ensures, i.power, c.loop-beyond-test.false, c.from.ensures))
     (omega (arith, form, i.power, c.loop-beyond-test.false, c.from.ensures)))

@@ -1,6 +1,6 @@
 use Rattle.std.proofs.Common.{◌≡◌, ℕ, ◌-◌, ◌*◌, ◌<◌, ◌≤◌, length}
 use Rattle.packed_rows.specs.Packing.{pixel}
-use Rattle.pk_packer.proofs.row.long_end.Given as goal
+use Rattle.pk_packer.proofs.row.end_in_words.Given as goal
 
 abbrev pub invariant-loop-at : goal.invariant-loop-at
 invariant-loop-at l = record {
