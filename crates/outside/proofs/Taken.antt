@@ -1,6 +1,7 @@
 -- What a read takes from the bytes that are left.
 use Rattle.std.proofs.Common.{◌≡◌, ◌∙◌, ◌≤◌, ◌<◌, ◌+◌, ◌-◌, ◌++◌, ℕ, List, [], length, take, drop, length-drop, arith, min, sym, ap}
 use Rattle.std.proofs.lemmas.List.{drop-drop, take-append-drop}
+use Rattle.std.proofs.Math.Seq.{take-add}
 use Rattle.std.proofs.lemmas.Grind.{common_steps}
 use Rattle.outside.proofs.Growth.{to_end}
 
@@ -10,6 +11,13 @@ pub taken : (xs text buf : List ℕ) (at n : ℕ) → text ≡ xs → take n buf
 taken xs text buf at n same copied =
     let is : take n buf ≡ take n (drop at xs) = copied ∙ (ap (take n) (to_end text at) ∙ ap (λ t. take n (drop at t)) same) in
     sym (take-append-drop n (drop at xs)) ∙ (ap (λ w. w ++ drop n (drop at xs)) (sym is) ∙ ap (λ w. take n buf ++ w) (drop-drop n at xs))
+
+-- what was given before, and then by this read
+pub given : (xs text buf : List ℕ) (at n : ℕ) → text ≡ xs → take n buf ≡ take n (take (length text - at) (drop at text))
+    → take (at + n) xs ≡ take at xs ++ take n buf
+given xs text buf at n same copied =
+    let is : take n buf ≡ take n (drop at xs) = copied ∙ (ap (take n) (to_end text at) ∙ ap (λ t. take n (drop at t)) same) in
+    take-add at n xs ∙ ap (λ w. take at xs ++ w) (sym is)
 
 -- a read gives no byte only at the end
 pub all_taken : (xs text : List ℕ) (at piece room n : ℕ) → text ≡ xs → at ≤ length xs → 1 ≤ piece → n ≡ min (length (take (length text - at) (drop at text))) (min piece room)

@@ -2,6 +2,7 @@
 ghost use Rattle.std.specs.Prelude.{◌≡◌, ◌≤◌, ◌<◌, ◌↔◌, [], Some, drop, length, min, take, Contains, IfOk, IsErr, OnErr, OnOk, IsTrue};
 ghost use Rattle.std.specs.Io.KnownBytes.{ReadConsumes, WriteAppends};
 ghost use Rattle.outside.specs.Counts.{HasCause, next_count};
+ghost use Rattle.outside.specs.Streams.{Takes};
 
 use crate::{Failed, Input, Output};
 use std::alloc::Global;
@@ -59,6 +60,10 @@ impl MemInput {
 impl Input for MemInput {
     ghost left = { λ m. Some (drop m.at m.bytes.items) };
 
+    ghost taken = { λ m. take m.at m.bytes.items };
+
+    ghost ended = { λ m. drop m.at m.bytes.items ≡ [] };
+
     ghost faults = { λ m. m.faults };
 
     fn read(&mut self, buf: &mut [u8]) -> Result<usize, Failed>
@@ -66,6 +71,9 @@ impl Input for MemInput {
         ensures bound { IfOk result (λ n. n ≤ length buf.new) }
         ensures bytes { ReadConsumes (Some (drop self.old.at self.old.bytes.items))
             (Some (drop self.new.at self.new.bytes.items)) result buf.new }
+        ensures taken { Takes (take self.old.at self.old.bytes.items)
+            (take self.new.at self.new.bytes.items) (drop self.new.at self.new.bytes.items ≡ [])
+            result buf.new }
         ensures cause { HasCause self.old.faults self.new.faults (IsErr result) }
 
         // The calls are counted from 1, and those that are listed fail.

@@ -1,7 +1,8 @@
 //! An input in memory that never fails, and an output in memory that fails only where it is full.
-ghost use Rattle.std.specs.Prelude.{◌≡◌, ◌≤◌, ◌<◌, ◌-◌, ◌↔◌, [], Some, drop, length, min, IfOk, IsErr, IsOk, OnErr, OnOk, vec_capacity};
+ghost use Rattle.std.specs.Prelude.{◌≡◌, ◌≤◌, ◌<◌, ◌-◌, ◌↔◌, [], Some, drop, length, min, take, IfOk, IsErr, IsOk, OnErr, OnOk, vec_capacity};
 ghost use Rattle.std.specs.Io.KnownBytes.{ReadConsumes, WriteAppends};
 ghost use Rattle.outside.specs.Counts.{HasCause, next_count};
+ghost use Rattle.outside.specs.Streams.{Takes};
 
 use crate::memory::copy_prefix;
 use crate::{Failed, Input, Output};
@@ -27,6 +28,10 @@ impl SureInput {
 impl Input for SureInput {
     ghost left = { λ s. Some (drop s.at s.bytes.items) };
 
+    ghost taken = { λ s. take s.at s.bytes.items };
+
+    ghost ended = { λ s. drop s.at s.bytes.items ≡ [] };
+
     ghost faults = { λ _. 0 };
 
     fn read(&mut self, buf: &mut [u8]) -> Result<usize, Failed>
@@ -34,6 +39,9 @@ impl Input for SureInput {
         ensures bound { IfOk result (λ n. n ≤ length buf.new) }
         ensures bytes { ReadConsumes (Some (drop self.old.at self.old.bytes.items))
             (Some (drop self.new.at self.new.bytes.items)) result buf.new }
+        ensures taken { Takes (take self.old.at self.old.bytes.items)
+            (take self.new.at self.new.bytes.items) (drop self.new.at self.new.bytes.items ≡ [])
+            result buf.new }
         ensures cause { HasCause 0 0 (IsErr result) }
 
         ensures never_fails { IsOk result }

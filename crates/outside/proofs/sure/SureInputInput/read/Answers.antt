@@ -1,5 +1,5 @@
 use Rattle.std.proofs.Common.{length}
-use Rattle.outside.proofs.Taken.{all_taken, taken}
+use Rattle.outside.proofs.Taken.{all_taken, given, taken}
 use Rattle.outside.proofs.sure.SureInputInput.read.Goals as goal
 
 pub returns-clause-bytes : goal.returns-clause-bytes
@@ -8,5 +8,14 @@ returns-clause-bytes c =
     let at = c.args.self.now.at in
     let same = c.deref.ensures.value in (
       taken xs _ c.copy_prefix-n.new.buf at c.copy_prefix-n.result same c.copy_prefix-n.ensures.copied,
+      λ none room. all_taken xs _ at (length c.args.buf.now) _ c.copy_prefix-n.result same c.args.self.now.inside c.requires c.copy_prefix-n.ensures.count none room,
+    )
+
+pub returns-clause-taken : goal.returns-clause-taken
+returns-clause-taken c =
+    let xs = c.args.self.now.bytes.items in
+    let at = c.args.self.now.at in
+    let same = c.deref.ensures.value in (
+      given xs _ c.copy_prefix-n.new.buf at c.copy_prefix-n.result same c.copy_prefix-n.ensures.copied,
       λ none room. all_taken xs _ at (length c.args.buf.now) _ c.copy_prefix-n.result same c.args.self.now.inside c.requires c.copy_prefix-n.ensures.count none room,
     )
