@@ -4,9 +4,11 @@
 #![tactic(auto)]
 
 use dvi_run::dvipbm_run;
-use real_outside::{FromReader, ToWriter, workers_over};
+use real_outside::workers_over;
+use real_streams::{FromReader, ToWriter};
 use std::env::{self, VarError};
 use std::io::ErrorKind;
+use std::marker::Brand;
 use std::path::PathBuf;
 use std::process::ExitCode;
 
@@ -54,8 +56,8 @@ fn main(rt: HostRuntime) -> ExitCode {
         return ExitCode::from(NO_MEMORY);
     };
     let mut input = FromReader::new(rt.stdin());
-    let mut out = ToWriter::new(rt.stdout());
-    let mut notes = ToWriter::new(rt.stderr());
+    let mut out = ToWriter::<Brand, _>::new(rt.stdout());
+    let mut notes = ToWriter::<Brand, _>::new(rt.stderr());
     let mut history = Vec::new(alloc);
     let status = dvipbm_run(
         &rt,

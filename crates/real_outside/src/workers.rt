@@ -2,8 +2,8 @@
 ghost use Rattle.std.specs.Prelude.{◌≡◌, ◌<◌, ℕ, IfOk, length, slice_index_or};
 ghost use Rattle.page_workers.specs.Seating.{IsUnused};
 
-use crate::folder::FolderFonts;
 use page_workers::Worker;
+use real_streams::FolderFonts;
 use std::alloc::{AllocError as NoMemory, Global};
 use std::path::PathBuf;
 use std::rt::Files;

@@ -1,5 +1,5 @@
 use denote.Param.Send.{sendable}
-use Rattle.real_outside.proofs.folder.FolderFonts.TheSendSync.{the_send}
+use Rattle.real_streams.proofs.fonts.OpenedFonts.TheSendSync.{the_send}
 use Rattle.std.proofs.Common.{◌≡◌, ◌<◌, ◌≤◌, length, get_or, ap, sym, subst, arith, rules}
 use Rattle.page_workers.specs.Seating.{IsUnused}
 use Rattle.dvi_run.proofs.RunOfWorkers.{ready_unknown}
