@@ -1,4 +1,4 @@
-"""Real streams and files that take or give their bytes in pieces, and fail after the first: a library before the C library's has the program's reads and writes."""
+"""Real streams and files that take or give their bytes in pieces, are interrupted, or fail after the first piece: a library before the C library's has the program's reads and writes."""
 import os, subprocess, tempfile, unittest
 from common import PROGRAM, SAMPLE, needs, needs_program, run
 
@@ -30,14 +30,26 @@ static int is_chosen(int fd)
     return length >= (ssize_t)wanted && !memcmp(path + length - wanted, name, wanted);
 }
 
+/* Every other call is interrupted where the environment says so, from the first on. */
+static int is_interrupted(void)
+{
+    static int calls;
+    if (!getenv("INTERRUPTS_CALLS") || calls++ % 2)
+        return 0;
+    errno = EINTR;
+    return 1;
+}
+
 ssize_t read(int fd, void *bytes, size_t size)
 {
     static int pieces;
     ssize_t (*next)(int, void *, size_t) = (ssize_t (*)(int, void *, size_t))dlsym(RTLD_NEXT, "read");
+    if (is_interrupted())
+        return -1;
     if (!is_chosen(fd))
         return next(fd, bytes, size);
     if (pieces++) {
-        errno = EIO;
+        errno = getenv("AS_IF_THERE_WERE_NO_FILE") ? ENOENT : EIO;
         return -1;
     }
     return next(fd, bytes, piece(size));
@@ -46,6 +58,8 @@ ssize_t read(int fd, void *bytes, size_t size)
 ssize_t write(int fd, const void *bytes, size_t size)
 {
     ssize_t (*next)(int, const void *, size_t) = (ssize_t (*)(int, const void *, size_t))dlsym(RTLD_NEXT, "write");
+    if (is_interrupted())
+        return -1;
     return next(fd, bytes, getenv("WRITES_IN_PIECES") ? piece(size) : size);
 }
 '''
@@ -77,6 +91,9 @@ class Streams(unittest.TestCase):
     def test_writes_that_are_short_and_go_on(self):
         self.assertEqual(self.ended(WRITES_IN_PIECES='1'), self.whole)
 
+    def test_calls_that_are_interrupted(self):
+        self.assertEqual(self.ended(INTERRUPTS_CALLS='1', WRITES_IN_PIECES='1'), self.whole)
+
     def test_an_input_that_fails_after_its_first_piece(self):
         self.assertGreater(os.path.getsize(f'{SAMPLE}/sample.dvi'), PIECE)
         self.assertEqual(self.ended(FAILS_AFTER_THE_FIRST_PIECE='sample.dvi'), (6, b'', 'dvipbm: input failed\n'))
@@ -85,6 +102,7 @@ class Streams(unittest.TestCase):
         for name in ('drawn12.tfm', 'drawn12.300pk'):
             with self.subTest(name):
                 self.assertEqual(self.ended(FAILS_AFTER_THE_FIRST_PIECE=name), (5, b'', 'dvipbm: page 1: font source failed\n'))
+                self.assertEqual(self.ended(FAILS_AFTER_THE_FIRST_PIECE=name, AS_IF_THERE_WERE_NO_FILE='1'), (5, b'', 'dvipbm: page 1: font source failed\n'))
 
 
 if __name__ == '__main__':
