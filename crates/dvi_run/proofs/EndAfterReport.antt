@@ -9,7 +9,7 @@ use Rattle.page_draw.specs.Values.{DrawnValue, PageValue}
 use Rattle.page_index.specs.Document.{Reading}
 use Rattle.page_workers.specs.declared.worker.Worker.{Worker}
 use Rattle.vf_expand.specs.Faults.{value_of_fault}
-use Rattle.dvi_run.specs.Reading.{HoldsOfInput}
+use Rattle.dvi_run.specs.Reading.{HoldsOfInput, InputChange, WasRead}
 use Rattle.dvi_run.specs.Pages.{Setup}
 use Rattle.dvi_run.specs.Endings.{EndingValue, Written, Notes, IsAmong, IsEnding, IsPrinted, PrintsBy, Prints, page_status, value_of_ending, status_of, with_notes}
 use Rattle.dvi_run.specs.Lines.{line_of}
@@ -19,7 +19,7 @@ use Rattle.dvi_run.specs.Sampled.{UsesTheSample}
 use Rattle.dvi_run.specs.Noted.{Took}
 use Rattle.dvi_run.specs.Outside.{Drawing, FaultsRose, StreamChange, Task, setup_of}
 use Rattle.dvi_run.specs.Looked.{MayBreakOff}
-use Rattle.dvi_run.specs.Together.{Answered, run_end, GaveUpOnlyBroken, WorkersAreDone, PagesMatchHistory, IsOneHistory, WorkerDone}
+use Rattle.dvi_run.specs.Together.{Answered, run_end, GaveUpOnlyBroken, IsUnread, WorkersAreDone, PagesMatchHistory, IsOneHistory, WorkerDone}
 use Rattle.dvi_run.specs.declared.ending.Ending.{Ending}
 use Rattle.dvi_run.specs.declared.ending.Ending.TheVariants as code
 use Rattle.command_line.specs.declared.settings.Settings.{Settings}
@@ -30,9 +30,9 @@ use Rattle.dvi_run.proofs.Looks.{broken_as}
 
 -- ---- how it ended
 
-module _ (old new : Option (List ℕ)) (OutputFailed SourceFailed OutputKept InputFailed : Type 0) (g : Setup) (left rest : Option (List ℕ)) where
+module _ (old new : Option (List ℕ)) (OutputFailed SourceFailed OutputKept InputFailed : Type 0) (g : Setup) (known : Option (List ℕ)) where
   abbrev Ends : EndingValue → Type 0
-  Ends e = IsEnding old new OutputFailed SourceFailed OutputKept InputFailed g left rest e
+  Ends e = IsEnding old new OutputFailed SourceFailed OutputKept InputFailed g known e
 
   pub ends_on : (x : Ending) (taken : Bool) → Ends (value_of_ending x) → Ends (with_notes (value_of_ending x) taken)
   ends_on code.Written true h = h
@@ -44,6 +44,27 @@ module _ (old new : Option (List ℕ)) (OutputFailed SourceFailed OutputKept Inp
   ends_on code.Input taken h = h
   ends_on (code.Output page) taken h = h
   ends_on code.Memory taken h = h
+
+-- ---- what was read
+
+unread_status : (x : Ending) (taken : Bool) → IsAmong (status_of (value_of_ending x)) (6 ∷ 9 ∷ []) → IsAmong (status_of (with_notes (value_of_ending x) taken)) (6 ∷ 9 ∷ [])
+unread_status code.Written true h = h
+unread_status code.Written false (inl is) = absurd cc
+unread_status code.Written false (inr (inl is)) = absurd cc
+unread_status code.Written false (inr (inr none)) = absurd none
+unread_status code.Usage taken h = h
+unread_status (code.Document fault) taken h = h
+unread_status (code.Page page fault at) taken h = h
+unread_status (code.Source page) taken h = h
+unread_status code.Input taken h = h
+unread_status (code.Output page) taken h = h
+unread_status code.Memory taken h = h
+
+pub read_on : {F : Type 0} (input : InputChange) (drawing : Drawing F) (tally : Option Tally) (x : Ending) (taken : Bool) → WasRead input (IsUnread drawing (status_of (value_of_ending x)) tally)
+    → WasRead input (IsUnread drawing (status_of (with_notes (value_of_ending x) taken)) tally)
+read_on input drawing tally x taken (inl gave) = inl gave
+read_on input drawing tally x taken (inr u) =
+    inr (record { answers = unread_status x taken u.answers; output = u.output; workers = u.workers; history = u.history; no_tally = u.no_tally })
 
 -- ---- what the notes took
 

@@ -25,6 +25,7 @@ pub mod WorkerSeats
 pub mod JobCauses
 pub mod Jobs
 pub mod PromisesKept
+pub mod KnownInputs
 pub mod CountedPages
 pub mod StatusOfEnd
 pub mod RunOfWorkers

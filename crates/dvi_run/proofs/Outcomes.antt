@@ -6,7 +6,7 @@ use Rattle.page_draw.specs.Values.{PageValue}
 use Rattle.dvi_run.specs.Reading.{IsRead}
 use Rattle.dvi_run.specs.Pages.{AreValues, Setup}
 use Rattle.dvi_run.specs.Endings.{EndingValue, Written, Usage, Document, Page, Source, Input, Output, Notes, Memory, EndsBytes, EndsPages, IsEnding, HoldsOfDocument, Stopped, Wrote, WroteBefore, WrotePrefix, WroteSome}
-use Rattle.dvi_run.proofs.InputRead.{all_read, of_read}
+use Rattle.dvi_run.proofs.InputRead.{of_read}
 
 module _ (old new : Option (List ℕ)) (OutputFailed SourceFailed OutputKept : Type 0) (g : Setup) where
   -- the pages of a document were written, or some of them
@@ -24,17 +24,17 @@ module _ (old new : Option (List ℕ)) (OutputFailed SourceFailed OutputKept : T
 
   -- the bytes were read before
   pub bytes_end : (InputFailed : Type 0) (left rest : Option (List ℕ)) (bytes : List ℕ) → IsRead left rest bytes
-      → (e : EndingValue) → EndsBytes old new OutputFailed SourceFailed OutputKept g bytes e → IsEnding old new OutputFailed SourceFailed OutputKept InputFailed g left rest e
-  bytes_end I left rest bytes read Written h = (all_read left rest bytes read, of_read (λ bytes. HoldsOfDocument g bytes (Wrote old new)) left rest bytes read h)
+      → (e : EndingValue) → EndsBytes old new OutputFailed SourceFailed OutputKept g bytes e → IsEnding old new OutputFailed SourceFailed OutputKept InputFailed g left e
+  bytes_end I left rest bytes read Written h = of_read (λ bytes. HoldsOfDocument g bytes (Wrote old new)) left rest bytes read h
   bytes_end I left rest bytes read (Document fault) h =
-      (all_read left rest bytes read, of_read (λ bytes. IsFirstFault g.res bytes fault) left rest bytes read h.0, h.1)
+      (of_read (λ bytes. IsFirstFault g.res bytes fault) left rest bytes read h.0, h.1)
   bytes_end I left rest bytes read (Page page) h =
-      (all_read left rest bytes read, of_read (λ bytes. HoldsOfDocument g bytes (λ _. Stopped old new page)) left rest bytes read h)
+      of_read (λ bytes. HoldsOfDocument g bytes (λ _. Stopped old new page)) left rest bytes read h
   bytes_end I left rest bytes read (Source page) h =
-      (all_read left rest bytes read, of_read (λ bytes. HoldsOfDocument g bytes (WroteBefore old new page)) left rest bytes read h.0, h.1)
+      (of_read (λ bytes. HoldsOfDocument g bytes (WroteBefore old new page)) left rest bytes read h.0, h.1)
   bytes_end I left rest bytes read (Output page) h =
-      (all_read left rest bytes read, of_read (λ bytes. HoldsOfDocument g bytes (λ _. WrotePrefix old new page)) left rest bytes read h.0, h.1)
-  bytes_end I left rest bytes read Notes h = (all_read left rest bytes read, of_read (λ bytes. HoldsOfDocument g bytes (Wrote old new)) left rest bytes read h)
+      (of_read (λ bytes. HoldsOfDocument g bytes (λ _. WrotePrefix old new page)) left rest bytes read h.0, h.1)
+  bytes_end I left rest bytes read Notes h = of_read (λ bytes. HoldsOfDocument g bytes (Wrote old new)) left rest bytes read h
   bytes_end I left rest bytes read Memory (inl same) = inl same
   bytes_end I left rest bytes read Memory (inr h) = inr (of_read (λ bytes. HoldsOfDocument g bytes (λ _. WroteSome old new)) left rest bytes read h)
   bytes_end I left rest bytes read Usage h = absurd h

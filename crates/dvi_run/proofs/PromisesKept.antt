@@ -6,7 +6,7 @@ use Rattle.dvi_run.specs.Laws.{OneReading, OneRun, RunsHaveNoFault}
 use Rattle.page_workers.specs.declared.worker.Worker.{Worker}
 use Rattle.dvi_run.specs.Sampled.{UsesTheSample}
 use Rattle.dvi_run.specs.Outside.{FaultsRose, Run, StreamChange, setup_of}
-use Rattle.dvi_run.specs.Promises.{FailingPageIsNamed, FaultIsNamed, GoodRunIsWhole, GoodRunIsWritten, HasFailingPage, InputFailed, StatusIsTrue, IsCutShort, IsNoted, IsWritten, SourceFailed, StoppedAt, document_of, rest_of}
+use Rattle.dvi_run.specs.Promises.{FailingPageIsNamed, FaultIsNamed, GoodRunIsWhole, GoodRunIsWritten, HasFailingPage, InputFailed, StatusIsTrue, IsCutShort, IsNoted, IsWritten, SourceFailed, StoppedAt, document_of}
 use Rattle.dvi_run.proofs.Lacking.{untolerated}
 use Rattle.dvi_run.proofs.Clauses as end
 use Rattle.dvi_run.proofs.Clauses.{of_all, of_each}
@@ -17,11 +17,8 @@ module _ {F : Type 0} (run : Run F) where
   abbrev g : Setup
   g = setup_of run.task
 
-  abbrev left : Option (List ℕ)
-  left = document_of run
-
-  abbrev rest : Option (List ℕ)
-  rest = rest_of run
+  abbrev known : Option (List ℕ)
+  known = document_of run
 
   abbrev output : StreamChange
   output = run.streams.output
@@ -46,45 +43,42 @@ module _ {F : Type 0} (run : Run F) where
 
   -- how the run ended
   abbrev pub RunEnds : EndingValue → Type 0
-  RunEnds e = IsEnding run.streams.output.before.bytes run.streams.output.after.bytes (FaultsRose run.streams.output) (SourceFailed run) run.streams.output.Kept (InputFailed run) (setup_of run.task) (document_of run) (rest_of run) e
+  RunEnds e = IsEnding run.streams.output.before.bytes run.streams.output.after.bytes (FaultsRose run.streams.output) (SourceFailed run) run.streams.output.Kept (InputFailed run) (setup_of run.task) (document_of run) e
 
   nothing_by : (e : EndingValue) → RunEnds e → IsAmong (status_of e) (2 ∷ 6 ∷ []) → K
-  nothing_by e h (inl two) = (end.document_for_sample old new O S K I g left rest e two h).1
-  nothing_by e h (inr (inl six)) = (end.input_by old new O S K I g left rest e six h).1
+  nothing_by e h (inl two) = (end.document_for_sample old new O S K I g known e two h).1
+  nothing_by e h (inr (inl six)) = (end.input_by old new O S K I g known e six h).1
   nothing_by e h (inr (inr none)) = absurd none
 
   failing : (status : ℕ) (bytes : List ℕ) → StoppedAt g status output bytes → HasFailingPage g status bytes
   failing status bytes at = (at.0, at.1, untolerated g at.2.0 at.2.1 at.0 at.2.2.pages.are at.2.3.fails, (at.2.0, at.2.1, at.2.2, at.2.3.fails))
 
   written_by : (e : EndingValue) → RunEnds e → IsWritten run (status_of e)
-  written_by e h = record {
-    whole = λ is. end.written_by old new O S K I g left rest e is h;
-    read = λ is. end.read_by old new O S K I g left rest e is h;
-  }
+  written_by e h = record { whole = λ is. end.written_by old new O S K I g known e is h }
 
   cut_short_by : (e : EndingValue) → RunEnds e → IsCutShort run (status_of e)
   cut_short_by e h = record {
     nothing = nothing_by e h;
-    stopped = λ is. end.page_by old new O S K I g left rest e is h;
-    before = λ is. (end.source_by old new O S K I g left rest e is h).0;
-    prefix = λ is. (end.output_by old new O S K I g left rest e is h).0;
-    memory = λ is. end.memory_by old new O S K I g left rest e is h;
+    stopped = λ is. end.page_by old new O S K I g known e is h;
+    before = λ is. (end.source_by old new O S K I g known e is h).0;
+    prefix = λ is. (end.output_by old new O S K I g known e is h).0;
+    memory = λ is. end.memory_by old new O S K I g known e is h;
   }
 
   module _ (reading : OneReading) (one_run : OneRun) (no_fault : RunsHaveNoFault) where
     caused_by : (e : EndingValue) → (status_of e ≡ 8 → FaultsRose run.streams.notes) → RunEnds e → StatusIsTrue run (status_of e)
     caused_by e failed h = record {
-      answers = end.has_status old new O S K I g left rest e h;
-      document = λ is. (end.document_for_sample old new O S K I g left rest e is h).0;
-      refused = end.refused_by old new O S K I g left rest reading one_run no_fault e h;
-      page = λ is. of_each (StoppedAt g (status_of e) output) (HasFailingPage g (status_of e)) left (failing (status_of e)) (end.page_by old new O S K I g left rest e is h);
-      stopped = λ files known. end.stopped_by old new O S K I g left rest reading one_run no_fault files known e h;
-      source = λ is. (end.source_by old new O S K I g left rest e is h).1;
-      input = λ is. (end.input_by old new O S K I g left rest e is h).0;
-      output = λ is. (end.output_by old new O S K I g left rest e is h).1;
+      answers = end.has_status old new O S K I g known e h;
+      document = λ is. (end.document_for_sample old new O S K I g known e is h).0;
+      refused = end.refused_by old new O S K I g known reading one_run no_fault e h;
+      page = λ is. of_each (StoppedAt g (status_of e) output) (HasFailingPage g (status_of e)) known (failing (status_of e)) (end.page_by old new O S K I g known e is h);
+      stopped = λ files library. end.stopped_by old new O S K I g known reading one_run no_fault files library e h;
+      source = λ is. (end.source_by old new O S K I g known e is h).1;
+      input = λ is. (end.input_by old new O S K I g known e is h).0;
+      output = λ is. (end.output_by old new O S K I g known e is h).1;
       notes = failed;
-      whole = λ files known i s o. end.whole_by old new O S K I g left rest reading one_run no_fault files known i s o e h;
-      complete = λ files known i s o n. end.complete_by old new O S K I g left rest reading one_run no_fault files known i s o e (λ eight. n (failed eight)) h;
+      whole = λ files library i s o. end.whole_by old new O S K I g known reading one_run no_fault files library i s o e h;
+      complete = λ files library i s o n. end.complete_by old new O S K I g known reading one_run no_fault files library i s o e (λ eight. n (failed eight)) h;
     }
 
     pub caused_at : (e : EndingValue) → (status_of e ≡ 8 → FaultsRose run.streams.notes) → RunEnds e → (status : ℕ) → status ≡ status_of e → StatusIsTrue run status
@@ -98,7 +92,7 @@ module _ {F : Type 0} (run : Run F) where
 
   pub noted_at : (e : EndingValue) → RunEnds e → (report : List ℕ)
       → PrintsBy e run.streams.notes.before.bytes run.streams.notes.after.bytes run.streams.notes.before.faults run.streams.notes.after.faults report → IsNoted run e report
-  noted_at e h report prints = record { placed = end.placed_by old new O S K I g left rest e h; printed = prints }
+  noted_at e h report prints = record { placed = end.placed_by old new O S K I g known e h; printed = prints }
 
 -- ---- a run that ends with 9 before anything was read
 
@@ -112,23 +106,13 @@ not_page (inl is) = cc
 not_page (inr (inl is)) = cc
 not_page (inr (inr none)) = none
 
-not_read : IsAmong 9 (0 ∷ 2 ∷ 3 ∷ 4 ∷ 5 ∷ 7 ∷ 8 ∷ []) → ⊥
-not_read (inl is) = cc
-not_read (inr (inl is)) = cc
-not_read (inr (inr (inl is))) = cc
-not_read (inr (inr (inr (inl is)))) = cc
-not_read (inr (inr (inr (inr (inl is))))) = cc
-not_read (inr (inr (inr (inr (inr (inl is)))))) = cc
-not_read (inr (inr (inr (inr (inr (inr (inl is))))))) = cc
-not_read (inr (inr (inr (inr (inr (inr (inr none))))))) = none
-
 not_all : WroteAll 9 → ⊥
 not_all (inl is) = cc
 not_all (inr is) = cc
 
 module _ {F : Type 0} (run : Run F) where
   pub idle_wrote : IsWritten run 9
-  idle_wrote = record { whole = λ is. absurd (not_all is); read = λ is. absurd (not_read is) }
+  idle_wrote = record { whole = λ is. absurd (not_all is) }
 
   pub idle_cut_short : run.streams.output.Kept → IsCutShort run 9
   idle_cut_short kept = record {

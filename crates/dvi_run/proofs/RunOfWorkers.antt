@@ -23,7 +23,7 @@ use Rattle.dvi_run.specs.Outside.{Drawing, FaultsRose, Run, Sources, StreamChang
 use Rattle.dvi_run.specs.Promises.{ReportMatchesRun, IsNoted, document_of}
 use Rattle.dvi_run.specs.Noted.{AreLacking, LackNothing, NotedLacks, WrotePages, is_noted, whole_count}
 use Rattle.dvi_run.specs.Report.{loads_of, notes_text}
-use Rattle.dvi_run.specs.Reading.{HoldsOfInput}
+use Rattle.dvi_run.specs.Reading.{HoldsOfInput, WasRead}
 use Rattle.dvi_run.specs.Endings.{EndingValue, Written, Usage, Document, Page, Source, Input, Output, Notes, Memory, EndsPages, status_of}
 use Rattle.dvi_run.specs.Looked.{EveryPageCameToItsEnd, IsIdle, MayBreakOff, WasNotCutOffBy}
 use Rattle.dvi_run.specs.Tally.{CountsTo, HadCache, TallyMatchesRun}
@@ -36,7 +36,7 @@ use Rattle.dvi_run.proofs.Clauses.{ends_late}
 use Rattle.dvi_run.proofs.StatusOfEnd.{is_written, not_cut_off_by, to_its_end_by}
 use Rattle.page_workers.specs.Seating.{IsUnused}
 use Rattle.dvi_run.proofs.Shares.{none_shared, shared_as}
-use Rattle.dvi_run.specs.Together.{Answered, run_end, WorkersAreDone, DrewDocument, PagesMatchHistory, EachUsed, GaveUpOnlyBroken, IsOneHistory, IsReadyWorker, RestIsKept, SomeUsed, SourceRose, WorkerDone}
+use Rattle.dvi_run.specs.Together.{Answered, run_end, WorkersAreDone, DrewDocument, PagesMatchHistory, EachUsed, GaveUpOnlyBroken, IsOneHistory, IsReadyWorker, IsUnread, RestIsKept, SomeUsed, SourceRose, WorkerDone}
 
 -- ---- whose source failed
 
@@ -251,11 +251,12 @@ module _ {F : Type 0} (known : Option FileTable) (settings : Settings) (reading 
 
 -- the end of a run
 pub ended_at : {F : Type 0} (run : Run F) (e : EndingValue) (tally : Option Tally) (whole : List DrawnValue) → length whole ≡ whole_count tally → AreLacking run.task.settings.sheet.tolerant whole
+    → (run.task.settings.sample ≡ None → WasRead run.streams.input (IsUnread (drawing_of run) (status_of e) tally))
     → IsNoted run e (notes_text whole run.task.settings tally (loads_of run.task.settings.workers run.after) run.history e) → WorkersAreDone run.task (drawing_of run) e tally
     → HoldsOfInput (document_of run) (PagesMatchHistory run.task (drawing_of run) (status_of e) e tally whole) → (status : ℕ) → status ≡ status_of e → ReportMatchesRun run status e tally
-ended_at run e tally whole count lacking noted done drew status is =
+ended_at run e tally whole count lacking read noted done drew status is =
     subst (λ (m : ℕ). ReportMatchesRun run m e tally) (sym is)
-    (record { whole = whole; count = count; lacking = lacking; noted = noted; counted = done.counts; failed = done.failed; gave_up = done.gave_up; drew = drew })
+    (record { read = read; whole = whole; count = count; lacking = lacking; noted = noted; counted = done.counts; failed = done.failed; gave_up = done.gave_up; drew = drew })
 
 -- a worker as it was made is ready for a run that knows no library
 pub ready_unknown : {F : Type 0} (library : F → Option FileTable) (w : Worker F) → IsUnused w → IsReadyWorker library None w

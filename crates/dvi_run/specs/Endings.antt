@@ -10,7 +10,7 @@ use Rattle.page_index.specs.declared.faults.DocFault.{DocFault}
 use Rattle.vf_expand.specs.Faults.{PageFaultValue, Font, value_of_fault}
 use Rattle.page_draw.specs.Values.{DrawnValue, PageValue, fault_at}
 use Rattle.page_draw.specs.declared.stop.PageStop.TheVariants as draw
-use Rattle.dvi_run.specs.Reading.{IsAllRead, HoldsOfInput}
+use Rattle.dvi_run.specs.Reading.{HoldsOfInput}
 use Rattle.dvi_run.specs.Pages.{FailingPage, Setup, IsRun, run_fault, run_text, text_of, whole_pages}
 use Rattle.dvi_run.specs.declared.ending.Ending.{Ending}
 use Rattle.dvi_run.specs.declared.ending.Ending.TheVariants as code
@@ -215,26 +215,24 @@ module _ (old new : Option (List ℕ)) (OutputFailed SourceFailed : Type 0) wher
       OutputKept ⊎ HoldsOfDocument g bytes (λ _. WroteSome old new)
   EndsBytes OutputKept g bytes _ = ⊥
 
-  -- what holds of a run that ends so; `left` and `rest` are what the input has left before and
-  -- after
+  -- what holds of a run over these bytes, where they are known, that ends so
   abbrev pub IsEnding : (OutputKept InputFailed : Type 0) → Setup → Option (List ℕ)
-      → Option (List ℕ) → EndingValue → Type 0
-  IsEnding OutputKept InputFailed g left rest Written =
-      IsAllRead left rest × HoldsOfInput left (λ bytes. HoldsOfDocument g bytes (Wrote old new))
-  IsEnding OutputKept InputFailed g left rest Usage = ⊥
-  IsEnding OutputKept InputFailed g left rest (Document fault) =
-      IsAllRead left rest × HoldsOfInput left (λ bytes. IsFirstFault g.res bytes fault) × OutputKept
-  IsEnding OutputKept InputFailed g left rest (Page page) =
-      IsAllRead left rest × HoldsOfInput left (λ bytes. HoldsOfDocument g bytes
-      (λ _. Stopped old new page))
-  IsEnding OutputKept InputFailed g left rest (Source page) =
-      IsAllRead left rest × HoldsOfInput left (λ bytes. HoldsOfDocument g bytes
-      (WroteBefore old new page)) × SourceFailed
-  IsEnding OutputKept InputFailed g left rest Input = InputFailed × OutputKept
-  IsEnding OutputKept InputFailed g left rest (Output page) =
-      IsAllRead left rest × HoldsOfInput left (λ bytes. HoldsOfDocument g bytes
-      (λ _. WrotePrefix old new page)) × OutputFailed
-  IsEnding OutputKept InputFailed g left rest Notes =
-      IsAllRead left rest × HoldsOfInput left (λ bytes. HoldsOfDocument g bytes (Wrote old new))
-  IsEnding OutputKept InputFailed g left rest Memory =
-      OutputKept ⊎ HoldsOfInput left (λ bytes. HoldsOfDocument g bytes (λ _. WroteSome old new))
+      → EndingValue → Type 0
+  IsEnding OutputKept InputFailed g known Written =
+      HoldsOfInput known (λ bytes. HoldsOfDocument g bytes (Wrote old new))
+  IsEnding OutputKept InputFailed g known Usage = ⊥
+  IsEnding OutputKept InputFailed g known (Document fault) =
+      HoldsOfInput known (λ bytes. IsFirstFault g.res bytes fault) × OutputKept
+  IsEnding OutputKept InputFailed g known (Page page) =
+      HoldsOfInput known (λ bytes. HoldsOfDocument g bytes (λ _. Stopped old new page))
+  IsEnding OutputKept InputFailed g known (Source page) =
+      HoldsOfInput known (λ bytes. HoldsOfDocument g bytes (WroteBefore old new page))
+      × SourceFailed
+  IsEnding OutputKept InputFailed g known Input = InputFailed × OutputKept
+  IsEnding OutputKept InputFailed g known (Output page) =
+      HoldsOfInput known (λ bytes. HoldsOfDocument g bytes (λ _. WrotePrefix old new page))
+      × OutputFailed
+  IsEnding OutputKept InputFailed g known Notes =
+      HoldsOfInput known (λ bytes. HoldsOfDocument g bytes (Wrote old new))
+  IsEnding OutputKept InputFailed g known Memory =
+      OutputKept ⊎ HoldsOfInput known (λ bytes. HoldsOfDocument g bytes (λ _. WroteSome old new))

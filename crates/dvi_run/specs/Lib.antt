@@ -22,5 +22,6 @@ pub mod Together
 pub mod Jobs
 pub mod OneWorker
 pub mod Promises
+pub mod KnownInputs
 pub mod Examples
 pub mod CacheLimits

@@ -5,6 +5,7 @@ use Rattle.outside.specs.Library.{FileTable}
 use Rattle.cache_core.specs.declared.calls.Call.{Call}
 use Rattle.page_workers.specs.declared.worker.Worker.{Worker}
 use Rattle.command_line.specs.declared.settings.Settings.{Settings}
+use Rattle.dvi_run.specs.Reading.{InputChange}
 use Rattle.dvi_run.specs.Pages.{Setup}
 use Rattle.dvi_run.specs.Sampled.{setup_for_settings}
 
@@ -26,13 +27,12 @@ task_for_sample sample known settings =
 
 -- ---- streams
 
--- a stream at one time: the bytes that an input has left or an output has taken, where they are
--- told, and how often it failed
+-- an output at one time: the bytes that it has taken, where they are known, and how often it failed
 pub record Stream : Type 0 where
   pub bytes : Option (List ℕ)
   pub faults : ℕ
 
--- a stream before a run and after it
+-- an output before a run and after it
 pub record StreamChange : Type 1 where
   pub before : Stream
   pub after : Stream
@@ -54,7 +54,7 @@ FaultsRose stream = Rose stream.before.faults stream.after.faults
 
 -- those of a run
 pub record Streams : Type 1 where
-  pub input : StreamChange
+  pub input : InputChange
   pub output : StreamChange
   pub notes : StreamChange
 

@@ -1,6 +1,7 @@
 -- What holds of a run: why it ended as its status says, what it wrote and noted, and what was
 -- drawn.
 use Rattle.std.specs.Prelude.{◌≡◌, ◌⊎◌, ◌≤◌, ◌+◌, ℕ, List, [], ◌∷◌, length, Option, Some, None, IfSome}
+use Rattle.outside.specs.Counts.{Rose}
 use Rattle.outside.specs.Library.{FileTable}
 use Rattle.cache_core.specs.Histories.{own}
 use Rattle.page_index.specs.Document.{Reading}
@@ -8,7 +9,7 @@ use Rattle.page_index.specs.Faults.{IsFirstFault}
 use Rattle.page_index.specs.declared.faults.DocFault.{DocFault}
 use Rattle.page_draw.specs.Values.{DrawnValue, PageValue}
 use Rattle.command_line.specs.declared.settings.Settings.{Settings}
-use Rattle.dvi_run.specs.Reading.{IsAllRead, HoldsOfInput}
+use Rattle.dvi_run.specs.Reading.{HoldsOfInput, WasRead}
 use Rattle.dvi_run.specs.Pages.{FailingPage, Setup, IsRun, IsUntolerated, IsWholeRun, run_fault}
 use Rattle.dvi_run.specs.Lines.{line_of}
 use Rattle.dvi_run.specs.Noted.{AreLacking, whole_count}
@@ -17,9 +18,9 @@ use Rattle.dvi_run.specs.Tally.{CountsTo}
 use Rattle.dvi_run.specs.Endings.{EndingValue, Source, IsAmong, IsPlaced, HoldsOfDocument, Stopped, Prints, PrintsBy, Wrote, WroteAll, WroteBefore, WrotePrefix, WroteSome, page_status, status_of, statuses}
 use Rattle.dvi_run.specs.Rounds.{FailedAt}
 use Rattle.dvi_run.specs.Shares.{PartitionPages}
-use Rattle.dvi_run.specs.Sampled.{FailedForSettings, UsesTheSample, document_for_settings, rest_for_settings}
+use Rattle.dvi_run.specs.Sampled.{FailedForSettings, UsesTheSample, document_for_settings}
 use Rattle.dvi_run.specs.Outside.{FaultsRose, Run, StreamChange, Streams, drawing_of, setup_of}
-use Rattle.dvi_run.specs.Together.{PagesMatchHistory, EachUsed, GaveUpOnlyBroken, IsOneHistory, RestIsKept, SomeUsed, SourceRose, WorkerDone}
+use Rattle.dvi_run.specs.Together.{PagesMatchHistory, EachUsed, GaveUpOnlyBroken, IsOneHistory, IsUnread, RestIsKept, SomeUsed, SourceRose, WorkerDone}
 use Rattle.dvi_run.specs.declared.tally.Tally.{Tally}
 
 -- ---- parts of the claims: what holds of the bytes that were read
@@ -81,15 +82,12 @@ StoppedIn g output bytes =
 
 -- the bytes of its document, where they are known
 abbrev pub document_of : {F : Type 0} → Run F → Option (List ℕ)
-document_of run = document_for_settings run.task.settings run.streams.input.before.bytes
-
--- and what is left of them afterwards
-abbrev pub rest_of : {F : Type 0} → Run F → Option (List ℕ)
-rest_of run = rest_for_settings run.task.settings run.streams.input.after.bytes
+document_of run = document_for_settings run.task.settings run.streams.input.bytes
 
 -- the input failed, if it is used
 abbrev pub InputFailed : {F : Type 0} → Run F → Type 0
-InputFailed run = FailedForSettings run.task.settings (FaultsRose run.streams.input)
+InputFailed run = FailedForSettings run.task.settings
+    (Rose run.streams.input.before.faults run.streams.input.after.faults)
 
 -- the source of a used worker failed, if any is used
 abbrev pub SourceFailed : {F : Type 0} → Run F → Type 0
@@ -130,16 +128,12 @@ pub record StatusIsTrue {F : Type 0} (run : Run F) (status : ℕ) : Type 0 where
       → ¬ FaultsRose run.streams.notes
       → HoldsOfInput (document_of run) (GoodRunIsWhole (setup_of run.task) status)
 
--- What was read, and written where the run ended well.
+-- What was written where the run ended well.
 pub record IsWritten {F : Type 0} (run : Run F) (status : ℕ) : Type 0 where
   -- 0 and 8: exactly the texts of all pages, which have a bitmap
   pub whole : WroteAll status → HoldsOfInput (document_of run)
       (λ bytes. HoldsOfDocument (setup_of run.task) bytes (Wrote run.streams.output.before.bytes
       run.streams.output.after.bytes))
-  -- 0, 2 to 5, 7 and 8: the input was read to its end, or to the limit of a document and one byte
-  -- more
-  pub read : IsAmong status (0 ∷ 2 ∷ 3 ∷ 4 ∷ 5 ∷ 7 ∷ 8 ∷ [])
-      → IsAllRead (document_of run) (rest_of run)
 
 -- What was written where the run was refused, by the status.
 pub record IsCutShort {F : Type 0} (run : Run F) (status : ℕ) : Type 0 where
@@ -170,10 +164,15 @@ pub record IsNoted {F : Type 0} (run : Run F) (e : EndingValue) (text : List ℕ
   pub printed : PrintsBy e run.streams.notes.before.bytes run.streams.notes.after.bytes
       run.streams.notes.before.faults run.streams.notes.after.faults text
 
--- The end of a run over the workers that its settings name: what it noted, whose source failed,
--- what was written whole, and what was drawn.
+-- The end of a run over the workers that its settings name: what it read and noted, whose source
+-- failed, what was written whole, and what was drawn.
 pub record ReportMatchesRun {F : Type 0} (run : Run F) (status : ℕ) (e : EndingValue)
     (tally : Option Tally) : Type 0 where
+  -- unless the document is the sample: reads gave all that the input had left, where that is known,
+  -- and one of them saw the end, or they gave one byte more than a document may have; else the
+  -- status is 6 or 9, and nothing was written or drawn
+  pub read : run.task.settings.sample ≡ None
+      → WasRead run.streams.input (IsUnread (drawing_of run) status tally)
   -- the pages that were written whole, as many as the tally counts; they lack nothing, unless the
   -- sheet is tolerant
   pub whole : List DrawnValue
@@ -217,8 +216,9 @@ pub record KeepsPromises {F : Type 0} (run : Run F) (status : ℕ) : Type 0 wher
   pub caused : StatusIsTrue run status
   -- the bytes written where it ended well
   pub written : IsWritten run status
-  -- the text in the notes, what was written whole, the worker whose source failed, and the pages
-  -- drawn, with what each look-up found and the calls that it made, of one and the same end
+  -- what was read, the text in the notes, what was written whole, the worker whose source failed,
+  -- and the pages drawn, with what each look-up found and the calls that it made, of one and the
+  -- same end
   pub ended : (ending : EndingValue) × (tally : Option Tally) × (status ≡ status_of ending)
       × ReportMatchesRun run status ending tally
   -- the history, one legal list

@@ -20,13 +20,8 @@ library_for_sample packed (Some pages) known = Some (made_files packed)
 
 -- the bytes of the document, where they are known
 abbrev pub document_for_sample : Option ℕ → Option (List ℕ) → Option (List ℕ)
-document_for_sample None left = left
-document_for_sample (Some pages) left = Some (sample_document pages)
-
--- and what is left of them after the run: of the sample nothing
-abbrev pub rest_for_sample : Option ℕ → Option (List ℕ) → Option (List ℕ)
-rest_for_sample None rest = rest
-rest_for_sample (Some pages) rest = Some []
+document_for_sample None known = known
+document_for_sample (Some pages) known = Some (sample_document pages)
 
 -- the input or a source failed, of which a run of the sample uses none
 abbrev pub FailedForSample : Option ℕ → Type 0 → Type 0
@@ -44,11 +39,8 @@ LoadedForSample (Some pages) most before now count count_now = RoseUpTo most cou
 abbrev pub setup_for_settings : (known : Option FileTable) → Settings → Setup
 setup_for_settings known s = setup_with (library_for_sample s.packed s.sample known) s
 
-abbrev pub document_for_settings : Settings → (left : Option (List ℕ)) → Option (List ℕ)
-document_for_settings s left = document_for_sample s.sample left
-
-abbrev pub rest_for_settings : Settings → (rest : Option (List ℕ)) → Option (List ℕ)
-rest_for_settings s rest = rest_for_sample s.sample rest
+abbrev pub document_for_settings : Settings → (known : Option (List ℕ)) → Option (List ℕ)
+document_for_settings s known = document_for_sample s.sample known
 
 abbrev pub FailedForSettings : Settings → Type 0 → Type 0
 FailedForSettings s Failed = FailedForSample s.sample Failed

@@ -187,6 +187,15 @@ PagesMatchHistory task drawing status e tally whole bytes =
 
 -- ---- the parts of a run
 
+-- the input failed or memory ran out before all of it was read, and then nothing was done
+pub record IsUnread {F : Type 0} (drawing : Drawing F) (status : ℕ) (tally : Option Tally)
+    : Type 0 where
+  pub answers : IsAmong status (6 ∷ 9 ∷ [])
+  pub output : drawing.output.Kept
+  pub workers : drawing.after ≡ drawing.before
+  pub history : drawing.history ≡ []
+  pub no_tally : tally ≡ None
+
 -- the pages of a document were drawn by the workers that the settings name, what they lack was
 -- noted, and it ended so
 pub record DrewDocument {F : Type 0} (task : Task) (reading : Reading) (drawing : Drawing F)

@@ -1,9 +1,12 @@
 //! Laws over the definitions, each a clause of a function without a body.
 ghost use Rattle.dvi_run.specs.Examples.{DocumentLines, GoodEndsAreSilent, PageLines, ShortLines};
 ghost use Rattle.dvi_run.specs.OneWorker.{OneWorkerHasOneHistory, RunsOfOneWorkerAreAlike};
+ghost use Rattle.dvi_run.specs.KnownInputs.{RunsHoldOfKnownInputs};
+ghost use Rattle.dvi_run.specs.Outside.{change_of};
+ghost use Rattle.dvi_run.specs.Reading.{input_change};
 ghost use Rattle.dvi_run.specs.Laws.{EachDocumentHasOneRun, EachPageHasItsEop, FaultsEndTheRun, GoodRunsWriteAlike, OneReading, OneRun, PagesAreShared, RunsEndAtTheFirstFault, RunsHavePrefixes, RunsHaveNoFault, RunsOfGoodPages, SamplesAreReadWhole, StoppedRunsWriteAlike};
 
-use outside::FontSource;
+use outside::{FontSource, Input, Output};
 use page_index::laws::documents;
 
 /// A run writes the pages before the first that fails, and no page after it matters.
@@ -43,6 +46,15 @@ pub fn one_worker<F: FontSource, G: FontSource>()
     page_draw::laws::values();
     font_decode::laws::weights();
 }
+
+/// Where the bytes that an input has left are known, what `run_with` promises of the bytes that
+/// reads gave holds of these, and they were read.
+pub fn known_inputs<I: Input, F: FontSource, O: Output, N: Output>()
+    ensures { RunsHoldOfKnownInputs
+        (record { library = F.library; faults = F.faults; loads = F.loads })
+        (input_change I.left I.taken I.ended I.faults) (change_of O.written O.faults)
+        (change_of N.written N.faults) }
+{}
 
 /// Over known font files each document has exactly one list of the values of its pages, so that
 /// each run of it is that of the first of them.

@@ -1,8 +1,9 @@
 //! Reads an input.
-ghost use Rattle.std.specs.Prelude.{◌≡◌, ◌+◌, ◌<◌, ◌≤◌, IfOk, IsErr, IsErrOf, OnOk, drop, length, take};
+ghost use Rattle.std.specs.Prelude.{◌≡◌, ◌+◌, ◌++◌, ◌<◌, ◌≤◌, IfOk, IsErr, IsErrOf, OnOk, drop, length, take};
 ghost use Rattle.std.specs.Io.KnownBytes.{Consumes, IsAtEnd, ReadConsumes};
 ghost use Rattle.outside.specs.Counts.{HasCause};
-ghost use Rattle.dvi_run.specs.Reading.{IsRead, MAX_READ};
+ghost use Rattle.outside.specs.Streams.{Takes};
+ghost use Rattle.dvi_run.specs.Reading.{ReadsGave, MAX_READ, input_change};
 ghost use Rattle.dvi_run.specs.declared.reading.ReadStop.TheVariants.{Failed as HasFailed, NoMemory};
 
 use outside::{Failed, Input};
@@ -43,6 +44,8 @@ fn read_after<I: Input>(input: &mut I, bytes: &mut [u8], len: usize) -> Result<u
     ensures kept { take len bytes.new ≡ take len bytes.old }
     ensures bound { IfOk result (λ n. len + n ≤ length bytes.new) }
     ensures bytes { ReadConsumes (I.left input.old) (I.left input.new) result (drop len bytes.new) }
+    ensures taken { Takes (I.taken input.old) (I.taken input.new) (I.ended input.new) result
+        (drop len bytes.new) }
     ensures cause { HasCause (I.faults input.old) (I.faults input.new) (IsErr result) }
 {
     input.read(&mut bytes[len..])
@@ -73,6 +76,9 @@ fn read_more<I: Input>(input: &mut I, bytes: &mut Vec<u8>, len: usize) -> Result
     ensures bound { IfOk result (λ n. len + n ≤ length bytes.new.items) }
     ensures bytes { IfOk result (λ n. Consumes (I.left input.old) (I.left input.new)
         (take n (drop len bytes.new.items)) × (n ≡ 0 → IsAtEnd (I.left input.new))) }
+    ensures taken { IfOk result (λ n.
+        (I.taken input.new ≡ I.taken input.old ++ take n (drop len bytes.new.items))
+        × (n ≡ 0 → I.ended input.new)) }
     ensures cause { HasCause (I.faults input.old) (I.faults input.new)
         (IsErrOf result ReadStop.Failed) }
 {
@@ -82,8 +88,8 @@ fn read_more<I: Input>(input: &mut I, bytes: &mut Vec<u8>, len: usize) -> Result
 
 /// Reads to the end, or until there are more bytes than a document may have.
 pub fn read_all<I: Input>(alloc: Global, input: &mut I) -> Result<Vec<u8>, ReadStop>
-    ensures bytes { IfOk result (λ bytes.
-        IsRead (I.left input.old) (I.left input.new) bytes.items) }
+    ensures bytes { IfOk result (λ bytes. ReadsGave
+        (input_change I.left I.taken I.ended I.faults input.old input.new) bytes.items) }
     ensures cause { HasCause (I.faults input.old) (I.faults input.new)
         (IsErrOf result ReadStop.Failed) }
 {

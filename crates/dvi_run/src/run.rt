@@ -4,6 +4,7 @@ ghost use Rattle.outside.specs.Library.{FileTable};
 ghost use Rattle.cache_core.specs.Views.{calls_of};
 ghost use Rattle.command_line.specs.Line.{settings_of};
 ghost use Rattle.command_line.specs.Settings.{AreSettings};
+ghost use Rattle.dvi_run.specs.Reading.{input_change};
 ghost use Rattle.dvi_run.specs.Outside.{change_of};
 ghost use Rattle.dvi_run.specs.Together.{IsReadyWorker};
 ghost use Rattle.dvi_run.specs.Promises.{ForSettings, KeepsPromises, NoCountFalls, WasRefused};
@@ -74,9 +75,11 @@ use std::thread::Threads;
 /// call. All else is as above, except that the run never ends with 2, 5 or 6.
 ///
 /// Knuth, DVItype, "Device-independent file format" and "Translation to symbolic form"; Netpbm, the
-/// raw form of PBM. Clauses on bytes hold where the contents of the input, the output or the notes
-/// are known, and what they say of fonts holds for the files `told`, where the source of each used
-/// worker is known to have these. The sample and its files are always known.
+/// raw form of PBM. What is said of the document is said of the bytes that reads of `input` gave,
+/// and they are those that it had left, where these are known. Clauses on what was written hold
+/// where the contents of the output or the notes are known, and what they say of fonts holds for
+/// the files `told`, where the source of each used worker is known to have these. The sample and
+/// its files are always known.
 pub fn run_with<R: Threads + Wait + Sync, I: Input, F: FontSource + Send, O: Output, N: Output>(
     rt: &R,
     alloc: Global,
@@ -99,7 +102,7 @@ pub fn run_with<R: Threads + Wait + Sync, I: Input, F: FontSource + Send, O: Out
     ensures promises { KeepsPromises (record {
       task = record { settings = settings.now; known = told };
       streams = record {
-        input = change_of I.left I.faults input.old input.new;
+        input = input_change I.left I.taken I.ended I.faults input.old input.new;
         output = change_of O.written O.faults out.old out.new;
         notes = change_of N.written N.faults notes.old notes.new;
       };
@@ -111,7 +114,7 @@ pub fn run_with<R: Threads + Wait + Sync, I: Input, F: FontSource + Send, O: Out
 
     // No count of faults falls.
     ensures counts { NoCountFalls (record {
-      input = change_of I.left I.faults input.old input.new;
+      input = input_change I.left I.taken I.ended I.faults input.old input.new;
       output = change_of O.written O.faults out.old out.new;
       notes = change_of N.written N.faults notes.old notes.new;
     }) }
@@ -162,7 +165,7 @@ pub fn dvipbm_run<R: Threads + Wait + Sync, I: Input, F: FontSource + Send, O: O
         → settings_of (length workers.old) (map string_bytes words.now) ≡ None }
     ensures refused { settings_of (length workers.old) (map string_bytes words.now) ≡ None
         → WasRefused (record {
-          input = change_of I.left I.faults input.old input.new;
+          input = input_change I.left I.taken I.ended I.faults input.old input.new;
           output = change_of O.written O.faults out.old out.new;
           notes = change_of N.written N.faults notes.old notes.new;
         })
@@ -173,7 +176,7 @@ pub fn dvipbm_run<R: Threads + Wait + Sync, I: Input, F: FontSource + Send, O: O
         (λ s. KeepsPromises (record {
           task = record { settings = s; known = told };
           streams = record {
-            input = change_of I.left I.faults input.old input.new;
+            input = input_change I.left I.taken I.ended I.faults input.old input.new;
             output = change_of O.written O.faults out.old out.new;
             notes = change_of N.written N.faults notes.old notes.new;
           };
@@ -185,7 +188,7 @@ pub fn dvipbm_run<R: Threads + Wait + Sync, I: Input, F: FontSource + Send, O: O
 
     // No count of faults falls.
     ensures counts { NoCountFalls (record {
-      input = change_of I.left I.faults input.old input.new;
+      input = input_change I.left I.taken I.ended I.faults input.old input.new;
       output = change_of O.written O.faults out.old out.new;
       notes = change_of N.written N.faults notes.old notes.new;
     }) }

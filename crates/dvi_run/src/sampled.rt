@@ -1,17 +1,17 @@
 //! Runs of the sample, which the run makes itself, and draws over workers of its own.
-ghost use Rattle.std.specs.Prelude.{◌≡◌, ◌≤◌, ◌<◌, ℕ, Option, [], ◌∷◌, Some, IfOk, IfSome, length, slice_index_or};
+ghost use Rattle.std.specs.Prelude.{◌≡◌, ◌≤◌, ◌<◌, ℕ, Option, [], ◌∷◌, None, Some, IfOk, IfSome, length, slice_index_or};
 ghost use Rattle.outside.specs.Counts.{Rose};
 ghost use Rattle.outside.specs.Library.{FileTable};
 ghost use Rattle.cache_core.specs.Views.{calls_of};
 ghost use Rattle.command_line.specs.Settings.{AreSettings};
 ghost use Rattle.sample_maker.specs.Sample.{made_files, sample_document};
-ghost use Rattle.dvi_run.specs.Reading.{HoldsOfInput};
+ghost use Rattle.dvi_run.specs.Reading.{HoldsOfInput, WasRead, input_change, read_since};
 ghost use Rattle.dvi_run.specs.Pages.{setup_with};
 ghost use Rattle.dvi_run.specs.Endings.{IsEnding, value_of_ending, status_of};
-ghost use Rattle.dvi_run.specs.Sampled.{FailedForSettings, UsesTheSample, document_for_settings, setup_for_settings, rest_for_settings};
+ghost use Rattle.dvi_run.specs.Sampled.{FailedForSettings, UsesTheSample, document_for_settings, setup_for_settings};
 ghost use Rattle.dvi_run.specs.Noted.{WrotePages};
 ghost use Rattle.dvi_run.specs.Outside.{change_of, task_for_sample};
-ghost use Rattle.dvi_run.specs.Together.{WorkersAreDone, PagesMatchHistory, IsReadyWorker, SomeUsed, SourceRose};
+ghost use Rattle.dvi_run.specs.Together.{WorkersAreDone, PagesMatchHistory, IsReadyWorker, IsUnread, SomeUsed, SourceRose};
 
 use crate::ending::Ending;
 use crate::host::Host;
@@ -66,7 +66,7 @@ fn draw_sample<R: Threads + Wait + Sync, F: FontSource + Send, O: Output, N: Out
     ensures ends { IsEnding (O.written out.old) (O.written out.new)
         (Rose (O.faults out.old) (O.faults out.new))
         ⊥ (out.new ≡ out.old) ⊥ (setup_with (Some (made_files settings.now.packed)) settings.now)
-        (Some (sample_document pages)) (Some []) (value_of_ending result.0) }
+        (Some (sample_document pages)) (value_of_ending result.0) }
     ensures done { WorkersAreDone (task_for_sample (Some pages) known settings.now) (record {
       sources = record { library = F.library; faults = F.faults; loads = F.loads };
       output = change_of O.written O.faults out.old out.new;
@@ -127,8 +127,8 @@ pub fn draw_asked<R: Threads + Wait + Sync, I: Input, F: FontSource + Send, O: O
         (SomeUsed settings.now.workers workers.old workers.new (SourceRose F.faults)))
         (out.new ≡ out.old) (FailedForSettings settings.now (Rose (I.faults input.old)
         (I.faults input.new))) (setup_for_settings known settings.now)
-        (document_for_settings settings.now (I.left input.old))
-        (rest_for_settings settings.now (I.left input.new)) (value_of_ending result.0) }
+        (document_for_settings settings.now (read_since (I.taken input.old) (I.taken input.new)))
+        (value_of_ending result.0) }
     ensures done { WorkersAreDone (record { settings = settings.now; known = known }) (record {
       sources = record { library = F.library; faults = F.faults; loads = F.loads };
       output = change_of O.written O.faults out.old out.new;
@@ -139,7 +139,7 @@ pub fn draw_asked<R: Threads + Wait + Sync, I: Input, F: FontSource + Send, O: O
         (value_of_ending result.0) result.1 }
     ensures drew { WrotePages (change_of N.written N.faults notes.old notes.new)
         settings.now.sheet.tolerant result.1 (λ whole. HoldsOfInput
-        (document_for_settings settings.now (I.left input.old))
+        (document_for_settings settings.now (read_since (I.taken input.old) (I.taken input.new)))
         (PagesMatchHistory (record { settings = settings.now; known = known }) (record {
           sources = record { library = F.library; faults = F.faults; loads = F.loads };
           output = change_of O.written O.faults out.old out.new;
@@ -148,6 +148,15 @@ pub fn draw_asked<R: Threads + Wait + Sync, I: Input, F: FontSource + Send, O: O
           history = calls_of history.new.items;
         })
         (status_of (value_of_ending result.0)) (value_of_ending result.0) result.1 whole)) }
+    ensures read { settings.now.sample ≡ None → WasRead
+        (input_change I.left I.taken I.ended I.faults input.old input.new) (IsUnread (record {
+          sources = record { library = F.library; faults = F.faults; loads = F.loads };
+          output = change_of O.written O.faults out.old out.new;
+          before = workers.old;
+          after = workers.new;
+          history = calls_of history.new.items;
+        })
+        (status_of (value_of_ending result.0)) result.1) }
     ensures sample { IfSome settings.now.sample (λ pages.
         UsesTheSample (status_of (value_of_ending result.0)) (input.new ≡ input.old) workers.old
         workers.new) }

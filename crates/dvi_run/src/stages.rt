@@ -4,12 +4,12 @@ ghost use Rattle.outside.specs.Counts.{Rose};
 ghost use Rattle.outside.specs.Library.{FileTable};
 ghost use Rattle.cache_core.specs.Views.{calls_of};
 ghost use Rattle.command_line.specs.Settings.{AreSettings};
-ghost use Rattle.dvi_run.specs.Reading.{HoldsOfInput};
+ghost use Rattle.dvi_run.specs.Reading.{HoldsOfInput, WasRead, input_change, read_since};
 ghost use Rattle.dvi_run.specs.Pages.{setup_with};
 ghost use Rattle.dvi_run.specs.Endings.{EndsBytes, IsEnding, value_of_ending, status_of};
 ghost use Rattle.dvi_run.specs.Noted.{WrotePages};
 ghost use Rattle.dvi_run.specs.Outside.{change_of, task_for_sample};
-ghost use Rattle.dvi_run.specs.Together.{WorkersAreDone, DrewDocument, PagesMatchHistory, IsReadyWorker, RestIsKept, SomeUsed, SourceRose};
+ghost use Rattle.dvi_run.specs.Together.{WorkersAreDone, DrewDocument, PagesMatchHistory, IsReadyWorker, IsUnread, RestIsKept, SomeUsed, SourceRose};
 
 use crate::ending::Ending;
 use crate::host::Host;
@@ -148,7 +148,7 @@ pub fn draw_input<R: Threads + Wait + Sync, I: Input, F: FontSource + Send, O: O
         (SomeUsed settings.now.workers workers.old workers.new (SourceRose F.faults))
         (out.new ≡ out.old)
         (Rose (I.faults input.old) (I.faults input.new)) (setup_with known settings.now)
-        (I.left input.old) (I.left input.new) (value_of_ending result.0) }
+        (read_since (I.taken input.old) (I.taken input.new)) (value_of_ending result.0) }
     ensures done { WorkersAreDone (task_for_sample None known settings.now) (record {
       sources = record { library = F.library; faults = F.faults; loads = F.loads };
       output = change_of O.written O.faults out.old out.new;
@@ -158,7 +158,8 @@ pub fn draw_input<R: Threads + Wait + Sync, I: Input, F: FontSource + Send, O: O
     })
         (value_of_ending result.0) result.1 }
     ensures drew { WrotePages (change_of N.written N.faults notes.old notes.new)
-        settings.now.sheet.tolerant result.1 (λ whole. HoldsOfInput (I.left input.old)
+        settings.now.sheet.tolerant result.1 (λ whole. HoldsOfInput
+        (read_since (I.taken input.old) (I.taken input.new))
         (PagesMatchHistory (task_for_sample None known settings.now) (record {
           sources = record { library = F.library; faults = F.faults; loads = F.loads };
           output = change_of O.written O.faults out.old out.new;
@@ -167,6 +168,15 @@ pub fn draw_input<R: Threads + Wait + Sync, I: Input, F: FontSource + Send, O: O
           history = calls_of history.new.items;
         })
         (status_of (value_of_ending result.0)) (value_of_ending result.0) result.1 whole)) }
+    ensures read { WasRead (input_change I.left I.taken I.ended I.faults input.old input.new)
+        (IsUnread (record {
+          sources = record { library = F.library; faults = F.faults; loads = F.loads };
+          output = change_of O.written O.faults out.old out.new;
+          before = workers.old;
+          after = workers.new;
+          history = calls_of history.new.items;
+        })
+        (status_of (value_of_ending result.0)) result.1) }
     ensures input { I.faults input.old ≤ I.faults input.new }
     ensures output { O.faults out.old ≤ O.faults out.new }
 {

@@ -1,6 +1,7 @@
 use Rattle.std.proofs.Common.{None, Err, inl, inr, ◌≡◌, [], refl, sym, ap, rules, ◌≤◌, ◌∙◌, length, arith}
 use Rattle.cache_core.specs.Views.{calls_of}
 use Rattle.dvi_run.specs.Endings.{Memory, Usage}
+use Rattle.dvi_run.specs.Reading.{input_change}
 use Rattle.dvi_run.specs.Outside.{Run, Sources, Streams, Task, change_of}
 use Rattle.dvi_run.specs.Promises.{document_of}
 use Rattle.dvi_run.proofs.PromisesKept.{idle_caused, idle_cut_short, idle_sample, idle_wrote, not_usage}
@@ -34,7 +35,7 @@ returns-in-Err-NoMemory-clause-promises g c =
     let none : history ≡ [] = ap calls_of q.1.1.1 in
     let printed = c.print_line-in-Err-NoMemory.ensures in
     let streams : Streams = record {
-      input = change_of g.I.Input.left g.I.Input.faults c.args.input.now c.args.input.now;
+      input = input_change g.I.Input.left g.I.Input.taken g.I.Input.ended g.I.Input.faults c.args.input.now c.args.input.now;
       output = change_of g.O.Output.written g.O.Output.faults c.args.out.now c.args.out.now;
       notes = change_of g.N.Output.written g.N.Output.faults c.args.notes.now c.print_line-in-Err-NoMemory.new.notes;
     } in
@@ -48,7 +49,7 @@ returns-in-Err-NoMemory-clause-promises g c =
     rw printed.status (record {
       caused = idle_caused run;
       written = idle_wrote run;
-      ended = (Memory, None, refl, record { whole = []; count = refl; lacking = λ strict. tt; noted = record { placed = tt; printed = printed.printed.prints }; counted = done.counts; failed = done.failed; gave_up = done.gave_up; drew = drew });
+      ended = (Memory, None, refl, record { read = λ input. inr (record { answers = inr (inl refl); output = refl; workers = refl; history = none; no_tally = refl }); whole = []; count = refl; lacking = λ strict. tt; noted = record { placed = tt; printed = printed.printed.prints }; counted = done.counts; failed = done.failed; gave_up = done.gave_up; drew = drew });
       history = done.one;
       called = done.worked;
       cut_short = idle_cut_short run refl;

@@ -1,11 +1,11 @@
 use mir.Syntax.{of_param}
-use Rattle.std.proofs.Common.{◌≡◌, ◌≤◌, ℕ, Option, IfSome, sym, subst, rules}
+use Rattle.std.proofs.Common.{◌≡◌, ◌∙◌, ◌≤◌, ℕ, Option, None, Some, IfSome, sym, subst, rules}
 use Rattle.outside.specs.Counts.{Rose}
 use Rattle.cache_core.specs.Views.{calls_of}
-use Rattle.dvi_run.specs.Reading.{HoldsOfInput}
+use Rattle.dvi_run.specs.Reading.{HoldsOfInput, read_since}
 use Rattle.dvi_run.specs.Endings.{IsEnding, value_of_ending, status_of}
 use Rattle.dvi_run.specs.Pages.{setup_with}
-use Rattle.dvi_run.specs.Sampled.{FailedForSample, document_for_sample, library_for_sample, rest_for_sample}
+use Rattle.dvi_run.specs.Sampled.{FailedForSample, document_for_sample, library_for_sample}
 use Rattle.dvi_run.specs.Noted.{WrotePages}
 use Rattle.dvi_run.specs.Outside.{Drawing, Sources, change_of, task_for_sample}
 use Rattle.dvi_run.specs.Together.{WorkersAreDone, PagesMatchHistory, SomeUsed, SourceRose}
@@ -39,9 +39,9 @@ returns-in-Some-clause-ends g c =
     let OutputFailed = Rose (g.O.Output.faults c.args.out.now) (g.O.Output.faults c.draw_sample.new.out) in
     let SourceFailed = SomeUsed c.args.settings.now.workers c.args.workers.now c.draw_sample.new.workers (SourceRose g.F.FontSource.faults) in
     let InputFailed = Rose (g.I.Input.faults c.args.input.now) (g.I.Input.faults c.args.input.now) in
-    let left = g.I.Input.left c.args.input.now in
+    let known = read_since (g.I.Input.taken c.args.input.now) (g.I.Input.taken c.args.input.now) in
     subst (λ (o : Option ℕ). IsEnding old new OutputFailed (FailedForSample o SourceFailed) (c.draw_sample.new.out ≡ c.args.out.now) (FailedForSample o InputFailed)
-    (setup_with (library_for_sample c.args.settings.now.packed o g.known) c.args.settings.now) (document_for_sample o left) (rest_for_sample o left) (value_of_ending c.draw_sample.result.0)) (sym c.in-Some.is) c.draw_sample.ensures.ends
+    (setup_with (library_for_sample c.args.settings.now.packed o g.known) c.args.settings.now) (document_for_sample o known) (value_of_ending c.draw_sample.result.0)) (sym c.in-Some.is) c.draw_sample.ensures.ends
 
 pub returns-in-Some-clause-done : goal.returns-in-Some-clause-done
 returns-in-Some-clause-done g c =
@@ -58,7 +58,7 @@ returns-in-Some-clause-drew g c =
     let e = value_of_ending c.draw_sample.result.0 in
     let notes = change_of g.N.Output.written g.N.Output.faults c.args.notes.now c.draw_sample.new.notes in
     subst (λ (o : Option ℕ). WrotePages notes c.args.settings.now.sheet.tolerant c.draw_sample.result.1
-    (λ whole. HoldsOfInput (document_for_sample o (g.I.Input.left c.args.input.now)) (PagesMatchHistory (task_for_sample o g.known c.args.settings.now) drawing (status_of e) e c.draw_sample.result.1 whole))) (sym c.in-Some.is) c.draw_sample.ensures.drew
+    (λ whole. HoldsOfInput (document_for_sample o (read_since (g.I.Input.taken c.args.input.now) (g.I.Input.taken c.args.input.now))) (PagesMatchHistory (task_for_sample o g.known c.args.settings.now) drawing (status_of e) e c.draw_sample.result.1 whole))) (sym c.in-Some.is) c.draw_sample.ensures.drew
 
 pub returns-in-None-clause-done : goal.returns-in-None-clause-done
 returns-in-None-clause-done g c =
@@ -75,4 +75,24 @@ returns-in-None-clause-drew g c =
     let e = value_of_ending c.draw_input.result.0 in
     let notes = change_of g.N.Output.written g.N.Output.faults c.args.notes.now c.draw_input.new.notes in
     subst (λ (o : Option ℕ). WrotePages notes c.args.settings.now.sheet.tolerant c.draw_input.result.1
-    (λ whole. HoldsOfInput (document_for_sample o (g.I.Input.left c.args.input.now)) (PagesMatchHistory (task_for_sample o g.known c.args.settings.now) drawing (status_of e) e c.draw_input.result.1 whole))) (sym c.in-None.is) c.draw_input.ensures.drew
+    (λ whole. HoldsOfInput (document_for_sample o (read_since (g.I.Input.taken c.args.input.now) (g.I.Input.taken c.draw_input.new.input))) (PagesMatchHistory (task_for_sample o g.known c.args.settings.now) drawing (status_of e) e c.draw_input.result.1 whole))) (sym c.in-None.is) c.draw_input.ensures.drew
+
+pub returns-in-None-clause-ends : goal.returns-in-None-clause-ends
+returns-in-None-clause-ends g c =
+    let old = g.O.Output.written c.args.out.now in
+    let new = g.O.Output.written c.draw_input.new.out in
+    let OutputFailed = Rose (g.O.Output.faults c.args.out.now) (g.O.Output.faults c.draw_input.new.out) in
+    let SourceFailed = SomeUsed c.args.settings.now.workers c.args.workers.now c.draw_input.new.workers (SourceRose g.F.FontSource.faults) in
+    let InputFailed = Rose (g.I.Input.faults c.args.input.now) (g.I.Input.faults c.draw_input.new.input) in
+    let known = read_since (g.I.Input.taken c.args.input.now) (g.I.Input.taken c.draw_input.new.input) in
+    subst (λ (o : Option ℕ). IsEnding old new OutputFailed (FailedForSample o SourceFailed) (c.draw_input.new.out ≡ c.args.out.now) (FailedForSample o InputFailed)
+    (setup_with (library_for_sample c.args.settings.now.packed o g.known) c.args.settings.now) (document_for_sample o known) (value_of_ending c.draw_input.result.0)) (sym c.in-None.is) c.draw_input.ensures.ends
+
+pub returns-in-None-clause-read : goal.returns-in-None-clause-read
+returns-in-None-clause-read g c = λ none. c.draw_input.ensures.read
+
+some_none : (n : ℕ) → Some n ≡ None → ⊥
+some_none n is = cc
+
+pub returns-in-Some-clause-read : goal.returns-in-Some-clause-read
+returns-in-Some-clause-read g c = λ none. absurd (some_none _ (sym c.in-Some.is ∙ none))

@@ -94,7 +94,7 @@ returns-clause-ends g c =
     let OutputFailed = FaultsRose output in
     let text = c.deref.result.now in
     let ends = ends_without old new OutputFailed _ output.Kept given text (none_rose settings first last before after long long_last handed (λ s. 0) (λ s. refl)) e c.draw_document-drawn.ensures.ends in
-    subst (λ (t : List ℕ). IsEnding old new OutputFailed ⊥ output.Kept ⊥ given (Some t) (Some []) e) bytes (bytes_end old new OutputFailed ⊥ output.Kept given ⊥ (Some text) (Some []) text (all_taken text few) e ends)
+    subst (λ (t : List ℕ). IsEnding old new OutputFailed ⊥ output.Kept ⊥ given (Some t) e) bytes (bytes_end old new OutputFailed ⊥ output.Kept given ⊥ (Some text) (Some []) text (all_taken text few) e ends)
 
 pub returns-clause-sample : goal.returns-clause-sample
 returns-clause-sample g c =
