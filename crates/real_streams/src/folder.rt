@@ -12,11 +12,18 @@ use std::{fs, str};
 
 /// Opens the files of a folder. A name that isn't UTF-8 is an error, and so is a file that can't be
 /// opened.
-#[derive(Drop)]
+#[derive_where(Clone, Copy)]
 pub struct FolderOpener<'a, R> {
     rt: &'a R,
     alloc: Global,
     folder: &'a PathBuf,
+}
+
+impl<'a, R> FolderOpener<'a, R> {
+    /// Nothing is opened yet.
+    pub fn new(rt: &'a R, alloc: Global, folder: &'a PathBuf) -> FolderOpener<'a, R> {
+        FolderOpener { rt, alloc, folder }
+    }
 }
 
 impl<'a, R: Files> Opener for FolderOpener<'a, R> {
@@ -38,6 +45,6 @@ impl<'a, R: Files> OpenedFonts<FolderOpener<'a, R>> {
         ensures faults { result.faults ≡ 0 }
         ensures loads { result.loads ≡ 0 }
     {
-        OpenedFonts::over(alloc, FolderOpener { rt, alloc, folder })
+        OpenedFonts::over(alloc, FolderOpener::new(rt, alloc, folder))
     }
 }

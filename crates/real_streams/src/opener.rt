@@ -32,8 +32,10 @@ fn read_file<T: Read + Drop>(alloc: Global, file: T) -> io::Result<Vec<u8>>
     ensures { IfOk result (λ bytes. IsCut (T.remaining file) bytes.items) }
 {
     let mut bytes = Vec::new(alloc);
-    file.take(MAX_FILE_READ).read_to_end(&mut bytes)?;
-    Ok(bytes)
+    match file.take(MAX_FILE_READ).read_to_end(&mut bytes) {
+        Ok(_) => Ok(bytes),
+        Err(error) => Err(error),
+    }
 }
 
 // Why a file wasn't loaded.
