@@ -1,12 +1,12 @@
 -- All numbers and pairs can be given.
-use Rattle.std.proofs.Common.{◌≡◌, ◌<◌, ◌≤◌, ◌*◌, ◌%◌, ◌^◌, ℕ, true, List, [], ◌∷◌, length, Option, Some, refl, ap, ap₂, ◌∙◌, arith, le-leb}
-use Rattle.std.specs.Prelude.{◌&&◌, ◌==◌, decimal, nat_le}
+use Rattle.std.proofs.Common.{◌≡◌, ◌<◌, ◌≤◌, ◌*◌, ◌%◌, ◌^◌, ℕ, true, List, [], ◌∷◌, length, Some, refl, ap, ◌∙◌, arith, le-leb}
+use Rattle.std.specs.Prelude.{◌&&◌, ◌==◌, decimal}
 use Rattle.std.specs.List.{list_all}
 use Rattle.std.specs.Str.Parse.{digits_value}
 use Rattle.std.proofs.lemmas.Bool.{and_from, and_parts}
 use Rattle.std.proofs.lemmas.Fmt.{decimal_nonempty, digits_decimal, digits_value-decimal, length-decimal-le}
-use Rattle.job_spool.specs.Words.{Names, Text, are_names, is_name, is_number, number_in, number_text, pairs_of, up_to}
-use Rattle.job_spool.specs.Laws.{AllPairsCanBeGiven, AreNumbers, ArePairs, words_of}
+use Rattle.job_spool.specs.Words.{Names, are_names, is_name, is_number, number_in, number_text, pairs_of, up_to}
+use Rattle.job_spool.specs.Laws.{AllPairsCanBeGiven, ArePairs, words_of}
 use Rattle.job_spool.proofs.Digits.{own}
 
 -- ---- numbers

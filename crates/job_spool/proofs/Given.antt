@@ -1,9 +1,9 @@
 -- What the arguments of a spool give.
-use Rattle.std.proofs.Common.{◌≡◌, ◌≤◌, ◌*◌, ◌%◌, ℕ, Bool, true, false, List, [], ◌∷◌, length, Option, Some, None, refl, ap, sym, ◌∙◌, arith, leb-true, eqb-true}
+use Rattle.std.proofs.Common.{◌≡◌, ◌≤◌, ◌%◌, ℕ, Bool, true, false, List, [], ◌∷◌, length, Option, Some, None, refl, ap, sym, arith, leb-true, eqb-true}
 use Rattle.std.specs.Prelude.{◌&&◌, if◌then◌else◌, nat_le}
 use Rattle.std.proofs.lemmas.Bool.{and_parts}
 use Rattle.job_spool.specs.Words.{Text, are_names, number_in, number_text, numbers_of, numbers_with, pairs_of, up_to}
-use Rattle.job_spool.specs.Laws.{AreNumbers, ArePairs, IsSpool, PairsAreGiven}
+use Rattle.job_spool.specs.Laws.{AreNumbers, ArePairs, PairsAreGiven}
 use Rattle.job_spool.specs.declared.numbers.SpoolNumbers.{SpoolNumbers}
 use Rattle.job_spool.proofs.Pairs.{all_named, pairs_count, words_back}
 

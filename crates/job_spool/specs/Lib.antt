@@ -1,3 +1,13 @@
 pub mod Limits
 pub mod Words
 pub mod Laws
+pub mod Sums
+pub mod Sharing
+pub mod Jobs
+pub mod Read
+pub mod Parts
+pub mod Caches
+pub mod Workers
+pub mod Drawn
+pub mod Notes
+pub mod Promises

@@ -8,3 +8,7 @@ MAX_JOBS = 16
 -- the most workers
 abbrev pub MAX_WORKERS : ℕ
 MAX_WORKERS = 32
+
+-- the most pages that the documents of one cache have together
+abbrev pub MAX_SHARED_PAGES : ℕ
+MAX_SHARED_PAGES = 1000000

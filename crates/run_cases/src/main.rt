@@ -31,16 +31,20 @@
 //!     sources, those that the sources of this table were `asked` for, or how many pages were
 //!     `drawn`.
 //!   - `note_ends=N,M`: only the first N and the last M bytes of the notes are told.
+//! - `job FIELD..` adds a job with the document and the streams that a run would have by these
+//!   fields, and `spool FIELD..` is a run of `spool_run` over the folder and the jobs since the
+//!   last one. Its words are those of `word=TEXT`, and then two names of files for each job.
 //! - `may TEXT`, before a run whose end hangs on the schedule of its workers: one of the lines that
 //!   may stand below it. If one of them would, `one of these` does.
 //!
-//! Below a run stand its status, its notes, the counts, and each page that was written: `P4`, its
-//! width and height, and the bytes of its rows in hex, with `*N` behind a byte that stands there N
-//! times; `=K` is page K once more. What holds of every run is told only where it is wrong: no
-//! worker keeps a seat or a result; the pages drawn are the first ones, each drawn once, by one of
-//! as many workers as `--workers=N` says (1), each worker's in rising order; and the calls are
-//! those of a cache with room for as many fonts as `--cache=N` says (16), which weigh together no
-//! more bytes than `--room=N` says (2147483648).
+//! Below a spool stand its answer and its notes, and for each job a line with its status and its
+//! pages. Below a run stand its status, its notes, the counts, and each page that was written:
+//! `P4`, its width and height, and the bytes of its rows in hex, with `*N` behind a byte that
+//! stands there N times; `=K` is page K once more. What holds of every run is told only where it is
+//! wrong: no worker keeps a seat or a result; the pages drawn are the first ones, each drawn once,
+//! by one of as many workers as `--workers=N` says (1), each worker's in rising order; and the
+//! calls are those of a cache with room for as many fonts as `--cache=N` says (16), which weigh
+//! together no more bytes than `--room=N` says (2147483648).
 #![tactic(auto)]
 
 mod bytes;
@@ -51,11 +55,13 @@ mod judge;
 mod machine;
 mod outcome;
 mod show;
+mod spooled;
 
 use bytes::Names;
 use case::Case;
 use outcome::run;
 use outside::{FileName, Library};
+use spooled::{TableJob, job_of, spool};
 use std::alloc::{AllocError as NoMemory, Global};
 use std::io::{self, ErrorKind, Print};
 use std::sync::Wait;
@@ -68,6 +74,8 @@ struct Told {
     folder: Library,
     // What the next run may come to.
     permitted: Vec<String>,
+    // The jobs of the next spool.
+    jobs: Vec<TableJob>,
 }
 
 // Takes in `NAME BYTES`.
@@ -132,6 +140,27 @@ fn print_line<R: Print + Threads + Wait + Sync>(
     Ok(())
 }
 
+// Takes a job in.
+fn add_job(alloc: Global, told: &mut Told, fields: &str) -> io::Result<()> {
+    let mut case = case_of(alloc, &told.names, fields)?;
+    told.jobs.push(job_of(alloc, &mut case)?)?;
+    Ok(())
+}
+
+// Tells what comes of a spool.
+fn print_spool<R: Print + Threads + Wait + Sync>(
+    rt: &R,
+    alloc: Global,
+    told: &mut Told,
+    fields: &str,
+) -> io::Result<()> {
+    let mut case = case_of(alloc, &told.names, fields)?;
+    let text = spool(rt, alloc, &told.folder, &mut case, &mut told.jobs)?;
+    println!(rt; "  {text}")?;
+    told.jobs.clear();
+    Ok(())
+}
+
 // Does what a line of the table says.
 fn follow<R: Print + Threads + Wait + Sync>(
     rt: &R,
@@ -146,6 +175,8 @@ fn follow<R: Print + Threads + Wait + Sync>(
         "file" => put(alloc, told, rest),
         "may" => Ok(permit(alloc, told, rest)?),
         "run" => print_line(rt, alloc, told, rest),
+        "job" => add_job(alloc, told, rest),
+        "spool" => print_spool(rt, alloc, told, rest),
         "folder" => {
             told.folder = Library::new(alloc);
             Ok(())
@@ -161,6 +192,7 @@ fn main(rt: HostRuntime) -> io::Result<()> {
         names: Names::new(alloc),
         folder: Library::new(alloc),
         permitted: Vec::new(alloc),
+        jobs: Vec::new(alloc),
     };
     for line in rt.lines(alloc) {
         follow(&rt, alloc, &mut told, &line?)?;

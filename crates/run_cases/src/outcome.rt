@@ -38,8 +38,8 @@ struct Counts {
     drawn: u64,
 }
 
-// n workers over these files.
-fn some_workers<'a>(
+/// n workers over these files.
+pub fn some_workers<'a>(
     alloc: Global,
     library: &'a Library,
     failures: &'a Failures,

@@ -1,0 +1,10 @@
+use Rattle.std.proofs.Common.{◌≡◌, ◌≤◌, take}
+use Rattle.cache_core.specs.Views.{calls_of}
+use Rattle.run_report.specs.Summary.{count_of, is_look}
+use Rattle.job_spool.proofs.notes.looks_in.Given as goal
+
+abbrev pub invariant-loop-entry : goal.invariant-loop-entry
+invariant-loop-entry l = record {
+  is : l.looks ≡ count_of is_look (calls_of (take l.entry-index l.history));
+  few : l.looks ≤ l.entry-index;
+}
