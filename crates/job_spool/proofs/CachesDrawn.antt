@@ -15,6 +15,7 @@ use Rattle.cache_core.specs.Views.{calls_of}
 use Rattle.page_workers.specs.declared.bench.Bench.{Bench}
 use Rattle.page_workers.specs.declared.worker.Worker.{Worker}
 use Rattle.dvi_run.specs.Outside.{Sources, change_of}
+use Rattle.dvi_run.specs.Reading.{input_change}
 use Rattle.dvi_run.specs.Pages.{Setup}
 use Rattle.dvi_run.specs.Together.{SourceRose}
 use Rattle.job_spool.specs.Caches.{Drawing, HasCache, HasNoCache, IsHistoryOf, KeepsCache}
@@ -69,7 +70,7 @@ module _ {F I O : Type 0} (g : Setup) (limits : Limits) (sources : Sources F) (v
 
   abbrev change : Job I O → O → ℕ → Job I O → JobChange
   change a o s c = record {
-    input = change_of view.left view.reads a.input c.input;
+    input = input_change view.left view.taken view.ended view.reads a.input c.input;
     output = change_of view.written view.writes a.out o;
     status = s;
     history = calls_of c.history.items;

@@ -13,6 +13,7 @@ use Rattle.turn_lock.specs.Histories.{AllMade}
 use Rattle.turn_lock.proofs.Histories.{alone_is_history}
 use Rattle.dvi_run.specs.Endings.{status_of}
 use Rattle.dvi_run.specs.Outside.{change_of}
+use Rattle.dvi_run.specs.Reading.{input_change}
 use Rattle.dvi_run.specs.Pages.{Setup}
 use Rattle.job_spool.specs.Caches.{Drawing, HasFailed, IsMachineRun, KeepsCache}
 use Rattle.job_spool.specs.Jobs.{JobChange, JobView, job_change, jobs_change}
@@ -25,7 +26,7 @@ use Rattle.job_spool.specs.declared.job.Job.{Job}
 module _ {I O : Type 0} (view : JobView I O) (g : Setup) (workers : ℕ) (Failed : ℕ → Type 0) (documents : Documents) (first : ℕ) (p : Part) (a b c : Job I O) (same : b.out ≡ a.out) where
   abbrev Since : O → JobChange
   Since o =
-      record { input = change_of view.left view.reads a.input c.input; output = change_of view.written view.writes o c.out; status = c.status; history = calls_of c.history.items }
+      record { input = input_change view.left view.taken view.ended view.reads a.input c.input; output = change_of view.written view.writes o c.out; status = c.status; history = calls_of c.history.items }
 
   part_since : IsPart g workers Failed documents first (job_change view b c) p → IsPart g workers Failed documents first (job_change view a c) p
   part_since part = subst (λ (o : O). IsPart g workers Failed documents first (Since o) p) same (record {

@@ -7,10 +7,11 @@ use Rattle.page_index.specs.Pages.{Indexed}
 use Rattle.page_index.specs.declared.faults.DocFault.{DocFault}
 use Rattle.dvi_run.specs.Endings.{Document, Input, Memory}
 use Rattle.dvi_run.specs.Pages.{Setup}
-use Rattle.dvi_run.proofs.InputRead.{all_read, of_read}
+use Rattle.dvi_run.specs.Reading.{read_since}
+use Rattle.dvi_run.proofs.InputRead.{gave_whole, of_read}
 use Rattle.dvi_run.proofs.RunOfWorkers.{one_of}
 use Rattle.job_spool.specs.Drawn.{AreFor, AreUndrawn}
-use Rattle.job_spool.specs.Jobs.{JobView, WasRead}
+use Rattle.job_spool.specs.Jobs.{JobView, WasRead, job_input}
 use Rattle.job_spool.specs.Read.{HasText, IsIndexed, text_at}
 use Rattle.job_spool.specs.Sharing.{Documents, caches_of, document_at}
 use Rattle.job_spool.specs.declared.job.Job.{Job}
@@ -21,17 +22,17 @@ module _ {I O : Type 0} (view : JobView I O) (g : Setup) (a b c : Job I O) where
   no_bytes had same = subst (λ (x : Job I O). WasRead view g None a x) (sym same) (record {
     out = had.out;
     history = had.history;
-    came = elim had.came [ inl nine ↦ (Memory, nine, (tt, inl had.out)) | inr failed ↦ (Input, failed.0, (tt, (failed.1, had.out))) ];
+    came = elim had.came [ inl nine ↦ (Memory, nine, (tt, inl had.out, inr (inr (inl refl)))) | inr failed ↦ (Input, failed.0, (tt, (failed.1, had.out), inr (inl refl))) ];
   })
 
   faulted : (bytes : List ℕ) (fault : DocFault) → HasText view (Some bytes) a b → c ≡ record b { status = 2 } → IsFirstFault g.res bytes fault → WasRead view g None a c
   faulted bytes fault had same first =
-      let left = view.left a.input in
-      let rest = view.left b.input in
+      let known = read_since (view.taken a.input) (view.taken b.input) in
+      let read = gave_whole (job_input view a b) bytes had.came.1 in
       subst (λ (x : Job I O). WasRead view g None a x) (sym same) (record {
         out = had.out;
         history = had.history;
-        came = (Document fault, refl, (tt, (all_read left rest bytes had.came.1, of_read (λ bs. IsFirstFault g.res bs fault) left rest bytes had.came.1 first, had.out)));
+        came = (Document fault, refl, (tt, (of_read (λ bs. IsFirstFault g.res bs fault) known (Some []) bytes read first, had.out), inl (bytes, had.came.1)));
       })
 
   pub was_read : (text : Option (List ℕ)) (document : Option Indexed) → HasText view text a b → IsIndexed g.res text document b c → WasRead view g document a c
@@ -44,7 +45,7 @@ module _ {I O : Type 0} (view : JobView I O) (g : Setup) (a b c : Job I O) where
 -- a job that wasn't drawn is one without a document
 pub undrawn : {I O : Type 0} (view : JobView I O) (g : Setup) (document : Option Indexed) (a b : Job I O) → WasRead view g document a b → WasRead view g None a b
 undrawn view g None a b read = read
-undrawn view g (Some x) a b read = record { out = read.out; history = read.history; came = (Memory, read.came.0, (tt, inl read.out)) }
+undrawn view g (Some x) a b read = record { out = read.out; history = read.history; came = (Memory, read.came.0, (tt, inl read.out, inl (read.came.3.0, read.came.3.1))) }
 
 -- ---- all jobs
 

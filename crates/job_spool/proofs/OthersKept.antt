@@ -10,13 +10,12 @@ use Rattle.cache_core.specs.Histories.{own}
 use Rattle.cache_core.specs.Views.{calls_of}
 use Rattle.cache_core.specs.declared.calls.Call.{Call}
 use Rattle.turn_lock.specs.Histories.{AllMade}
-use Rattle.page_index.specs.Document.{IsDocument}
 use Rattle.page_index.specs.Pages.{Indexed}
 use Rattle.dvi_run.specs.Endings.{IsAmong}
 use Rattle.dvi_run.specs.Pages.{Setup}
-use Rattle.dvi_run.proofs.InputRead.{of_read}
+use Rattle.dvi_run.specs.Reading.{ReadsGave, read_since}
 use Rattle.job_spool.specs.Caches.{Drawing, KeepsCache}
-use Rattle.job_spool.specs.Jobs.{JobView, WasRead, job_change}
+use Rattle.job_spool.specs.Jobs.{JobView, WasRead, job_change, job_input}
 use Rattle.job_spool.specs.Parts.{Part}
 use Rattle.job_spool.specs.Promises.{HasNoDocument, IsDocumentOf}
 use Rattle.job_spool.specs.Sharing.{Documents, caches_of, document_at, sharers}
@@ -30,14 +29,18 @@ use Rattle.job_spool.proofs.SharedPages.{placed_below}
 pub without : {I O : Type 0} (view : JobView I O) (g : Setup) (a b : Job I O) → WasRead view g None a b → a.history.items ≡ [] → HasNoDocument (job_change view a b)
 without view g a b read empty =
     let came = read.came in
-    let answers = unread_answers (view.written a.out) (view.written b.out) (Rose (view.writes a.out) (view.writes b.out)) (Unit {0}) (b.out ≡ a.out) (Rose (view.reads a.input) (view.reads b.input)) g (view.left a.input) (view.left b.input) came.0 came.2.0 came.2.1 in
+    let answers = unread_answers (view.written a.out) (view.written b.out) (Rose (view.writes a.out) (view.writes b.out)) (Unit {0}) (b.out ≡ a.out) (Rose (view.reads a.input) (view.reads b.input)) g (read_since (view.taken a.input) (view.taken b.input)) came.0 came.2.0 came.2.1 in
     record { answers = subst (λ (n : ℕ). IsAmong n (2 ∷ 6 ∷ 9 ∷ [])) (sym came.1) answers; output = read.out; history = ap (λ h. calls_of h.items) read.history ∙ ap calls_of empty }
 
+-- reads gave it, whatever else of the job has changed since
+pub gave_then : {I O : Type 0} (view : JobView I O) (a r b : Job I O) (bytes : List ℕ) → b.input ≡ r.input → ReadsGave (job_input view a r) bytes → ReadsGave (job_input view a b) bytes
+gave_then view a r b bytes input gave = subst (λ (i : _). ReadsGave (job_input view a (record b { input = i })) bytes) (sym input) gave
+
 -- the document that was found in a job's bytes, or that there is none
-pub document_of : {I O : Type 0} (view : JobView I O) (g : Setup) (o : Option Indexed) (a r b : Job I O) → WasRead view g o a r → (o ≡ None → b ≡ r) → a.history.items ≡ [] → MatchOption o (HasNoDocument (job_change view a b)) (IsDocumentOf g.res (job_change view a b))
-document_of view g None a r b read same empty = without view g a b (subst (λ (y : Job _ _). WasRead view g None a y) (sym (same refl)) read) empty
-document_of view g (Some x) a r b read same empty =
-    (read.came.1, of_read (λ bytes. IsDocument g.res bytes x.reading) (view.left a.input) (view.left r.input) read.came.3.0 read.came.3.1 read.came.3.2)
+pub document_of : {I O : Type 0} (view : JobView I O) (g : Setup) (o : Option Indexed) (a r b : Job I O) → WasRead view g o a r → b.input ≡ r.input → (o ≡ None → b ≡ r) → a.history.items ≡ [] → MatchOption o (HasNoDocument (job_change view a b)) (IsDocumentOf g.res (job_change view a b))
+document_of view g None a r b read input same empty = without view g a b (subst (λ (y : Job _ _). WasRead view g None a y) (sym (same refl)) read) empty
+document_of view g (Some x) a r b read input same empty =
+    (read.came.1, (read.came.3.0, gave_then view a r b read.came.3.0 input read.came.3.1, read.came.3.2))
 
 -- ---- not the first of their cache
 

@@ -11,26 +11,27 @@ use Rattle.font_decode.specs.Desks.{misses}
 use Rattle.page_index.specs.Pages.{Indexed}
 use Rattle.page_workers.specs.declared.worker.Worker.{Worker}
 use Rattle.command_line.specs.declared.settings.Settings.{Settings}
-use Rattle.dvi_run.specs.Endings.{Memory}
+use Rattle.dvi_run.specs.Endings.{IsAmong, Memory}
 use Rattle.dvi_run.specs.Laws.{OneReading, OneRun, RunsHaveNoFault}
 use Rattle.dvi_run.specs.Outside.{Sources}
 use Rattle.dvi_run.specs.Pages.{Setup, setup_with}
-use Rattle.dvi_run.specs.Reading.{IsRead}
+use Rattle.dvi_run.specs.Reading.{ReadsGave, WasRead as InputWasRead, read_since}
 use Rattle.dvi_run.specs.Rounds.{indexed_of}
 use Rattle.dvi_run.specs.Together.{IsReadyWorker}
+use Rattle.dvi_run.proofs.InputRead.{gave_whole}
 use Rattle.dvi_run.proofs.RunOfWorkers.{one_of}
 use Rattle.page_index.specs.Document.{IsDocument}
 use Rattle.job_spool.specs.Caches.{Drawing, HasFailed, KeepsCache}
-use Rattle.job_spool.specs.Jobs.{JobView, WasRead, job_change, jobs_change}
+use Rattle.job_spool.specs.Jobs.{JobView, WasRead, job_change, job_input, jobs_change}
 use Rattle.job_spool.specs.Parts.{IsPart, Part}
-use Rattle.job_spool.specs.Promises.{HasNoDocument, IsDocumentOf, KeepsJob, KeepsSpool, run_of, spool_drawing}
+use Rattle.job_spool.specs.Promises.{HasNoDocument, IsDocumentOf, IsUnread, KeepsJob, KeepsSpool, run_of, spool_drawing}
 use Rattle.job_spool.specs.Sharing.{Documents, caches_of, document_at, sharer, sharers}
 use Rattle.job_spool.specs.Sums.{sum_below}
 use Rattle.job_spool.specs.Workers.{CountIsFull, FewSourceEnds, IsResting, failures, source_end}
 use Rattle.job_spool.specs.declared.job.Job.{Job}
 use Rattle.job_spool.proofs.CachesKept.{cache_since, machine_run}
 use Rattle.job_spool.proofs.JobsKept.{Answers, UsedFailed, drawn_answers, drawn_ends, idle_answers, idle_ends, keeps_job, memory_answers}
-use Rattle.job_spool.proofs.OthersKept.{document_of, no_history, without}
+use Rattle.job_spool.proofs.OthersKept.{document_of, gave_then, no_history, without}
 use Rattle.job_spool.proofs.SharedPages.{placed_below}
 use Rattle.job_spool.proofs.SourcesFailed.{not_drawn, source_failed, sum_none}
 
@@ -76,39 +77,50 @@ module _ {F I O : Type 0} (settings : Settings) (known : Option FileTable) (view
   abbrev Keeps : Job I O → Job I O → Type 0
   Keeps a b = KeepsJob (run_of settings known drawing (job_change view a b)) b.status
 
+  -- what was read of one without a document
+  read_unread : (a b : Job I O) → WasRead view g None a b → a.history.items ≡ [] → InputWasRead (job_input view a b) (IsUnread (run_of settings known drawing (job_change view a b)) b.status)
+  read_unread a b read empty = elim read.came.2.2 [
+    | inl gave ↦ inl gave
+    | inr among ↦ inr (record {
+      answers = subst (λ (n : ℕ). IsAmong n (6 ∷ 9 ∷ [])) (sym read.came.1) among;
+      output = read.out;
+      history = ap (λ h. calls_of h.items) read.history ∙ ap calls_of empty;
+    })
+  ]
+
   -- one without a document
-  keeps_unread : (a b : Job I O) → WasRead view g None a b → Keeps a b
-  keeps_unread a b read =
+  keeps_unread : (a b : Job I O) → WasRead view g None a b → a.history.items ≡ [] → Keeps a b
+  keeps_unread a b read empty =
       let came = read.came in
       let e = came.0 in
       let old = view.written a.out in
       let new = view.written b.out in
-      let left = view.left a.input in
-      let rest = view.left b.input in
+      let input = read_since (view.taken a.input) (view.taken b.input) in
       let O = Rose (view.writes a.out) (view.writes b.out) in
       let I = Rose (view.reads a.input) (view.reads b.input) in
       let S = UsedFailed settings known drawing (job_change view a b) plain in
-      keeps_job settings known drawing (job_change view a b) plain reading one no_fault e (subst (λ (n : ℕ). Answers n) (sym came.1) (idle_answers old new O S (b.out ≡ a.out) I g left rest e came.2.0 came.2.1))
-      (idle_ends old new O S (b.out ≡ a.out) I g left rest e came.2.0 came.2.1) came.1
+      keeps_job settings known drawing (job_change view a b) plain reading one no_fault e (subst (λ (n : ℕ). Answers n) (sym came.1) (idle_answers old new O S (b.out ≡ a.out) I g input e came.2.0 came.2.1)) (read_unread a b read empty)
+      (idle_ends old new O S (b.out ≡ a.out) I g input e came.2.0 came.2.1) came.1
 
   -- one that wasn't drawn for want of memory
-  keeps_memory : (a b : Job I O) → b.status ≡ 9 → b.out ≡ a.out → Keeps a b
-  keeps_memory a b is kept = keeps_job settings known drawing (job_change view a b) plain reading one no_fault Memory (memory_answers b.status is) (inl kept) is
+  keeps_memory : (a b : Job I O) → (bytes : List ℕ) → ReadsGave (job_input view a b) bytes → b.status ≡ 9 → b.out ≡ a.out → Keeps a b
+  keeps_memory a b bytes gave is kept =
+      keeps_job settings known drawing (job_change view a b) plain reading one no_fault Memory (memory_answers b.status is) (inl (bytes, gave)) (inl kept) is
 
   -- one that was drawn
   module _ (workers : ℕ) (Failed : ℕ → Type 0) (documents : Documents) (first : ℕ) (a r b : Job I O) (p : Part) (part : IsPart g workers Failed documents first (job_change view a b) p) (input : b.input ≡ r.input) where
-    keeps_read : (bytes : List ℕ) → IsRead (view.left a.input) (view.left r.input) bytes → IsDocument g.res bytes p.reading → (b.status ≡ 5 → UsedFailed settings known drawing (job_change view a b) plain) → Keeps a b
+    keeps_read : (bytes : List ℕ) → ReadsGave (job_input view a r) bytes → IsDocument g.res bytes p.reading → (b.status ≡ 5 → UsedFailed settings known drawing (job_change view a b) plain) → Keeps a b
     keeps_read bytes read document failed =
         let old = view.written a.out in
         let new = view.written b.out in
-        let left = view.left a.input in
-        let rest = view.left b.input in
+        let taken = read_since (view.taken a.input) (view.taken b.input) in
         let O = Rose (view.writes a.out) (view.writes b.out) in
         let I = Rose (view.reads a.input) (view.reads b.input) in
         let S = UsedFailed settings known drawing (job_change view a b) plain in
-        let was = subst (λ (i : _). IsRead left (view.left i) bytes) (sym input) read in
-        keeps_job settings known drawing (job_change view a b) plain reading one no_fault p.ending (drawn_answers b.status part.answers)
-        (drawn_ends old new O S (b.out ≡ a.out) I g left rest bytes was p.reading document part.ends.0 part.ends.1 p.ending part.ends.2 (λ five. failed (part.status ∙ five))) part.status
+        let gave = gave_then view a r b bytes input read in
+        let was = gave_whole (job_input view a b) bytes gave in
+        keeps_job settings known drawing (job_change view a b) plain reading one no_fault p.ending (drawn_answers b.status part.answers) (inl (bytes, gave))
+        (drawn_ends old new O S (b.out ≡ a.out) I g taken (Some []) bytes was p.reading document part.ends.0 part.ends.1 p.ending part.ends.2 (λ five. failed (part.status ∙ five))) part.status
 
     keeps_drawn : WasRead view g (document_at documents p.job) a r → (b.status ≡ 5 → UsedFailed settings known drawing (job_change view a b) plain) → Keeps a b
     keeps_drawn read failed =
@@ -161,7 +173,11 @@ module _ {F I O : Type 0} (settings : Settings) (known : Option FileTable) (sour
     by_cache : (k : ℕ) (x : Indexed) (first : ℕ) → k < length jobs → sharer documents first k ≡ Some x → KeepsCache drawing documents first → Kept k
     by_cache k x first lt shares (inl none) =
         let end = none.ended k lt (subst IsSome (sym shares) refl) in
-        keeps_memory settings known view drawing drew.plain reading one no_fault (get_or jobs k d) (get_or now k d) end.0 end.1
+        let document : document_at documents k ≡ Some x = shared_document documents k x (get_or (caches_of documents) k 0 == first) shares in
+        let was : WasRead view (setup_with known settings) (Some x) (get_or jobs k d) (get_or read k d) =
+        subst (λ (o : Option Indexed). WasRead view (setup_with known settings) o (get_or jobs k d) (get_or read k d)) document (drew.was k lt) in
+        let gave = gave_then view (get_or jobs k d) (get_or read k d) (get_or now k d) was.came.3.0 (drew.input k) was.came.3.1 in
+        keeps_memory settings known view drawing drew.plain reading one no_fault (get_or jobs k d) (get_or now k d) was.came.3.0 gave end.0 end.1
     by_cache k x first lt shares (inr cache) =
         let parts = cache.parts in
         let place = sharer_place documents first (length jobs) k x lt shares in
@@ -178,7 +194,7 @@ module _ {F I O : Type 0} (settings : Settings) (known : Option FileTable) (sour
     by_document k lt None none =
         keeps_unread settings known view drawing drew.plain reading one no_fault (get_or jobs k d) (get_or now k d)
         (subst (λ (y : Job I O). WasRead view (setup_with known settings) None (get_or jobs k d) y) (sym (drew.others k none))
-        (subst (λ (o : Option Indexed). WasRead view (setup_with known settings) o (get_or jobs k d) (get_or read k d)) none (drew.was k lt)))
+        (subst (λ (o : Option Indexed). WasRead view (setup_with known settings) o (get_or jobs k d) (get_or read k d)) none (drew.was k lt))) (drew.empty k lt)
     by_document k lt (Some x) some =
         let many = drew.many in
         let share = own_cache documents k x (omega (arith, many, lt)) some in
@@ -197,7 +213,7 @@ module _ {F I O : Type 0} (settings : Settings) (known : Option FileTable) (sour
       jobs = λ k lt. by_document k lt (document_at documents k) refl;
       documents = documents;
       many = drew.many;
-      read = λ k lt. document_of view (setup_with known settings) (document_at documents k) (get_or jobs k d) (get_or read k d) (get_or now k d) (drew.was k lt) (drew.others k) (drew.empty k lt);
+      read = λ k lt. document_of view (setup_with known settings) (document_at documents k) (get_or jobs k d) (get_or read k d) (get_or now k d) (drew.was k lt) (drew.input k) (drew.others k) (drew.empty k lt);
       caches = caches;
       others = λ k lt not. no_history documents drawing drew.many k not (caches k lt);
       machine = λ first lt. machine_run drawing documents first;
@@ -253,7 +269,7 @@ module _ {F I O : Type 0} (settings : Settings) (known : Option FileTable) (sour
 
   pub keeps_undrawn_jobs : KeepsSpool settings known still
   keeps_undrawn_jobs = record {
-    jobs = λ k lt. keeps_unread settings known view still plain reading one no_fault (get_or jobs k d) (get_or now k d) (was k lt);
+    jobs = λ k lt. keeps_unread settings known view still plain reading one no_fault (get_or jobs k d) (get_or now k d) (was k lt) (empty k lt);
     documents = nothing (length jobs);
     many = nothing_long (length jobs);
     read = λ k lt.

@@ -1,5 +1,5 @@
 -- A job before a run and after it.
-use Rattle.std.specs.Prelude.{◌≡◌, ◌*◌, ◌/◌, ◌≤◌, ℕ, min, false, List, Option, Some, None, slice_index_or}
+use Rattle.std.specs.Prelude.{◌≡◌, ◌*◌, ◌/◌, ◌≤◌, ℕ, min, false, List, [], ◌∷◌, Option, Some, None, slice_index_or}
 use Rattle.outside.specs.Counts.{Rose}
 use Rattle.cache_core.specs.Views.{calls_of}
 use Rattle.cache_core.specs.declared.calls.Call.{Call}
@@ -10,9 +10,9 @@ use Rattle.raster_page.specs.Limits.{MAX_PAGE_SIDE}
 use Rattle.page_draw.specs.declared.sheet.Sheet.{Sheet}
 use Rattle.command_line.specs.Limits.{MAX_ROOM}
 use Rattle.command_line.specs.declared.settings.Settings.{Settings}
-use Rattle.dvi_run.specs.Reading.{IsRead}
+use Rattle.dvi_run.specs.Reading.{InputChange, ReadsGave, WasRead as InputWasRead, input_change, read_since}
 use Rattle.dvi_run.specs.Pages.{Setup}
-use Rattle.dvi_run.specs.Endings.{EndingValue, IsEnding, status_of}
+use Rattle.dvi_run.specs.Endings.{EndingValue, IsAmong, IsEnding, status_of}
 use Rattle.dvi_run.specs.Looked.{IsIdle}
 use Rattle.dvi_run.specs.Outside.{StreamChange, change_of}
 use Rattle.job_spool.specs.declared.job.Job.{Job}
@@ -48,23 +48,29 @@ settings_for numbers = record {
 -- ---- a job before and after
 
 -- what is known of a job's streams
-pub record JobView (I O : Type 0) : Type 0 where
+pub record JobView (I O : Type 0) : Type 1 where
   pub left : I → Option (List ℕ)
+  pub taken : I → List ℕ
+  pub ended : I → Type 0
   pub reads : I → ℕ
   pub written : O → Option (List ℕ)
   pub writes : O → ℕ
 
 -- its streams before and after, and its status and its history afterwards
 pub record JobChange : Type 1 where
-  pub input : StreamChange
+  pub input : InputChange
   pub output : StreamChange
   pub status : ℕ
   pub history : List Call
 
+abbrev pub job_input : {I O : Type 0} → JobView I O → (before after : Job I O) → InputChange
+job_input view before after =
+    input_change view.left view.taken view.ended view.reads before.input after.input
+
 abbrev pub job_change : {I O : Type 0} → JobView I O → (before after : Job I O) → JobChange
 job_change view before after =
     record {
-      input = change_of view.left view.reads before.input after.input;
+      input = job_input view before after;
       output = change_of view.written view.writes before.out after.out;
       status = after.status;
       history = calls_of after.history.items;
@@ -78,24 +84,26 @@ jobs_change view before after d k =
 
 -- ---- a job that was read
 
--- how a job ended that has no document, by its streams: it can't be read, its bytes aren't a
--- document, or memory ran out
+-- how a job ended that has no document, by its streams: it can't be read, the bytes that reads gave
+-- aren't a document, or memory ran out
 abbrev pub EndsUnread : {I O : Type 0} → JobView I O → Setup → (before after : Job I O)
     → EndingValue → Type 0
 EndsUnread view g before after e =
     IsIdle e × IsEnding (view.written before.out) (view.written after.out)
     (Rose (view.writes before.out) (view.writes after.out)) (Unit {0}) (after.out ≡ before.out)
-    (Rose (view.reads before.input) (view.reads after.input)) g (view.left before.input)
-    (view.left after.input) e
+    (Rose (view.reads before.input) (view.reads after.input)) g
+    (read_since (view.taken before.input) (view.taken after.input)) e
+    × InputWasRead (job_input view before after) (IsAmong (status_of e) (6 ∷ 9 ∷ []))
 
--- whether its bytes are a document. One that is to be drawn has the status 9 until then
+-- whether the bytes that reads gave are a document. One that is to be drawn has the status 9 until
+-- then
 abbrev pub IsReadAs : {I O : Type 0} → JobView I O → Setup → (document : Option Indexed)
     → (before after : Job I O) → Type 0
 IsReadAs view g None before after =
     (e : EndingValue) × (after.status ≡ status_of e) × EndsUnread view g before after e
 IsReadAs view g (Some x) before after =
     (after.status ≡ 9) × (x.res ≡ g.res) × (pages_begun x.reading ≤ MAX_PAGES)
-    × ((bytes : List ℕ) × IsRead (view.left before.input) (view.left after.input) bytes
+    × ((bytes : List ℕ) × ReadsGave (job_input view before after) bytes
     × IsDocument g.res bytes x.reading)
 
 -- nothing was written yet

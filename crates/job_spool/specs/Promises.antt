@@ -12,7 +12,7 @@ use Rattle.dvi_run.specs.Pages.{setup_with}
 use Rattle.dvi_run.specs.Endings.{IsAmong}
 use Rattle.dvi_run.specs.Outside.{Run, Sources, StreamChange}
 use Rattle.dvi_run.specs.Promises.{IsCutShort, IsWritten, StatusIsTrue}
-use Rattle.dvi_run.specs.Reading.{HoldsOfInput}
+use Rattle.dvi_run.specs.Reading.{ReadsGave, WasRead}
 use Rattle.dvi_run.specs.Together.{EachUsed}
 use Rattle.job_spool.specs.Caches.{Drawing, IsMachineRun, KeepsCache}
 use Rattle.job_spool.specs.Jobs.{JobChange}
@@ -44,21 +44,31 @@ run_of settings known drawing job =
       history = job.history;
     }
 
--- What holds of a job is what holds of a run of its document alone: why it ended so, both ways;
--- what was written where it ended well; and where it was refused.
+-- the input of a job failed or memory ran out, and nothing was written
+pub record IsUnread {F : Type 0} (run : Run F) (status : ℕ) : Type 0 where
+  pub answers : IsAmong status (6 ∷ 9 ∷ [])
+  pub output : run.streams.output.Kept
+  pub history : run.history ≡ []
+
+-- What holds of a job is what holds of a run of its document alone: what was read of its input; why
+-- it ended so, both ways; what was written where it ended well; and where it was refused.
 pub record KeepsJob {F : Type 0} (run : Run F) (status : ℕ) : Type 0 where
   pub answers : IsAmong status (0 ∷ 2 ∷ 3 ∷ 4 ∷ 5 ∷ 6 ∷ 7 ∷ 9 ∷ [])
+  -- reads gave all that the input had left, where that is known, and one of them saw the end, or
+  -- they gave one byte more than a document may have; else the status is 6 or 9, and nothing was
+  -- written or drawn
+  pub read : WasRead run.streams.input (IsUnread run status)
   pub caused : StatusIsTrue run status
   pub written : IsWritten run status
   pub cut_short : IsCutShort run status
 
 -- ---- all jobs
 
--- a document that was found in a job's input: where the bytes of this are known, they are that
--- document at this resolution
+-- a document that was found in a job's input: the bytes that reads of it gave are that document at
+-- this resolution
 abbrev pub IsDocumentOf : (res : ℕ) → JobChange → Indexed → Type 0
 IsDocumentOf res job x = (x.res ≡ res)
-    × HoldsOfInput job.input.before.bytes (λ bytes. IsDocument res bytes x.reading)
+    × ((bytes : List ℕ) × ReadsGave job.input bytes × IsDocument res bytes x.reading)
 
 -- A job without a document: it can't be read, its bytes are none, or memory ran out. It wrote
 -- nothing.

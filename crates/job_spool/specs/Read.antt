@@ -6,8 +6,8 @@ use Rattle.page_index.specs.Limits.{MAX_PAGES}
 use Rattle.page_index.specs.Faults.{IsFirstFault}
 use Rattle.page_index.specs.Pages.{Indexed}
 use Rattle.page_index.specs.declared.faults.DocFault.{DocFault}
-use Rattle.dvi_run.specs.Reading.{IsRead}
-use Rattle.job_spool.specs.Jobs.{JobView}
+use Rattle.dvi_run.specs.Reading.{ReadsGave}
+use Rattle.job_spool.specs.Jobs.{JobView, job_input}
 use Rattle.job_spool.specs.declared.job.Job.{Job}
 
 -- ---- texts
@@ -25,7 +25,7 @@ CameToText view None before after =
     (after.status ≡ 9) ⊎ ((after.status ≡ 6) × Rose (view.reads before.input)
     (view.reads after.input))
 CameToText view (Some bytes) before after =
-    (after.status ≡ 9) × IsRead (view.left before.input) (view.left after.input) bytes
+    (after.status ≡ 9) × ReadsGave (job_input view before after) bytes
 
 pub record HasText {I O : Type 0} (view : JobView I O) (text : Option (List ℕ))
     (before after : Job I O) : Type 0 where

@@ -58,6 +58,8 @@ fn draw_one<R: Threads + Wait + Sync, F: FontSource + Send, O: Output, I: Input>
         (λ x. DrewOne (record { library = F.library; faults = F.faults; loads = F.loads }) known
         bench.now sheet.now (record {
           left = I.left;
+          taken = I.taken;
+          ended = I.ended;
           reads = I.faults;
           written = O.written;
           writes = O.faults;
@@ -107,8 +109,14 @@ fn draw_sharers<R: Threads + Wait + Sync, F: FontSource + Send, O: Output, I: In
     ensures drew { (d : _) → SharersDrew (drawing_with (setup_with known plan.now.settings.now)
         (cache_limits plan.now.settings.now)
         (record { library = F.library; faults = F.faults; loads = F.loads })
-        (record { left = I.left; reads = I.faults; written = O.written; writes = O.faults })
-        jobs.old jobs.new d workers.old workers.new) known bench.now plan.now.documents.now first
+        (record {
+          left = I.left;
+          taken = I.taken;
+          ended = I.ended;
+          reads = I.faults;
+          written = O.written;
+          writes = O.faults;
+        }) jobs.old jobs.new d workers.old workers.new) known bench.now plan.now.documents.now first
         (length jobs.old) }
     ensures left_alone { LeftAlone plan.now.documents.now first jobs.old jobs.new }
     ensures history { (k : ℕ) (d : _) → (slice_index_or jobs.new k d).history
@@ -172,8 +180,14 @@ fn draw_cache<R: Threads + Wait + Sync, F: FontSource + Send, O: Output, I: Inpu
     ensures cache { (d : _) → KeepsCache (drawing_with (setup_with known plan.now.settings.now)
         (cache_limits plan.now.settings.now)
         (record { library = F.library; faults = F.faults; loads = F.loads })
-        (record { left = I.left; reads = I.faults; written = O.written; writes = O.faults })
-        jobs.old jobs.new d workers.old workers.new) plan.now.documents.now first }
+        (record {
+          left = I.left;
+          taken = I.taken;
+          ended = I.ended;
+          reads = I.faults;
+          written = O.written;
+          writes = O.faults;
+        }) jobs.old jobs.new d workers.old workers.new) plan.now.documents.now first }
     ensures left_alone { LeftAlone plan.now.documents.now first jobs.old jobs.new }
     ensures history { (k : ℕ) (d : _) → k ≢ first → (slice_index_or jobs.new k d).history
         ≡ (slice_index_or jobs.old k d).history }
@@ -236,8 +250,14 @@ pub fn draw_caches<R: Threads + Wait + Sync, F: FontSource + Send, O: Output, I:
         → KeepsCache (drawing_with (setup_with known plan.now.settings.now)
         (cache_limits plan.now.settings.now)
         (record { library = F.library; faults = F.faults; loads = F.loads })
-        (record { left = I.left; reads = I.faults; written = O.written; writes = O.faults })
-        jobs.old jobs.new d workers.old workers.new) plan.now.documents.now first }
+        (record {
+          left = I.left;
+          taken = I.taken;
+          ended = I.ended;
+          reads = I.faults;
+          written = O.written;
+          writes = O.faults;
+        }) jobs.old jobs.new d workers.old workers.new) plan.now.documents.now first }
     ensures others { (k : ℕ) (d : _) → document_at plan.now.documents.now k ≡ None
         → slice_index_or jobs.new k d ≡ slice_index_or jobs.old k d }
     ensures input { (k : ℕ) (d : _)

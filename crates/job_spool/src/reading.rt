@@ -33,6 +33,8 @@ fn read_one<I: Input, O: Output>(alloc: Global, job: &mut Job<I, O>) -> Option<V
     requires { job.old.status ≡ 9 }
     ensures { HasText (record {
       left = I.left;
+      taken = I.taken;
+      ended = I.ended;
       reads = I.faults;
       written = O.written;
       writes = O.faults;
@@ -58,6 +60,8 @@ pub fn read_inputs<I: Input, O: Output>(
     ensures texts { IfOk result (λ texts. (k : ℕ) (d : _) → k < length jobs.old
         → HasText (record {
           left = I.left;
+          taken = I.taken;
+          ended = I.ended;
           reads = I.faults;
           written = O.written;
           writes = O.faults;
@@ -66,6 +70,8 @@ pub fn read_inputs<I: Input, O: Output>(
     ensures refused { OnErr result ((k : ℕ) (d : _) → k < length jobs.old
         → HasText (record {
           left = I.left;
+          taken = I.taken;
+          ended = I.ended;
           reads = I.faults;
           written = O.written;
           writes = O.faults;

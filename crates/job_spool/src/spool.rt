@@ -101,6 +101,8 @@ fn draw_jobs<R: Threads + Wait + Sync, F: FontSource + Send, O: Output, I: Input
         (record { library = F.library; faults = F.faults; loads = F.loads }) (length jobs.old)
         (jobs_change (record {
           left = I.left;
+          taken = I.taken;
+          ended = I.ended;
           reads = I.faults;
           written = O.written;
           writes = O.faults;
@@ -157,8 +159,9 @@ fn status_of(refused: Option<u8>, taken: bool) -> u8
 /// failed.
 ///
 /// A worker has neither a seat nor results when handed in, and has drawn and loaded nothing, and
-/// each job's `history` is empty. What is said of fonts holds for the files `told`, where the
-/// source of each worker is known to have these.
+/// each job's `history` is empty. What is said of a document is said of the bytes that reads of its
+/// job's input gave, and they are those that it had left, where these are known. What is said of
+/// fonts holds for the files `told`, where the source of each worker is known to have these.
 pub fn spool_run<R: Threads + Wait + Sync, I: Input, F: FontSource + Send, O: Output, N: Output>(
     rt: &R,
     alloc: Global,
@@ -192,6 +195,8 @@ pub fn spool_run<R: Threads + Wait + Sync, I: Input, F: FontSource + Send, O: Ou
         (record { library = F.library; faults = F.faults; loads = F.loads }) (length jobs.old)
         (jobs_change (record {
           left = I.left;
+          taken = I.taken;
+          ended = I.ended;
           reads = I.faults;
           written = O.written;
           writes = O.faults;

@@ -90,7 +90,7 @@ pub draw_sharers-requires : goal.draw_sharers-requires
 draw_sharers-requires g c κs within =
     let q = c.requires.1.1.1.1.1.1 in
     let sources : Sources _ = record { library = g.F.FontSource.library; faults = g.F.FontSource.faults; loads = g.F.FontSource.loads } in
-    let view : JobView _ _ = record { left = g.I.Input.left; reads = g.I.Input.faults; written = g.O.Output.written; writes = g.O.Output.faults } in
+    let view : JobView _ _ = record { left = g.I.Input.left; taken = g.I.Input.taken; ended = g.I.Input.ended; reads = g.I.Input.faults; written = g.O.Output.written; writes = g.O.Output.faults } in
     let settings = c.args.plan.now.settings.now in
     let given : Setup = setup_with g.known settings in
     let limits : Limits = cache_limits settings in
@@ -176,7 +176,7 @@ pub returns-clause-cache : goal.returns-clause-cache
 returns-clause-cache g c =
     let q = c.requires.1.1.1.1.1.1 in
     let sources : Sources _ = record { library = g.F.FontSource.library; faults = g.F.FontSource.faults; loads = g.F.FontSource.loads } in
-    let view : JobView _ _ = record { left = g.I.Input.left; reads = g.I.Input.faults; written = g.O.Output.written; writes = g.O.Output.faults } in
+    let view : JobView _ _ = record { left = g.I.Input.left; taken = g.I.Input.taken; ended = g.I.Input.ended; reads = g.I.Input.faults; written = g.O.Output.written; writes = g.O.Output.faults } in
     let settings = c.args.plan.now.settings.now in
     let given : Setup = setup_with g.known settings in
     let limits : Limits = cache_limits settings in
@@ -276,7 +276,7 @@ pub returns-clause-resting : goal.returns-clause-resting
 returns-clause-resting g c =
     let q = c.requires.1.1.1.1.1.1 in
     let sources : Sources _ = record { library = g.F.FontSource.library; faults = g.F.FontSource.faults; loads = g.F.FontSource.loads } in
-    let view : JobView _ _ = record { left = g.I.Input.left; reads = g.I.Input.faults; written = g.O.Output.written; writes = g.O.Output.faults } in
+    let view : JobView _ _ = record { left = g.I.Input.left; taken = g.I.Input.taken; ended = g.I.Input.ended; reads = g.I.Input.faults; written = g.O.Output.written; writes = g.O.Output.faults } in
     let settings = c.args.plan.now.settings.now in
     let given : Setup = setup_with g.known settings in
     let limits : Limits = cache_limits settings in

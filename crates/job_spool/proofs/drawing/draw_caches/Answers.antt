@@ -90,7 +90,7 @@ pub loop-first-preserved : goal.loop-first-preserved
 loop-first-preserved g c =
     let q = c.requires.1.1.1.1.1.1 in
     let sources : Sources _ = record { library = g.F.FontSource.library; faults = g.F.FontSource.faults; loads = g.F.FontSource.loads } in
-    let view : JobView _ _ = record { left = g.I.Input.left; reads = g.I.Input.faults; written = g.O.Output.written; writes = g.O.Output.faults } in
+    let view : JobView _ _ = record { left = g.I.Input.left; taken = g.I.Input.taken; ended = g.I.Input.ended; reads = g.I.Input.faults; written = g.O.Output.written; writes = g.O.Output.faults } in
     let settings = c.args.plan.now.settings.now in
     let given = setup_with g.known settings in
     let limits = cache_limits settings in

@@ -16,7 +16,7 @@ abbrev pub invariant-loop-first : goal.invariant-loop-first
 invariant-loop-first g l = record {
   caches : (d : _) (j : ℕ) → j < l.first
       → KeepsCache (drawing_with (setup_with g.known l.plan.settings.now) (cache_limits l.plan.settings.now) (record { library = g.F.FontSource.library; faults = g.F.FontSource.faults; loads = g.F.FontSource.loads })
-      (record { left = g.I.Input.left; reads = g.I.Input.faults; written = g.O.Output.written; writes = g.O.Output.faults }) l.initial.jobs l.jobs d l.initial.workers l.workers) l.plan.documents.now j;
+      (record { left = g.I.Input.left; taken = g.I.Input.taken; ended = g.I.Input.ended; reads = g.I.Input.faults; written = g.O.Output.written; writes = g.O.Output.faults }) l.initial.jobs l.jobs d l.initial.workers l.workers) l.plan.documents.now j;
   untouched : (j k : ℕ) (d : _) → l.first ≤ j → IsSome (sharer l.plan.documents.now j k) → get_or l.jobs k d ≡ get_or l.initial.jobs k d;
   others : (k : ℕ) (d : _) → document_at l.plan.documents.now k ≡ None → get_or l.jobs k d ≡ get_or l.initial.jobs k d;
   input : (k : ℕ) (d : _) → (get_or l.jobs k d).input ≡ (get_or l.initial.jobs k d).input;

@@ -23,7 +23,7 @@ pub loop-k-init : goal.loop-k-init
 loop-k-init g c =
     let q = c.requires.1.1.1.1.1.1 in
     let sources : Sources _ = record { library = g.F.FontSource.library; faults = g.F.FontSource.faults; loads = g.F.FontSource.loads } in
-    let view : JobView _ _ = record { left = g.I.Input.left; reads = g.I.Input.faults; written = g.O.Output.written; writes = g.O.Output.faults } in
+    let view : JobView _ _ = record { left = g.I.Input.left; taken = g.I.Input.taken; ended = g.I.Input.ended; reads = g.I.Input.faults; written = g.O.Output.written; writes = g.O.Output.faults } in
     let settings = c.args.plan.now.settings.now in
     let ws = c.args.workers.now in
     let jobs = c.args.jobs.now in
@@ -106,7 +106,7 @@ pub loop-k-preserved : goal.loop-k-preserved
 loop-k-preserved g c =
     let q = c.requires.1.1.1.1.1.1 in
     let sources : Sources _ = record { library = g.F.FontSource.library; faults = g.F.FontSource.faults; loads = g.F.FontSource.loads } in
-    let view : JobView _ _ = record { left = g.I.Input.left; reads = g.I.Input.faults; written = g.O.Output.written; writes = g.O.Output.faults } in
+    let view : JobView _ _ = record { left = g.I.Input.left; taken = g.I.Input.taken; ended = g.I.Input.ended; reads = g.I.Input.faults; written = g.O.Output.written; writes = g.O.Output.faults } in
     let settings = c.args.plan.now.settings.now in
     let given = setup_with g.known settings in
     let limits = cache_limits settings in
@@ -161,6 +161,6 @@ pub returns-clause-drew : goal.returns-clause-drew
 returns-clause-drew g c =
     let all : c.loop-k.k ≡ length c.args.jobs.now = search rules in
     let sources : Sources _ = record { library = g.F.FontSource.library; faults = g.F.FontSource.faults; loads = g.F.FontSource.loads } in
-    let view : JobView _ _ = record { left = g.I.Input.left; reads = g.I.Input.faults; written = g.O.Output.written; writes = g.O.Output.faults } in
+    let view : JobView _ _ = record { left = g.I.Input.left; taken = g.I.Input.taken; ended = g.I.Input.ended; reads = g.I.Input.faults; written = g.O.Output.written; writes = g.O.Output.faults } in
     let settings = c.args.plan.now.settings.now in
     λ d. subst (λ (n : ℕ). SharersDrew (drawing_with (setup_with g.known settings) (cache_limits settings) sources view c.args.jobs.now c.loop-k.jobs d c.args.workers.now c.loop-k.workers) g.known c.args.bench.now c.args.plan.now.documents.now c.args.first n) all (c.loop-k.invariant.drew d)

@@ -10,7 +10,7 @@ pub loop-k-preserved : goal.loop-k-preserved
 loop-k-preserved g c =
     let i = c.loop-k.k in
     let inv = c.loop-k.invariant in
-    let view : JobView _ _ = record { left = g.I.Input.left; reads = g.I.Input.faults; written = g.O.Output.written; writes = g.O.Output.faults } in
+    let view : JobView _ _ = record { left = g.I.Input.left; taken = g.I.Input.taken; ended = g.I.Input.ended; reads = g.I.Input.faults; written = g.O.Output.written; writes = g.O.Output.faults } in
     let xs = c.begin.new.jobs in
     let ws = c.loop-k.jobs in
     let v = c.read_one-text.new.job in
@@ -30,7 +30,7 @@ loop-k-preserved g c =
 
 pub returns-clause-texts : goal.returns-clause-texts
 returns-clause-texts g c =
-    let view : JobView _ _ = record { left = g.I.Input.left; reads = g.I.Input.faults; written = g.O.Output.written; writes = g.O.Output.faults } in
+    let view : JobView _ _ = record { left = g.I.Input.left; taken = g.I.Input.taken; ended = g.I.Input.ended; reads = g.I.Input.faults; written = g.O.Output.written; writes = g.O.Output.faults } in
     let ws = c.loop-k.jobs in
     let long : length c.begin.new.jobs ≡ length c.args.jobs.now = search rules in
     let same : length ws ≡ length c.begin.new.jobs = search rules in
@@ -42,7 +42,7 @@ pub returns-in_err-push-clause-refused : goal.returns-in_err-push-clause-refused
 returns-in_err-push-clause-refused g c =
     let i = c.loop-k.k in
     let inv = c.loop-k.invariant in
-    let view : JobView _ _ = record { left = g.I.Input.left; reads = g.I.Input.faults; written = g.O.Output.written; writes = g.O.Output.faults } in
+    let view : JobView _ _ = record { left = g.I.Input.left; taken = g.I.Input.taken; ended = g.I.Input.ended; reads = g.I.Input.faults; written = g.O.Output.written; writes = g.O.Output.faults } in
     let xs = c.begin.new.jobs in
     let ws = c.loop-k.jobs in
     let v = c.read_one-text.new.job in

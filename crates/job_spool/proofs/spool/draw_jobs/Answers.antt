@@ -18,7 +18,7 @@ pub returns-in_default : goal.returns-in_default
 returns-in_default g c =
     let q = c.requires.1.1.1.1.1.1 in
     let sources : Sources _ = record { library = g.F.FontSource.library; faults = g.F.FontSource.faults; loads = g.F.FontSource.loads } in
-    let view : JobView _ _ = record { left = g.I.Input.left; reads = g.I.Input.faults; written = g.O.Output.written; writes = g.O.Output.faults } in
+    let view : JobView _ _ = record { left = g.I.Input.left; taken = g.I.Input.taken; ended = g.I.Input.ended; reads = g.I.Input.faults; written = g.O.Output.written; writes = g.O.Output.faults } in
     let runs = c.runs.ensures in
     let settings = c.args.settings.now in
     let given : Setup = setup_with g.known settings in
@@ -32,7 +32,7 @@ pub returns-in_default-index_texts : goal.returns-in_default-index_texts
 returns-in_default-index_texts g c =
     let q = c.requires.1.1.1.1.1.1 in
     let sources : Sources _ = record { library = g.F.FontSource.library; faults = g.F.FontSource.faults; loads = g.F.FontSource.loads } in
-    let view : JobView _ _ = record { left = g.I.Input.left; reads = g.I.Input.faults; written = g.O.Output.written; writes = g.O.Output.faults } in
+    let view : JobView _ _ = record { left = g.I.Input.left; taken = g.I.Input.taken; ended = g.I.Input.ended; reads = g.I.Input.faults; written = g.O.Output.written; writes = g.O.Output.faults } in
     let runs = c.runs.ensures in
     let settings = c.args.settings.now in
     let given : Setup = setup_with g.known settings in
@@ -48,7 +48,7 @@ pub returns-in_default-share_caches : goal.returns-in_default-share_caches
 returns-in_default-share_caches g c =
     let q = c.requires.1.1.1.1.1.1 in
     let sources : Sources _ = record { library = g.F.FontSource.library; faults = g.F.FontSource.faults; loads = g.F.FontSource.loads } in
-    let view : JobView _ _ = record { left = g.I.Input.left; reads = g.I.Input.faults; written = g.O.Output.written; writes = g.O.Output.faults } in
+    let view : JobView _ _ = record { left = g.I.Input.left; taken = g.I.Input.taken; ended = g.I.Input.ended; reads = g.I.Input.faults; written = g.O.Output.written; writes = g.O.Output.faults } in
     let runs = c.runs.ensures in
     let settings = c.args.settings.now in
     let given : Setup = setup_with g.known settings in
@@ -67,7 +67,7 @@ pub draw_caches-requires : goal.draw_caches-requires
 draw_caches-requires g c κs within =
     let q = c.requires.1.1.1.1.1.1 in
     let sources : Sources _ = record { library = g.F.FontSource.library; faults = g.F.FontSource.faults; loads = g.F.FontSource.loads } in
-    let view : JobView _ _ = record { left = g.I.Input.left; reads = g.I.Input.faults; written = g.O.Output.written; writes = g.O.Output.faults } in
+    let view : JobView _ _ = record { left = g.I.Input.left; taken = g.I.Input.taken; ended = g.I.Input.ended; reads = g.I.Input.faults; written = g.O.Output.written; writes = g.O.Output.faults } in
     let settings = c.args.settings.now in
     let given : Setup = setup_with g.known settings in
     let xs = c.args.jobs.now in
@@ -129,7 +129,7 @@ pub returns : goal.returns
 returns g c =
     let q = c.requires.1.1.1.1.1.1 in
     let sources : Sources _ = record { library = g.F.FontSource.library; faults = g.F.FontSource.faults; loads = g.F.FontSource.loads } in
-    let view : JobView _ _ = record { left = g.I.Input.left; reads = g.I.Input.faults; written = g.O.Output.written; writes = g.O.Output.faults } in
+    let view : JobView _ _ = record { left = g.I.Input.left; taken = g.I.Input.taken; ended = g.I.Input.ended; reads = g.I.Input.faults; written = g.O.Output.written; writes = g.O.Output.faults } in
     let runs = c.runs.ensures in
     let settings = c.args.settings.now in
     let given : Setup = setup_with g.known settings in

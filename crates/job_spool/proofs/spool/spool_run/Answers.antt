@@ -63,7 +63,7 @@ pub returns-clause-promises : goal.returns-clause-promises
 returns-clause-promises g c =
     let q = c.requires.1.1.1.1.1.1.1 in
     let sources : Sources _ = record { library = g.F.FontSource.library; faults = g.F.FontSource.faults; loads = g.F.FontSource.loads } in
-    let view : JobView _ _ = record { left = g.I.Input.left; reads = g.I.Input.faults; written = g.O.Output.written; writes = g.O.Output.faults } in
+    let view : JobView _ _ = record { left = g.I.Input.left; taken = g.I.Input.taken; ended = g.I.Input.ended; reads = g.I.Input.faults; written = g.O.Output.written; writes = g.O.Output.faults } in
     let n = c.in-Some.numbers in
     let ws = c.args.workers.now in
     let drawn = c.draw_jobs.new.workers in
