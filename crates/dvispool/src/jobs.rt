@@ -2,7 +2,7 @@
 ghost use Rattle.std.specs.Prelude.{◌≡◌, ◌<◌, [], ℕ, IfOk, length, slice_index_or};
 
 use job_spool::{Job, Pair};
-use real_outside::{FileInput, FileOutput};
+use real_streams::{FileInput, FileOutput};
 use std::alloc::{AllocError as NoMemory, Global};
 use std::rt::Files;
 

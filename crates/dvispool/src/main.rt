@@ -9,9 +9,11 @@ mod jobs;
 
 use job_spool::{SpoolStop, spool_pairs, spool_run};
 use jobs::jobs_of;
-use real_outside::{ToWriter, workers_over};
+use real_outside::workers_over;
+use real_streams::ToWriter;
 use std::env::{self, VarError};
 use std::io::ErrorKind;
+use std::marker::Brand;
 use std::path::PathBuf;
 use std::process::ExitCode;
 
@@ -66,7 +68,7 @@ fn main(rt: HostRuntime) -> ExitCode {
     let Ok(mut workers) = workers_over(&rt, alloc, &folder) else {
         return ExitCode::from(NO_MEMORY);
     };
-    let mut notes = ToWriter::new(rt.stderr());
+    let mut notes = ToWriter::<Brand, _>::new(rt.stderr());
     let status = spool_run(&rt, alloc, &words, &mut jobs, &mut workers, &mut notes);
     ExitCode::from(status)
 }
