@@ -1,7 +1,7 @@
-# make            proves every crate and builds the program, with one line a crate (JOBS=N: N at a time)
+# make            proves every crate and builds the two programs, with one line a crate (JOBS=N: N at a time)
 # make sample     draws the sample's page and says where it lies
 # make check      the gate: rt ci
-# make install    installs the program, its scripts and their manual pages below PREFIX (with DESTDIR in front)
+# make install    installs the programs, their scripts and the manual pages below PREFIX (with DESTDIR in front)
 # make uninstall  removes what install put there
 # make clean      removes what building left
 PREFIX = /usr/local
@@ -13,12 +13,18 @@ MAN = $(DESTDIR)$(PREFIX)/share/man/man1
 SHARE = $(DESTDIR)$(PREFIX)/share/dvipbm
 
 PROGRAM = crates/dvipbm/out/dvipbm
+SPOOL = crates/dvispool/out/dvispool
 SOURCES = crates.txt $(shell find crates -name out -prune -o \( -name '*.rt' -o -name '*.antt' \) -print)
 
-all: $(PROGRAM)
+all: $(PROGRAM) $(SPOOL)
 
+# One call builds both.
 $(PROGRAM): $(SOURCES)
 	tools/build $(JOBS)
+	@touch $@
+
+$(SPOOL): $(PROGRAM)
+	@test -x $@ || tools/build $(JOBS)
 	@touch $@
 
 sample: $(PROGRAM)
@@ -30,9 +36,11 @@ check:
 	rt ci
 
 install:
-	@test -x $(PROGRAM) || { echo "install: there is no $(PROGRAM): run make first" >&2; exit 1; }
+	@for file in $(PROGRAM) $(SPOOL); do \
+	  test -x $$file || { echo "install: there is no $$file: run make first" >&2; exit 1; }; \
+	done
 	mkdir -p "$(BIN)" "$(MAN)" "$(SHARE)/tools" "$(SHARE)/docs/recipes"
-	install -m 755 $(PROGRAM) "$(BIN)/dvipbm"
+	install -m 755 $(PROGRAM) $(SPOOL) "$(BIN)"
 	install -m 644 docs/man/*.1 "$(MAN)"
 	install -m 644 VERSION "$(SHARE)"
 	for file in tools/collect-fonts tools/*.py docs/recipes/*; do \
@@ -44,8 +52,8 @@ install:
 	for file in tools/collect-fonts docs/recipes/*; do \
 	  name=dvipbm-$${file##*/}; \
 	  if [ -x "$$file" ] && [ "$$name" != dvipbm-cups-filter ]; then \
-	    printf '#!/bin/sh\n# %s: see dvipbm-recipes(1).\nDVIPBM=$${DVIPBM:-"%s/bin/dvipbm"}\nexport DVIPBM\nexec "%s/share/dvipbm/%s" "$$@"\n' \
-	      "$$name" "$$place" "$$place" "$$file" > "$(BIN)/$$name" && chmod 755 "$(BIN)/$$name" && \
+	    printf '#!/bin/sh\n# %s: see dvipbm-recipes(1).\nDVIPBM=$${DVIPBM:-"%s/bin/dvipbm"}\nDVISPOOL=$${DVISPOOL:-"%s/bin/dvispool"}\nexport DVIPBM DVISPOOL\nexec "%s/share/dvipbm/%s" "$$@"\n' \
+	      "$$name" "$$place" "$$place" "$$place" "$$file" > "$(BIN)/$$name" && chmod 755 "$(BIN)/$$name" && \
 	    echo '.so man1/dvipbm-recipes.1' > "$(MAN)/$$name.1" && chmod 644 "$(MAN)/$$name.1" || exit 1; \
 	  fi; \
 	done
@@ -54,7 +62,7 @@ uninstall:
 	for file in "$(SHARE)"/tools/* "$(SHARE)"/docs/recipes/*; do \
 	  rm -f "$(BIN)/dvipbm-$${file##*/}" "$(MAN)/dvipbm-$${file##*/}.1" || exit 1; \
 	done
-	rm -f "$(BIN)/dvipbm" "$(MAN)/dvipbm.1" "$(MAN)/dvipbm-recipes.1"
+	rm -f "$(BIN)/dvipbm" "$(BIN)/dvispool" "$(MAN)/dvipbm.1" "$(MAN)/dvispool.1" "$(MAN)/dvipbm-recipes.1"
 	rm -rf "$(SHARE)"
 
 clean:

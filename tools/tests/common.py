@@ -5,7 +5,9 @@ TOP = os.path.dirname(os.path.dirname(os.path.dirname(os.path.abspath(__file__))
 PROGRAM = os.environ.get('DVIPBM', f'{TOP}/crates/dvipbm/out/dvipbm')
 SAMPLE = f'{TOP}/docs/sample'
 RECIPES = f'{TOP}/docs/recipes'
+SPOOL = os.environ.get('DVISPOOL', f'{TOP}/crates/dvispool/out/dvispool')
 needs_program = unittest.skipUnless(os.path.exists(PROGRAM), f'there is no {PROGRAM}: run make first')
+needs_spool = unittest.skipUnless(os.path.exists(SPOOL), f'there is no {SPOOL}: run make first')
 
 
 def number(value, size):

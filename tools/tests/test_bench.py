@@ -1,5 +1,5 @@
 """bench/pages tells a program's own memory and not that of the script, and counts whole pages; bench/divisions finds what divides; bench/room
-says whether memory falls with the room of the cache.
+says whether memory falls with the room of the cache; bench/spool whether one run takes less than sixteen.
 """
 import os, re, subprocess, sys, tempfile, unittest
 
@@ -112,6 +112,29 @@ class Room(unittest.TestCase):
     def test_a_run_that_fails(self):
         ran = self.measured('room', 4)
         self.assertEqual((ran.returncode, 'status 4' in ran.stderr), (1, True), ran.stderr)
+
+
+class Spool(unittest.TestCase):
+    """Over programs that sleep: one for each document, the other once for all."""
+
+    def measured(self, each, once, status=0):
+        with tempfile.TemporaryDirectory() as room:
+            lines = ''.join(f'job {job} status 0\\n' for job in range(1, 16)) + f'job 16 status {status}\\n'
+            for name, text in (('dvipbm', f'cat >/dev/null; sleep {each}'), ('dvispool', f'sleep {once}; printf "{lines}looks 1\\nhits 0\\nloads 3\\n" >&2; exit {status}')):
+                with open(f'{room}/{name}', 'w') as file:
+                    file.write(f'#!/bin/sh\n{text}\n')
+                os.chmod(f'{room}/{name}', 0o755)
+            return subprocess.run([sys.executable, f'{TOP}/bench/spool', f'{room}/dvipbm', f'{room}/dvispool', os.devnull, room, '1'], capture_output=True, text=True)
+
+    def test_the_ratio_decides(self):
+        for each, once, status in ((0.05, 0.1, 0), (0, 3, 1)):
+            ran = self.measured(each, once)
+            self.assertEqual((ran.returncode, ran.stderr, len(ran.stdout.splitlines())), (status, '', 2), ran.stdout)
+            self.assertRegex(ran.stdout, r'\A1 worker: [\d.]+ s, 16 runs one after another [\d.]+ s: [\d.]+ of the time \(limit 0\.7\); processor')
+
+    def test_a_document_that_fails(self):
+        ran = self.measured(0, 0, 4)
+        self.assertEqual((ran.returncode, 'job 16 status 4' in ran.stderr), (1, True), ran.stderr)
 
 
 if __name__ == '__main__':

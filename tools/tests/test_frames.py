@@ -1,6 +1,6 @@
-"""The stack that the program needs: no function of it has a frame of more than 16 KiB."""
+"""The stack that the programs need: no function of theirs has a frame of more than 16 KiB."""
 import re, subprocess, unittest
-from common import PROGRAM, needs, needs_program
+from common import PROGRAM, SPOOL, needs, needs_program, needs_spool
 
 MOST = 16384
 
@@ -23,11 +23,18 @@ def frames_of(code):
     return frames
 
 
-@needs_program
+@needs('objdump')
 class Frames(unittest.TestCase):
-    @needs('objdump')
+    @needs_program
     def test_no_frame_is_large(self):
-        code = subprocess.run(['objdump', '-d', '--no-show-raw-insn', PROGRAM], capture_output=True, text=True, check=True).stdout
+        self.judge(PROGRAM)
+
+    @needs_spool
+    def test_none_of_the_spool_is(self):
+        self.judge(SPOOL)
+
+    def judge(self, program):
+        code = subprocess.run(['objdump', '-d', '--no-show-raw-insn', program], capture_output=True, text=True, check=True).stdout
         if 'x86-64' not in code:
             self.skipTest('the program is of another processor')
         frames = frames_of(code)

@@ -3,8 +3,9 @@ import glob, os, re, shutil, stat, subprocess, tempfile, unittest
 
 from common import PROGRAM, SAMPLE, TOP, needs, needs_program, run
 
-# In the place of the program: its words, the folder of its fonts, and whether it was called.
-STAND_IN = '#!/bin/sh\necho "dvipbm $*, fonts in $DVIPBM_FONTS" >&2\nexit 7\n'
+PROGRAMS = ['dvipbm', 'dvispool']
+# In the place of a program: its words, the folder of its fonts, and whether it was called.
+STAND_IN = '#!/bin/sh\necho "${0##*/} $*, fonts in $DVIPBM_FONTS" >&2\nexit 7\n'
 
 
 def text_of(name):
@@ -28,13 +29,14 @@ class Installed(unittest.TestCase):
             shutil.copytree(f'{TOP}/{folder}', f'{self.tree}/{folder}', ignore=shutil.ignore_patterns('tests', '__pycache__'))
         for file in ('Makefile', 'VERSION'):
             shutil.copy(f'{TOP}/{file}', self.tree)
-        self.program(STAND_IN.encode())
+        for name in PROGRAMS:
+            self.program(STAND_IN.encode(), name)
 
-    def program(self, data):
-        os.makedirs(f'{self.tree}/crates/dvipbm/out', exist_ok=True)
-        with open(f'{self.tree}/crates/dvipbm/out/dvipbm', 'wb') as file:
+    def program(self, data, name='dvipbm'):
+        os.makedirs(f'{self.tree}/crates/{name}/out', exist_ok=True)
+        with open(f'{self.tree}/crates/{name}/out/{name}', 'wb') as file:
             file.write(data)
-        os.chmod(f'{self.tree}/crates/dvipbm/out/dvipbm', 0o755)
+        os.chmod(f'{self.tree}/crates/{name}/out/{name}', 0o755)
 
     def make(self, *words):
         """Without what a make above this one hands on."""
@@ -47,7 +49,7 @@ class Installed(unittest.TestCase):
 
     def called(self, *words, **more):
         """A command from another folder, where the repository isn't there any more."""
-        environment = {name: value for name, value in os.environ.items() if not name.startswith('DVIPBM')}
+        environment = {name: value for name, value in os.environ.items() if not name.startswith(('DVIPBM', 'DVISPOOL'))}
         os.makedirs(f'{self.room}/elsewhere', exist_ok=True)
         ran = subprocess.run([f'{self.room}/place/bin/{words[0]}', *words[1:]], cwd=f'{self.room}/elsewhere', env={**environment, **more},
                              stdin=subprocess.DEVNULL, capture_output=True, text=True)
@@ -56,11 +58,11 @@ class Installed(unittest.TestCase):
     def test_what_is_put_where(self):
         self.make('install', f'DESTDIR={self.room}/root', 'PREFIX=/opt/x')
         found = self.installed(f'{self.room}/root')
-        self.assertEqual([name for name in found if name.startswith('opt/x/bin/')], sorted(f'opt/x/bin/{name}' for name in ['dvipbm', *commands()]))
+        self.assertEqual([name for name in found if name.startswith('opt/x/bin/')], sorted(f'opt/x/bin/{name}' for name in [*PROGRAMS, *commands()]))
         self.assertEqual([name for name in found if name.startswith('opt/x/share/man/')],
-                         sorted(f'opt/x/share/man/man1/{name}.1' for name in ['dvipbm', 'dvipbm-recipes', *commands()]))
+                         sorted(f'opt/x/share/man/man1/{name}.1' for name in [*PROGRAMS, 'dvipbm-recipes', *commands()]))
         self.assertEqual({name: oct(stat.S_IMODE(os.stat(f'{self.room}/root/{name}').st_mode)) for name in found if name.startswith('opt/x/bin/')},
-                         {f'opt/x/bin/{name}': '0o755' for name in ['dvipbm', *commands()]})
+                         {f'opt/x/bin/{name}': '0o755' for name in [*PROGRAMS, *commands()]})
         self.assertEqual([name for name in found if not name.startswith(('opt/x/bin/', 'opt/x/share/man/man1/', 'opt/x/share/dvipbm/'))], [])
         # The place that is baked in is the one without DESTDIR.
         with open(f'{self.room}/root/opt/x/bin/dvipbm-draw') as file:
@@ -110,6 +112,14 @@ class Installed(unittest.TestCase):
         with open(f'{self.room}/elsewhere/list') as file:
             self.assertRegex(file.read(), r'\n7\t0\t.*\tdvipbm , fonts in there\n\Z')
 
+    def test_the_spool_calls_both_programs_that_were_installed_with_it(self):
+        self.make('install', f'PREFIX={self.room}/place')
+        shutil.rmtree(self.tree)
+        os.makedirs(f'{self.room}/elsewhere/day')
+        shutil.copy(f'{SAMPLE}/sample.dvi', f'{self.room}/elsewhere/day')
+        status, _, errors = self.called('dvipbm-spool', 'day', SAMPLE)
+        self.assertEqual((status, errors.splitlines()[-1]), (1, 'day/sample.dvi: no pages: dvispool ended with 7'), errors)
+
     @needs_program
     @needs('pamsplit', 'pnmtopng', 'pngtopam')
     def test_a_document_becomes_a_picture_by_what_is_installed(self):
@@ -134,7 +144,7 @@ class Installed(unittest.TestCase):
     @needs('man', 'groff')
     def test_each_command_has_its_manual_page(self):
         self.make('install', f'PREFIX={self.room}/place')
-        for name in ['dvipbm', 'dvipbm-recipes', *commands()]:
+        for name in [*PROGRAMS, 'dvipbm-recipes', *commands()]:
             ran = subprocess.run(['man', '-M', f'{self.room}/place/share/man', name], env={**os.environ, 'MANPAGER': 'cat', 'PAGER': 'cat', 'LC_ALL': 'C'},
                                  stdin=subprocess.DEVNULL, capture_output=True, text=True)
             self.assertEqual((ran.returncode, name.removeprefix('dvipbm-') in ran.stdout), (0, True), ran.stderr)

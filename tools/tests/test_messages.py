@@ -41,6 +41,13 @@ class Messages(unittest.TestCase):
         lacking = [line for line in items if len(module.of_manual(manual.replace(f'{line}\n', '', 1))) != len(items) - 1]
         self.assertEqual(lacking, [])
 
+    def test_lines_of_dvispool(self):
+        formats, manual, module = read('FORMATS.md'), read('man/dvispool.1'), loaded()
+        lines, listed = module.of_spool(formats, manual)
+        self.assertEqual((lines, sorted(listed)), ({'dvispool: usage', 'job K status S', 'looks N', 'hits N', 'loads N'}, sorted(lines)))
+        self.assertEqual(module.of_spool(formats.replace('| `looks N` |', '| `looks N` | . |\n| `faults N` |'), manual)[0] - lines, {'faults N'})
+        self.assertEqual(lines - set(module.of_spool(formats, manual.replace('.It Li "hits N"\n', ''))[1]), {'hits N'})
+
     def test_options_calls_and_counts(self):
         module = loaded()
         formats, manual = module.others_of_formats(read('FORMATS.md')), module.others_of_manual(read('man/dvipbm.1'))

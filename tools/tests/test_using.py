@@ -1,7 +1,7 @@
 """The commands of docs/USING.md, in their order, in a fresh folder: each does what the text says of it."""
 import os, re, shutil, subprocess, tempfile, unittest
 
-from common import PROGRAM, TOP, environment_of, needs, needs_program
+from common import PROGRAM, SPOOL, TOP, environment_of, needs, needs_program, needs_spool
 
 # Programs in the place of those that reach other machines: a printer's queue that keeps what it was given, and machines that are folders.
 QUEUE = '#!/bin/sh\necho "$@" >>"$ROOM/printed"\nfor file; do :; done\ncmp "$file" "$file"\n'
@@ -23,6 +23,7 @@ def blocks():
 
 
 @needs_program
+@needs_spool
 class Using(unittest.TestCase):
     @needs('latex', 'mktexpk', 'mf', 'pamsplit', 'pnmtopng', 'pnmtops', 'gs', 'parallel', 'rsync', 'pamtotiff', 'timeout')
     def test_the_commands_in_their_order(self):
@@ -34,11 +35,12 @@ class Using(unittest.TestCase):
         for name in ('docs', 'tools', 'crates'):
             os.symlink(f'{TOP}/{name}', f'{fresh}/{name}')
         os.symlink(PROGRAM, f'{tools}/dvipbm')
+        os.symlink(SPOOL, f'{tools}/dvispool')
         for name, text in (('lp', QUEUE), ('machine', MACHINE)):
             with open(f'{tools}/{name}', 'w') as file:
                 file.write(text)
             os.chmod(f'{tools}/{name}', 0o755)
-        environment = environment_of(room, ROOM=room, DVIPBM=PROGRAM, PARALLEL_SSH=f'{tools}/machine', PATH=f'{tools}:{os.environ["PATH"]}')
+        environment = environment_of(room, ROOM=room, DVIPBM=PROGRAM, DVISPOOL=SPOOL, PARALLEL_SSH=f'{tools}/machine', PATH=f'{tools}:{os.environ["PATH"]}')
         said, sections = {}, []
         for section, block in blocks():
             ran = subprocess.run(['sh', '-euc', block], cwd=fresh, env=environment, stdin=subprocess.DEVNULL, capture_output=True, text=True,
@@ -59,6 +61,8 @@ class Using(unittest.TestCase):
             shown = re.findall(r'^dvipbm: page \d+ at .*', file.read(), re.M)
         self.assertEqual([re.sub(r' at \d+:', ' at N:', line) for line in lacks], [re.sub(r' at \d+:', ' at N:', line) for line in shown])
         self.assertIn('pages 2\n', said['Long documents'])
+        self.assertIn('job 1 status 0\njob 2 status 0\nlooks ', said['A printing system'])
+        self.assertEqual(sorted(os.listdir(f'{fresh}/day')), ['lost.dvi', 'lost.pbm', 'story.dvi', 'story.pbm'])
         with open(f'{room}/printed') as file:
             self.assertEqual([line.split()[-1] for line in file], ['story.pdf', 'story.ps', 'story.ras'])
 
@@ -75,6 +79,7 @@ class Using(unittest.TestCase):
             'Missing fonts': {'rough.pbm': b'P4\n2550 3300\n', 'story.pbm': b'P4\n2550 3300\n', 'few/cmr10.300pk': b''},
             'Long documents': {'story.pbm': b'P4\n2550 3300\n'},
             'A thousand documents': {'thousand/story.pbm': b'P4\n1240 1754\n', 'thousand/lost.pbm': b'P4\n1240 1754\n'},
+            'A printing system': {'story.pbm': b'P4\n2550 3300\n', 'lost.pbm': b'P4\n2550 3300\n'},
             'An archive': {'story.tiff': b'', 'pages.list': b'#status'},
             'A queue of CUPS': {'queue.pdf': b'%PDF'},
             'Documents from strangers': {'story.pbm': b'P4\n2550 3300\n', 'pages.list': b'#status'},
