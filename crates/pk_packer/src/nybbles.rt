@@ -72,7 +72,8 @@ impl Nybbles {
     {
         if self.half {
             let (upper, lower) = ((value / 256) as u8, (value % 256) as u8);
-            self.bytes.extend_from_slice(&[16 * self.high, 0, upper, lower])?;
+            self.bytes
+                .extend_from_slice(&[16 * self.high, 0, upper, lower])?;
             self.half = false;
             return Ok(());
         }

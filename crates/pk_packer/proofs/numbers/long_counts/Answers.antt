@@ -15,6 +15,13 @@ loop-beyond-preserved c =
       low = omega (arith, ap (λ (j : ℕ). 16 ^ j) (less d), i.power, c.loop-beyond-test.true, c.from.ensures);
     }
 
+pub returns-then-value-lt256-clause-counts : goal.returns-then-value-lt256-clause-counts
+returns-then-value-lt256-clause-counts c = λ f form.
+    let v : ℕ = c.args.value in
+    by_turn f ((270 - v) / 15) 3 5 (length (long_text (v + 15 * f)))
+    (λ below. long_before 2 v (v + 15 * f) (omega arith) c.requires.long (omega (arith, c.requires.long)) (omega arith) (omega (arith, below, c.if-value-lt256.true)))
+    (λ above. long_from 2 (v + 15 * f) (omega arith) (omega arith) (omega (arith, above, c.if-value-lt256.true)) (omega (arith, form, c.if-value-lt256.true)))
+
 pub returns-then-from-beyond-clause-counts : goal.returns-then-from-beyond-clause-counts
 returns-then-from-beyond-clause-counts c = λ f form.
     let d : ℕ = c.loop-beyond.digits in

@@ -1,4 +1,4 @@
-use Rattle.std.proofs.Common.{inl, inr, ◌+◌, ◌-◌, ◌*◌, arith}
+use Rattle.std.proofs.Common.{inl, inr, ◌-◌, ◌*◌, arith}
 use Rattle.std.proofs.lemmas.Bool.{cases_lt}
 use Rattle.pk_packer.proofs.FirstOther.{seen_in_word}
 use Rattle.pk_packer.proofs.row.end_in_words.Goals as goal
