@@ -1,4 +1,8 @@
-use denote.Param.Send.{sendable}
+use Rattle.real_streams.specs.contracts.fonts.OpenedFonts.{the_row as opened_row}
+use Rattle.real_streams.specs.contracts.folder.FolderOpener.{the_row as opener_row}
+use Rattle.std.specs.contracts.rt.LibcRuntime.{the_row as runtime_row}
+use denote.Param.Send.{IsSend, sendable}
+use Rattle.real_streams.proofs.folder.FolderOpener.TheSendSync.{the_send as opener_send}
 use Rattle.real_streams.proofs.fonts.OpenedFonts.TheSendSync.{the_send}
 use Rattle.std.proofs.Common.{◌≡◌, ◌⊎◌, ◌≤◌, ◌∙◌, ℕ, List, [], Some, None, Err, inl, inr, length, get_or, ap, sym, subst, arith, rules}
 use Rattle.std.specs.Prelude.{map, string_bytes}
@@ -25,6 +29,7 @@ fits_line words read jobs workers same all either numbers is =
 
 pub spool_run-status-requires : goal.spool_run-status-requires
 spool_run-status-requires g c κs =
+    let fonts_send : (ℓ : _) → IsSend (opened_row (opener_row ℓ runtime_row)) = λ ℓ. the_send (opener_row ℓ runtime_row) (opener_send ℓ runtime_row (search (sendable, rules) fits 100000 depth 60)) in
     let made = c.in-Ok-workers_over.ensures in
     let ws = c.deref_mut-2.result.now in
     let same : ws ≡ c.in-Ok-workers_over.workers.items = c.deref_mut-2.ensures.value in
@@ -52,7 +57,7 @@ spool_run-status-requires g c κs =
             (
               search rules fits 100000 depth 60,
               (
-                search (sendable, rules, the_send) fits 100000 depth 60,
+                search (sendable, rules, fonts_send) fits 100000 depth 60,
                 (
                   search rules fits 100000 depth 60,
                   (
