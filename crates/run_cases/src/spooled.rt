@@ -1,4 +1,7 @@
 //! Runs over several documents, and what is told of them.
+ghost use Rattle.std.specs.Prelude.{◌≡◌, ◌<◌, ◌≤◌, [], ℕ, IsTrue, length, map, slice_index_or, string_bytes};
+ghost use Rattle.job_spool.specs.Promises.{ForNumbers};
+ghost use Rattle.job_spool.specs.Words.{pairs_of_words, spool_numbers as numbers_of_words};
 
 use crate::case::Case;
 use crate::outcome::some_workers;
@@ -34,7 +37,11 @@ fn name_files(alloc: Global, words: &mut Vec<String>, jobs: usize) -> Result<(),
 }
 
 // Whether there are as many jobs and workers as the arguments ask for, where they are a line.
-fn is_fit(alloc: Global, words: &[String], jobs: usize, workers: usize) -> bool {
+fn is_fit(alloc: Global, words: &[String], jobs: usize, workers: usize) -> bool
+    ensures { IsTrue result → ForNumbers (numbers_of_words (map string_bytes words.now)) (λ numbers.
+        (numbers.workers ≤ workers)
+        × (jobs ≡ length (pairs_of_words (map string_bytes words.now)))) }
+{
     let Some(numbers) = spool_numbers(words) else {
         return true;
     };
@@ -42,6 +49,19 @@ fn is_fit(alloc: Global, words: &[String], jobs: usize, workers: usize) -> bool 
         return false;
     };
     numbers.workers as usize <= workers && jobs == pairs.len()
+}
+
+// Whether no job has calls of a cache.
+fn are_fresh(jobs: &[TableJob]) -> bool
+    ensures { IsTrue result → (k : ℕ) (d : _) → k < length jobs.now
+        → (slice_index_or jobs.now k d).history.items ≡ [] }
+{
+    for job in jobs {
+        if !job.history.is_empty() {
+            return false;
+        }
+    }
+    true
 }
 
 // Adds the status of each job and its pages, a line each.
@@ -55,7 +75,8 @@ fn add_jobs(alloc: Global, text: &mut String, jobs: &[TableJob]) -> Result<(), N
 }
 
 /// What comes of a run over these jobs: the answer and the notes, and then for each job a line with
-/// its status and its pages.
+/// its status and its pages. `InvalidInput` comes where the words ask for other counts of jobs or
+/// workers, or a job has a history.
 pub fn spool<R: Threads + Wait + Sync>(
     rt: &R,
     alloc: Global,
@@ -67,7 +88,7 @@ pub fn spool<R: Threads + Wait + Sync>(
     let count = case.workers.max(1).min(32) as usize;
     let mut workers = some_workers(alloc, library, &case.failures, count)?;
     name_files(alloc, &mut case.words, jobs.len())?;
-    if !is_fit(alloc, &case.words, jobs.len(), count) {
+    if !are_fresh(jobs) || !is_fit(alloc, &case.words, jobs.len(), count) {
         return Err(ErrorKind::InvalidInput.into());
     }
     let answer = spool_run(rt, alloc, &case.words, jobs, &mut workers, &mut notes);
