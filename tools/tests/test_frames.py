@@ -38,7 +38,7 @@ class Frames(unittest.TestCase):
         if 'x86-64' not in code:
             self.skipTest('the program is of another processor')
         frames = frames_of(code)
-        self.assertGreater(len(frames), 100)
+        self.assertGreater(len(frames), 50)
         self.assertEqual({name: size for name, size in frames.items() if size > MOST}, {})
 
 
