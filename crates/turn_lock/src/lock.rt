@@ -13,7 +13,7 @@ use crate::seat::{Seat, TableSeat};
 use crate::sleepers::Sleepers;
 use crate::steps::{AskNext, Compare, Draw, HandOn, Peek, SplitOff, TakeIn, Turns};
 use crate::view::View;
-use crate::waiting::{LOOKS_IN_LINE, pause};
+use crate::waiting::LOOKS_IN_LINE;
 use atomic_table::{Refused, Table};
 use cache_core::{GhostCommon, Told};
 use std::alloc::{AllocFailed, Global};
@@ -169,7 +169,7 @@ impl<T: Told> TurnLock<T> {
                 return value;
             }
             if looks < LOOKS_IN_LINE {
-                pause(looks);
+                self.pause(looks);
                 looks += 1;
             } else {
                 self.sleep_in_line(rt, ticket);

@@ -2,29 +2,31 @@
 use crate::TurnLock;
 use crate::lock::{SERVING, TICKET};
 use cache_core::Told;
-use std::hint;
 use std::sync::Wait;
 
-// How often a seat without a ticket looks whether nobody has the turn, before it sleeps.
-const LOOKS: u32 = 8;
+// How often a seat without a ticket looks whether nobody has the turn, before it sleeps. All looks
+// take a few microseconds, as much as to sleep and be woken, and many times what a turn takes.
+const LOOKS: u32 = 100;
 
 // How often it does both before it draws a ticket all the same.
 const SLEEPS: u32 = 3;
 
 /// How often a seat with a ticket looks whether it is served, before it sleeps.
-pub(crate) const LOOKS_IN_LINE: u32 = 12;
+pub(crate) const LOOKS_IN_LINE: u32 = 100;
 
-// The longest time between two looks has 2 to this power of the processor's pauses.
+// The longest time between two looks is that of 2 to this power of loads.
 const MAX_PAUSE: u32 = 6;
 
-/// Lets some time pass after n looks: each time twice as much, up to a limit.
-pub(crate) fn pause(looks: u32) {
-    for _ in 0..1u32 << looks.min(MAX_PAUSE) {
-        hint::spin_loop();
-    }
-}
-
 impl<T: Told> TurnLock<T> {
+    /// Lets some time pass after n looks: each time twice as much, up to a limit. It is spent in
+    /// loads of a number that seldom changes, since `hint::spin_loop` takes ten cycles of one
+    /// processor and 140 of another, and nothing where a compiler leaves it out.
+    pub(crate) fn pause(&self, looks: u32) {
+        for _ in 0..1u32 << looks.min(MAX_PAUSE) {
+            self.sleepers.count();
+        }
+    }
+
     // Whether a seat has the turn, or waits in line.
     pub(crate) fn is_taken(&self) -> bool {
         let shared = &self.table.shared;
@@ -48,7 +50,7 @@ impl<T: Told> TurnLock<T> {
             if !self.is_taken() {
                 return true;
             }
-            pause(looks);
+            self.pause(looks);
         }
         false
     }
