@@ -8,7 +8,7 @@ use Rattle.packed_rows.specs.Packing.{pixel}
 abbrev pub Tells : List ℕ → ℕ → ℕ → Bool → ℕ → Type 0
 Tells row at size black word = word ≡ 0 → (x : ℕ) → 8 * at ≤ x → x < 8 * at + 8 * size → pixel row x ≡ black
 
-two : (row : List ℕ) (at size more both : ℕ) (black : Bool) (m n : ℕ) → both ≡ size + more → Tells row at size black m → Tells row (at + size) more black n → Tells row at both black (bit_or m n)
+pub two : (row : List ℕ) (at size more both : ℕ) (black : Bool) (m n : ℕ) → both ≡ size + more → Tells row at size black m → Tells row (at + size) more black n → Tells row at both black (bit_or m n)
 two row at size more both black m n sum left right none x low high = elim (cases_lt x (8 * at + 8 * size)) [
   | inl before ↦ left (omega (arith, none, le_or_l m n)) x low before
   | inr behind ↦ right (omega (arith, none, le_or_r m n)) x (omega (arith, behind)) (omega (arith, high, sum))

@@ -1,12 +1,12 @@
 //! Pixels of one colour, passed many words at a time.
 
-ghost use Rattle.std.specs.Prelude.{◌≡◌, ℕ, ◌+◌, ◌*◌, ◌^◌, ◌<◌, ◌≤◌, IsTrue, length};
+ghost use Rattle.std.specs.Prelude.{◌≡◌, ℕ, ◌+◌, ◌*◌, ◌^◌, ◌<◌, ◌≤◌, length};
 ghost use Rattle.packed_rows.specs.Packing.{pixel};
 
 use crate::words::word_at;
 
-/// The byte up to which a row's pixels have a colour, from a byte on: the row's end, or a byte of
-/// the word in which that colour ends.
+/// As far as blocks of 128 bytes have a colour, and then 64 more bytes, if they have it: where it
+/// ends in a block, it ends in the 64 bytes that follow.
 #[inline(always)]
 pub fn pass_blocks(row: &[u8], from: usize, black: bool) -> usize
     requires short { length row.now < 2 ^ 16 }
@@ -15,37 +15,71 @@ pub fn pass_blocks(row: &[u8], from: usize, black: bool) -> usize
     ensures most { result ≤ length row.now }
     ensures same { (x : ℕ) → 8 * from ≤ x → x < 8 * result → pixel row.now x ≡ black }
 {
-    let narrow = pass_64(row, from, black);
-    if narrow == row.len() {
-        return narrow;
-    }
-    pass_8(row, narrow, black)
+    let wide = pass_256(row, from, black);
+    pass_64(row, wide, black)
 }
 
-/// As far as blocks of 512 bytes have the colour.
+/// The byte up to which a row's last bytes have a colour: the row's end, or a byte of the word in
+/// which that colour ends. Most often they have it all, and are passed by the row's last 64 bytes.
 #[inline(always)]
-pub fn pass_512(row: &[u8], from: usize, black: bool) -> usize
+pub fn pass_rest(row: &[u8], from: usize, black: bool, at: usize) -> usize
+    requires short { length row.now < 2 ^ 16 }
+    requires inside { at ≤ length row.now }
+    requires ordered { from ≤ at }
+    requires behind { length row.now < at + 64 }
+    requires passed { (x : ℕ) → 8 * from ≤ x → x < 8 * at → pixel row.now x ≡ black }
+    ensures least { from ≤ result }
+    ensures most { result ≤ length row.now }
+    ensures same { (x : ℕ) → 8 * from ≤ x → x < 8 * result → pixel row.now x ≡ black }
+{
+    if at == row.len() || from + 64 <= row.len() && others_64(row, row.len() - 64, black) == 0 {
+        return row.len();
+    }
+    pass_8(row, at, black)
+}
+
+// As far as blocks of 128 bytes have the colour, two in one turn.
+#[inline(always)]
+fn pass_256(row: &[u8], from: usize, black: bool) -> usize
     requires short { length row.now < 2 ^ 16 }
     requires inside { from ≤ length row.now }
     ensures least { from ≤ result }
     ensures most { result ≤ length row.now }
     ensures same { (x : ℕ) → 8 * from ≤ x → x < 8 * result → pixel row.now x ≡ black }
 {
-    if row.len() < 512 {
-        return from;
+    if row.len() < 256 {
+        return pass_128(row, from, black);
     }
-    let last = row.len() - 512;
+    let last = row.len() - 256;
     let mut at = from;
     while at <= last {
-        if !are_512(row, at, black) {
+        if others_128(row, at, black) != 0 {
             return at;
         }
-        at += 512;
+        if others_128(row, at + 128, black) != 0 {
+            return at + 128;
+        }
+        at += 256;
     }
-    at
+    pass_128(row, at, black)
 }
 
-// As far as blocks of 64 bytes have the colour. Those that are left are passed by the last 64.
+// Past 128 bytes, if they have the colour.
+#[inline(always)]
+fn pass_128(row: &[u8], from: usize, black: bool) -> usize
+    requires short { length row.now < 2 ^ 16 }
+    requires inside { from ≤ length row.now }
+    ensures least { from ≤ result }
+    ensures most { result ≤ length row.now }
+    ensures same { (x : ℕ) → 8 * from ≤ x → x < 8 * result → pixel row.now x ≡ black }
+{
+    if from + 128 <= row.len() && others_128(row, from, black) == 0 {
+        return from + 128;
+    }
+    from
+}
+
+// Past 64 bytes, if they have the colour.
 #[inline(always)]
 fn pass_64(row: &[u8], from: usize, black: bool) -> usize
     requires short { length row.now < 2 ^ 16 }
@@ -54,21 +88,27 @@ fn pass_64(row: &[u8], from: usize, black: bool) -> usize
     ensures most { result ≤ length row.now }
     ensures same { (x : ℕ) → 8 * from ≤ x → x < 8 * result → pixel row.now x ≡ black }
 {
-    if row.len() < 64 {
-        return from;
+    if from + 64 <= row.len() && others_64(row, from, black) == 0 {
+        return from + 64;
     }
-    let last = row.len() - 64;
-    let mut at = from;
-    while at <= last {
-        if others_64(row, at, black) != 0 {
-            return at;
+    from
+}
+
+/// As far as the first seven words of 64 bytes have a colour.
+#[inline(always)]
+pub fn pass_words(row: &[u8], from: usize, black: bool) -> usize
+    requires short { length row.now < 2 ^ 16 }
+    requires inside { from + 64 ≤ length row.now }
+    ensures least { from ≤ result }
+    ensures word { result + 8 ≤ length row.now }
+    ensures same { (x : ℕ) → 8 * from ≤ x → x < 8 * result → pixel row.now x ≡ black }
+{
+    for i in 0..7 {
+        if others_8(row, from + 8 * i, black) != 0 {
+            return from + 8 * i;
         }
-        at += 64;
     }
-    if at < row.len() && others_64(row, last, black) == 0 {
-        return row.len();
-    }
-    at
+    from + 56
 }
 
 // As far as words have the colour.
@@ -87,36 +127,14 @@ fn pass_8(row: &[u8], from: usize, black: bool) -> usize
     at
 }
 
-// Whether 512 bytes have a colour. A run that ends among them has most often left their last word.
+// The pixels of the other colour in each word of 128 bytes, joined.
 #[inline(always)]
-fn are_512(row: &[u8], at: usize, black: bool) -> bool
+fn others_128(row: &[u8], at: usize, black: bool) -> u64
     requires short { length row.now < 2 ^ 16 }
-    requires inside { at + 512 ≤ length row.now }
-    ensures { IsTrue result → (x : ℕ) → 8 * at ≤ x → x < 8 * at + 4096 →
-        pixel row.now x ≡ black }
+    requires inside { at + 128 ≤ length row.now }
+    ensures { result ≡ 0 → (x : ℕ) → 8 * at ≤ x → x < 8 * at + 1024 → pixel row.now x ≡ black }
 {
-    if others_8(row, at + 504, black) != 0 {
-        return false;
-    }
-    others_512(row, at, black) == 0
-}
-
-// The pixels of the other colour in each word of 512 bytes, joined. There is no early end: a test
-// costs as much as joining another word.
-#[inline(always)]
-fn others_512(row: &[u8], at: usize, black: bool) -> u64
-    requires short { length row.now < 2 ^ 16 }
-    requires inside { at + 512 ≤ length row.now }
-    ensures { result ≡ 0 → (x : ℕ) → 8 * at ≤ x → x < 8 * at + 4096 → pixel row.now x ≡ black }
-{
-    others_64(row, at, black)
-        | others_64(row, at + 64, black)
-        | others_64(row, at + 128, black)
-        | others_64(row, at + 192, black)
-        | others_64(row, at + 256, black)
-        | others_64(row, at + 320, black)
-        | others_64(row, at + 384, black)
-        | others_64(row, at + 448, black)
+    others_64(row, at, black) | others_64(row, at + 64, black)
 }
 
 // The pixels of the other colour in each word of 64 bytes, joined.

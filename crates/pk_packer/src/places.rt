@@ -6,7 +6,7 @@ ghost use Rattle.pk_runs.specs.Numbers.{Item};
 ghost use Rattle.pk_packer.specs.Written.{first_colour, pixel_rows, with_rows, written_rows};
 ghost use Rattle.pk_packer.specs.Places.{IsPlace, items_from, row_of};
 
-use crate::row::run_end;
+use crate::row::{begins_black, run_end};
 use crate::rows::copies_below;
 use packed_rows::PackedBitmap;
 
@@ -47,7 +47,7 @@ pub fn row_begin(bits: &PackedBitmap, row: u32) -> Place
             black: false,
         };
     }
-    let black = bits.is_black(0, row);
+    let black = begins_black(bits.row(row));
     let end = colour_end(bits, 0, row, black);
     let copies = copies_below(bits, end, row);
     Place {

@@ -40,10 +40,11 @@ pub fn equal_below(bits: &PackedBitmap, column: u32, row: u32) -> u32
     0
 }
 
-// How many rows below a row equal it, up to the first that doesn't.
+// How many rows below a row equal it, up to the first that doesn't. There is a next row, which has
+// been looked at in a column already.
 #[inline(never)]
 fn count_equal(bits: &PackedBitmap, column: u32, row: u32) -> u32
-    requires inside { row < bits.now.height }
+    requires inside { row + 1 < bits.now.height }
     requires in_row { column < bits.now.width }
     ensures fit { row + 1 + result ≤ bits.now.height }
     ensures same { (k : ℕ) → k < result → row_of (pixel_rows bits.now) (row + 1 + k)
@@ -52,8 +53,8 @@ fn count_equal(bits: &PackedBitmap, column: u32, row: u32) -> u32
         ≡ row_of (pixel_rows bits.now) (row + 1 + result) → ⊥ }
 {
     let height = bits.height();
-    let mut n = 0;
-    while row + 1 + n < height && are_equal(bits, column, row, row + 1 + n) {
+    let mut n = u32::from(are_same(bits, row, row + 1));
+    while n > 0 && row + 1 + n < height && are_equal(bits, column, row, row + 1 + n) {
         n += 1;
     }
     n
@@ -66,15 +67,33 @@ fn are_equal(bits: &PackedBitmap, x: u32, y: u32, z: u32) -> bool
     requires lower { z < bits.now.height }
     ensures { IsTrue result ↔ (row_of (pixel_rows bits.now) y ≡ row_of (pixel_rows bits.now) z) }
 {
-    if !agree_at(bits, x, y, z) {
-        return false;
-    }
+    agree_at(bits, x, y, z) && are_same(bits, y, z)
+}
+
+// Whether two rows have the same pixels.
+fn are_same(bits: &PackedBitmap, y: u32, z: u32) -> bool
+    requires upper { y < bits.now.height }
+    requires lower { z < bits.now.height }
+    ensures { IsTrue result ↔ (row_of (pixel_rows bits.now) y ≡ row_of (pixel_rows bits.now) z) }
+{
     bits.row(y) == bits.row(z)
 }
 
-// Whether two rows have the same byte at a column: a quick test, which most rows fail.
+// Whether two rows have the same bytes at a column and before it: a quick test, which most rows
+// fail. Where a colour begins at the column, a row of one colour fails it.
 #[inline(always)]
 fn agree_at(bits: &PackedBitmap, x: u32, y: u32, z: u32) -> bool
+    requires in_row { x < bits.now.width }
+    requires upper { y < bits.now.height }
+    requires lower { z < bits.now.height }
+    ensures { row_of (pixel_rows bits.now) y ≡ row_of (pixel_rows bits.now) z → IsTrue result }
+{
+    have_same_byte(bits, x, y, z) && have_same_byte(bits, x.saturating_sub(1), y, z)
+}
+
+// Whether two rows have the same byte at a column.
+#[inline(always)]
+fn have_same_byte(bits: &PackedBitmap, x: u32, y: u32, z: u32) -> bool
     requires in_row { x < bits.now.width }
     requires upper { y < bits.now.height }
     requires lower { z < bits.now.height }

@@ -77,7 +77,8 @@ struct Below {
 }
 
 // The rows that equal a row of one colour, below it; none where the place isn't at the beginning of
-// a row. Most often the next row's first pixel tells already that there is none.
+// a row, nor where rows have more than seven bytes: those are passed by the search for their runs.
+// Most often the next row's first pixel tells already that there is none.
 fn same_below(bits: &PackedBitmap, place: Place) -> Below
     requires some { 1 ≤ bits.now.width }
     requires narrow { bits.now.width ≤ MAX_GLYPH_SIDE }
@@ -92,7 +93,7 @@ fn same_below(bits: &PackedBitmap, place: Place) -> Below
     ensures pixels { result.pixels ≡ result.rows * bits.now.width }
 {
     let next = place.row + 1;
-    if place.column > 0 || place.copies > 0 {
+    if place.column > 0 || place.copies > 0 || bits.width() > 56 {
         return Below { rows: 0, pixels: 0 };
     }
     if next < bits.height() && bits.is_black(0, next) != place.black {

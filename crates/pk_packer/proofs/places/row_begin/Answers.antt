@@ -2,7 +2,7 @@ use Rattle.std.proofs.Common.{◌≡◌, ◌∙◌, ◌<◌, inl, inr, ℕ, List
 use Rattle.std.proofs.lemmas.Bool.{cases_lt, le-ltb, lt-ltb}
 use Rattle.packed_rows.specs.Bitmap.{Bitmap}
 use Rattle.pk_packer.specs.Places.{row_of}
-use Rattle.pk_packer.proofs.Pixels.{dot_seen, one_colour, row_long, rows_high, two_colours}
+use Rattle.pk_packer.proofs.Pixels.{one_colour, pixel_seen, row_long, rows_high, two_colours}
 use Rattle.pk_packer.proofs.Placed.{begins_behind, begins_row}
 use Rattle.pk_packer.specs.Written.{pixel_rows}
 use Rattle.pk_packer.proofs.places.row_begin.Goals as goal
@@ -15,7 +15,8 @@ returns-clause-more c = λ items. begins_row (pixel_rows c.args.bits.now) c.args
 
 pub colour_end-end-requires-clause-begins : goal.colour_end-end-requires-clause-begins
 colour_end-end-requires-clause-begins c =
-    dot_seen c.args.bits.now c.args.row 0 (omega (arith, c.requires.low, c.if-row-height.false, c.height.ensures.value)) (omega (arith, c.requires.some)) ∙ sym c.is_black-black.ensures
+    pixel_seen c.args.bits.now c.args.row 0 c.row.result.now (omega (arith, c.requires.low, c.if-row-height.false, c.height.ensures.value)) (omega (arith, c.requires.some)) c.row.ensures.dots
+    ∙ sym c.begins_black-black.ensures
 
 pub copies_below-copies-requires-clause-colours : goal.copies_below-copies-requires-clause-colours
 copies_below-copies-requires-clause-colours c =
@@ -23,7 +24,7 @@ copies_below-copies-requires-clause-colours c =
     let row : List Bool = row_of (pixel_rows r) c.args.row in
     let low : c.args.row < r.height = omega (arith, c.requires.low, c.if-row-height.false, c.height.ensures.value) in
     let long : length row ≡ r.width = row_long r c.args.row low in
-    let black : Bool = c.is_black-black.result in
+    let black : Bool = c.begins_black-black.result in
     let end : ℕ = c.colour_end-end.result in
     elim (cases_lt c.colour_end-end.result r.width) [
       | inl within ↦

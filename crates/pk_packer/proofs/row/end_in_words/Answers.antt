@@ -6,25 +6,19 @@ use Rattle.pk_packer.proofs.row.end_in_words.Goals as goal
 pub returns-then-end-start-clause-same : goal.returns-then-end-start-clause-same
 returns-then-end-start-clause-same c = λ k low high. elim (cases_lt k (8 * c.loop-at.at)) [
   | inl before ↦ c.loop-at.invariant.same k low before
-  | inr here ↦ elim (cases_lt k (8 * c.pass_blocks-passed.result)) [
-    | inl passed ↦ c.pass_blocks-passed.ensures.same k here passed
-    | inr behind ↦
-        seen_in_word c.args.row.now c.min-start.result c.word_at.result k c.args.black c.word_at.ensures (omega (arith, behind, c.min-start.ensures)) (omega (arith, high, c.if-end-start.true))
-        (c.first_other.ensures.same (k - 8 * c.min-start.result) (omega (arith, behind)) (omega (arith, behind, high, c.min-start.ensures)))
-  ]
+  | inr here ↦
+      seen_in_word c.args.row.now c.min-start.result c.word_at.result k c.args.black c.word_at.ensures (omega (arith, here, c.min-start.ensures)) (omega (arith, high, c.if-end-start.true))
+      (c.first_other.ensures.same (k - 8 * c.min-start.result) (omega (arith, here)) (omega (arith, here, high, c.min-start.ensures)))
 ]
 
 pub loop-at-preserved : goal.loop-at-preserved
 loop-at-preserved c = record {
-  least = omega (arith, c.loop-at.invariant.least, c.pass_blocks-passed.ensures.least, c.pass_blocks-passed.ensures.most, c.if-passed-row.false, c.min-start.ensures);
+  least = omega (arith, c.loop-at.invariant.least, c.loop-at-test.true, c.min-start.ensures, c.requires.word);
   most = omega (arith, c.requires.word, c.min-start.ensures);
   same = λ k low high. elim (cases_lt k (8 * c.loop-at.at)) [
     | inl before ↦ c.loop-at.invariant.same k low before
-    | inr here ↦ elim (cases_lt k (8 * c.pass_blocks-passed.result)) [
-      | inl passed ↦ c.pass_blocks-passed.ensures.same k here passed
-      | inr behind ↦
-          seen_in_word c.args.row.now c.min-start.result c.word_at.result k c.args.black c.word_at.ensures (omega (arith, behind, c.min-start.ensures)) (omega (arith, high))
-          (c.first_other.ensures.same (k - 8 * c.min-start.result) (omega (arith, behind)) (omega (arith, behind, high, c.min-start.ensures, c.if-end-start.false)))
-    ]
+    | inr here ↦
+        seen_in_word c.args.row.now c.min-start.result c.word_at.result k c.args.black c.word_at.ensures (omega (arith, here, c.min-start.ensures)) (omega (arith, high))
+        (c.first_other.ensures.same (k - 8 * c.min-start.result) (omega (arith, here)) (omega (arith, here, high, c.min-start.ensures, c.if-end-start.false)))
   ];
 }

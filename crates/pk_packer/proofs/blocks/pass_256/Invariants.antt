@@ -1,6 +1,6 @@
 use Rattle.std.proofs.Common.{◌≡◌, ℕ, ◌-◌, ◌*◌, ◌<◌, ◌≤◌, length}
 use Rattle.packed_rows.specs.Packing.{pixel}
-use Rattle.pk_packer.proofs.blocks.pass_64.Given as goal
+use Rattle.pk_packer.proofs.blocks.pass_256.Given as goal
 
 abbrev pub invariant-loop-at : goal.invariant-loop-at
 invariant-loop-at l = record {

@@ -1,7 +1,7 @@
 use Rattle.std.proofs.Common.{List, ◌/◌, ℕ, ap, get_or}
 use Rattle.std.proofs.lemmas.Bool.Decides.{Decides-eqb}
 use Rattle.pk_packer.proofs.Pixels.{bytes_same}
-use Rattle.pk_packer.proofs.rows.agree_at.Goals as goal
+use Rattle.pk_packer.proofs.rows.have_same_byte.Goals as goal
 
 pub returns : goal.returns
 returns c = λ e.
