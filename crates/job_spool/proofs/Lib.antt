@@ -23,3 +23,4 @@ pub mod SourcesFailed
 pub mod SpoolKept
 pub mod RunAnswers
 pub mod RunNumbers
+pub mod KnownInputs

@@ -11,3 +11,4 @@ pub mod Workers
 pub mod Drawn
 pub mod Notes
 pub mod Promises
+pub mod KnownInputs

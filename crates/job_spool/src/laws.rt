@@ -1,13 +1,31 @@
-//! Laws over the definition of a spool's arguments, each a clause of a function without a body.
+//! Laws over the definitions, each a clause of a function without a body.
 ghost use Rattle.std.specs.Prelude.{◌≡◌, [], ◌∷◌, None, Some, codes};
+ghost use Rattle.job_spool.specs.KnownInputs.{SpoolsHoldOfKnownInputs};
 ghost use Rattle.job_spool.specs.Laws.{AllPairsCanBeGiven, PairsAreGiven};
 ghost use Rattle.job_spool.specs.Words.{pairs_of_words, spool_numbers};
+
+use outside::{FontSource, Input, Output};
 
 /// What arguments give lies within its limits, and the arguments after the third are the names of
 /// the pairs in their order; and all such numbers and pairs can be given.
 pub fn given_pairs()
     ensures given { PairsAreGiven }
     ensures all { AllPairsCanBeGiven }
+{}
+
+/// Where the bytes that the inputs of jobs had left are known, what `spool_run` promises of the
+/// bytes that reads gave holds of these, and they were read.
+pub fn known_inputs<I: Input, F: FontSource, O: Output>()
+    ensures { SpoolsHoldOfKnownInputs
+        (record { library = F.library; faults = F.faults; loads = F.loads })
+        (record {
+          left = I.left;
+          taken = I.taken;
+          ended = I.ended;
+          reads = I.faults;
+          written = O.written;
+          writes = O.faults;
+        }) }
 {}
 
 /// What some arguments give.
