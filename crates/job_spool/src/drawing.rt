@@ -2,7 +2,13 @@
 ghost use Rattle.std.specs.Prelude.{◌≡◌, ◌≢◌, ◌<◌, ◌≤◌, ◌+◌, ◌^◌, [], ℕ, Option, Some, None, IfSome, IsTrue, MatchOption, length, slice_index_or};
 ghost use Rattle.outside.specs.Library.{FileTable};
 ghost use Rattle.cache_core.specs.Histories.{own};
+ghost use Rattle.cache_core.specs.Laws.{FewClaims};
+ghost use Rattle.cache_core.specs.Machine.{Legal};
+ghost use Rattle.cache_core.specs.States.{limits_of};
 ghost use Rattle.cache_core.specs.Views.{calls_of};
+ghost use Rattle.turn_lock.specs.declared.view.Stage.TheVariants.{Idle};
+ghost use Rattle.turn_lock.specs.Histories.{AllMade};
+ghost use Rattle.turn_lock.specs.Seats.{AllJoined};
 ghost use Rattle.command_line.specs.Settings.{AreSettings};
 ghost use Rattle.pixel_round.specs.Preamble.{AreUnits};
 ghost use Rattle.page_index.specs.Pages.{document_units};
@@ -21,7 +27,10 @@ ghost use Rattle.job_spool.specs.Workers.{FewSourceEnds, IsResting, IsSeated};
 
 use crate::job::Job;
 use crate::plan::Plan;
+use cache_core::Entry;
 use dvi_run::{bench_with, draw_job, open_cache};
+use font_cache::CacheSeat;
+use font_decode::Decoded;
 use outside::{FontSource, Input, Output};
 use page_draw::Sheet;
 use page_index::Index;
@@ -154,6 +163,21 @@ fn have_room<F: FontSource>(workers: &[Worker<F>]) -> bool
     true
 }
 
+// The calls of the cache of a bench, in their order, once all workers have left it.
+fn closed(bench: Bench, first: CacheSeat<Decoded>) -> Vec<Entry>
+    requires lock { first.lock ≡ bench.cache }
+    requires first { first.view.number ≡ 0 }
+    requires idle { first.view.stage ≡ Idle }
+    requires joined { AllJoined first.view }
+    ensures history { calls_of result.items ≡ first.view.seen }
+    ensures legal { Legal (limits_of first.view.part) (calls_of result.items) }
+    ensures made { AllMade first.view.made (calls_of result.items) }
+    ensures few_claims { FewClaims (calls_of result.items) }
+{
+    let Bench { cache, units: _ } = bench;
+    cache.close(first)
+}
+
 // Draws the jobs that share the cache of the job `first`, if one begins there, over a new cache,
 // whose history that job keeps. Where there is no memory for a cache none of them is drawn.
 fn draw_cache<R: Threads + Wait + Sync, F: FontSource + Send, O: Output, I: Input>(
@@ -221,8 +245,7 @@ fn draw_cache<R: Threads + Wait + Sync, F: FontSource + Send, O: Output, I: Inpu
     draw_sharers(rt, alloc, plan, first, &bench, workers, jobs);
     join_all(&bench.cache, &mut seat, workers);
     drop_spare_pages(workers);
-    let Bench { cache, units: _ } = bench;
-    jobs[first].history = cache.close(seat);
+    jobs[first].history = closed(bench, seat);
 }
 
 /// Draws the jobs, one cache after another, by the first job of each.

@@ -164,8 +164,8 @@ join_all-requires-clause-leave g c =
     let there : k < length ws = subst (λ (n : ℕ). k < n) same lt in
     may_leave sources g.known c.in-Some-bench_with.bench (k + 1) (left_for c.args.plan.now.documents.now c.args.first (length c.args.jobs.now)) _ (get_or ws k u) (get_or now k u) ((c.draw_sharers.ensures.drew d).seats k u there)
 
-pub close-requires-clause-joined : goal.close-requires-clause-joined
-close-requires-clause-joined g c =
+pub closed-requires-clause-joined : goal.closed-requires-clause-joined
+closed-requires-clause-joined g c =
     let n = length c.args.workers.now in
     let long : length c.draw_sharers.new.workers ≡ n = search rules in
     let made : c.join_all.new.first.view.made ≡ n + 1 = search rules in
@@ -208,19 +208,19 @@ returns-clause-cache g c =
     let but = c.drop_spare_pages.ensures.same in
     let history = c.join_all.new.first.view.seen in
     let job : Job _ _ = get_or js first c.index-jobs-first.result in
-    let v : Job _ _ = record job { history = c.close.result } in
+    let v : Job _ _ = record job { history = c.closed.result } in
     let there : first < length js = search rules in
     let is : (d : Job _ _) → job ≡ get_or js first d = λ d. same_default js first c.index-jobs-first.result d there in
     let last = c.join_all.new.first.view in
     let limits_are : limits_of last.part ≡ limits = ap limits_of (c.join_all.ensures.same.2 ∙ c.seat_all.ensures.same.2) ∙ ap (λ v. limits_of v.part) opened.view in
     let made_are : last.made ≡ length xs + 1 = c.join_all.ensures.same.3 ∙ c.seat_all.ensures.made in
-    let legal : Legal limits history = subst (λ (l : Limits). Legal l history) limits_are (subst (λ (h : List Call). Legal (limits_of last.part) h) c.close.ensures.history c.close.ensures.legal) in
-    let made : AllMade (length xs + 1) history = subst (λ (n : ℕ). AllMade n history) made_are (subst (λ (h : List Call). AllMade last.made h) c.close.ensures.history c.close.ensures.made) in
+    let legal : Legal limits history = subst (λ (l : Limits). Legal l history) limits_are (subst (λ (h : List Call). Legal (limits_of last.part) h) c.closed.ensures.history c.closed.ensures.legal) in
+    let made : AllMade (length xs + 1) history = subst (λ (n : ℕ). AllMade n history) made_are (subst (λ (h : List Call). AllMade last.made h) c.closed.ensures.history c.closed.ensures.made) in
     let none : own 0 history ≡ [] = c.join_all.ensures.mine ∙ ap (own 0) (c.seat_all.ensures.seen ∙ ap (λ v. v.seen) opened.view) in
-    let few : FewClaims history = subst (λ (h : List Call). FewClaims h) c.close.ensures.history c.close.ensures.few_claims in
+    let few : FewClaims history = subst (λ (h : List Call). FewClaims h) c.closed.ensures.history c.closed.ensures.few_claims in
     λ d.
     let one = one_history given limits sources view docs first jobs xs ws bench part library units sound rested room seated long now same js d (drew d) joined after joins history left but legal made none few in
-    inr (cache_closed given limits sources view docs first jobs xs ws bench part library units sound rested room seated long now same js d (drew d) joined after joins history left but v there (ap (λ x. x.out) (is d)) (ap (λ x. x.status) (is d)) c.close.ensures.history one)
+    inr (cache_closed given limits sources view docs first jobs xs ws bench part library units sound rested room seated long now same js d (drew d) joined after joins history left but v there (ap (λ x. x.out) (is d)) (ap (λ x. x.status) (is d)) c.closed.ensures.history one)
 
 pub returns-clause-left_alone : goal.returns-clause-left_alone
 returns-clause-left_alone g c =
@@ -230,7 +230,7 @@ returns-clause-left_alone g c =
     let jobs = c.args.jobs.now in
     let js = c.draw_sharers.new.jobs in
     let job : Job _ _ = get_or js first c.index-jobs-first.result in
-    let v : Job _ _ = record job { history = c.close.result } in
+    let v : Job _ _ = record job { history = c.closed.result } in
     let there : first < length js = search rules in
     let is : (d : Job _ _) → job ≡ get_or js first d = λ d. same_default js first c.index-jobs-first.result d there in
     let below : first < length docs = omega (arith, q.1.1.1.1.0, q.1.1.1.1.1.1.0) in
@@ -245,7 +245,7 @@ returns-clause-history g c =
     let js = c.draw_sharers.new.jobs in
     let first = c.args.first in
     let job : Job _ _ = get_or js first c.index-jobs-first.result in
-    let v : Job _ _ = record job { history = c.close.result } in
+    let v : Job _ _ = record job { history = c.closed.result } in
     λ k d other. ap (λ x. x.history) (get_or-set_other js first k v d other) ∙ c.draw_sharers.ensures.history k d
 
 pub returns-clause-few_ends : goal.returns-clause-few_ends
@@ -263,7 +263,7 @@ returns-clause-few_ends g c =
     let same : length now ≡ length ws = search rules in
     let joins : length joined ≡ length now = search rules in
     let job : Job _ _ = get_or js first c.index-jobs-first.result in
-    let v : Job _ _ = record job { history = c.close.result } in
+    let v : Job _ _ = record job { history = c.closed.result } in
     let there : first < length js = search rules in
     let few = subst (λ (n : ℕ). FewSourceEnds sources.faults n (length jobs) ws now jobs js) long c.draw_sharers.ensures.few_ends in
     ends_as sources.faults (length xs) (length jobs) ws now xs after jobs js (set js first v) (λ k u lt. (c.seat_all.ensures.seated k u lt).same.source)
@@ -308,12 +308,12 @@ returns-clause-resting g c =
     let but = c.drop_spare_pages.ensures.same in
     let history = c.join_all.new.first.view.seen in
     let job : Job _ _ = get_or js first c.index-jobs-first.result in
-    let v : Job _ _ = record job { history = c.close.result } in
+    let v : Job _ _ = record job { history = c.closed.result } in
     let there : first < length js = search rules in
     let is : (d : Job _ _) → job ≡ get_or js first d = λ d. same_default js first c.index-jobs-first.result d there in
     λ k u e lt.
     let d = one_of jobs first q.1.1.1.1.1.1.0 in
-    let kept = ap (λ x. calls_of x.history.items) (get_or-set_same js first v e there) ∙ c.close.ensures.history in
+    let kept = ap (λ x. calls_of x.history.items) (get_or-set_same js first v e there) ∙ c.closed.ensures.history in
     subst (λ (h : List Call). IsResting sources g.known (misses (own (k + 1) h)) (get_or xs k u) (get_or after k u)) (sym kept)
     (all_rest given limits sources view docs first jobs xs ws bench part library units sound rested room seated long now same js d (drew d) joined after joins history left but k u lt)
 
