@@ -17,4 +17,4 @@ pub use folder::{FolderFonts, FolderOpener};
 pub use fonts::OpenedFonts;
 pub use opener::Opener;
 pub use reader::FromReader;
-pub use writer::{Start, ToWriter};
+pub use writer::{Start, ToWriter, UsedWriter};

@@ -3,6 +3,7 @@ ghost use Rattle.std.specs.Prelude.{◌≡◌, ◌≤◌, ◌<◌, ◌↔◌, []
 ghost use Rattle.std.specs.Io.KnownBytes.{ReadConsumes};
 ghost use Rattle.outside.specs.Counts.{HasCause, next_count};
 ghost use Rattle.outside.specs.Streams.{Takes};
+ghost use Rattle.real_streams.specs.Used.{unused_reader};
 
 use crate::logged_reader::LoggedReader;
 use outside::{Failed, Input};
@@ -24,11 +25,19 @@ impl<R> FromReader<R> {
         ensures taken { result.from.log.bytes ≡ [] }
         ensures ended { result.from.is_ended ≡ false }
         ensures faults { result.faults ≡ 0 }
+        ensures unused { result ≡ unused_reader reader }
     {
         FromReader {
             from: LoggedReader::new(reader),
             faults: 0,
         }
+    }
+
+    /// The reader.
+    pub fn into_reader(self) -> R
+        ensures { result ≡ self.from.reader }
+    {
+        self.from.reader
     }
 }
 

@@ -2,7 +2,9 @@
 ghost use Rattle.std.specs.Prelude.{◌≡◌, ◌≤◌, ◌<◌, ℕ, List, Option, [], None, Some, length, IfOk, IsErr, OnErr, OnOk};
 ghost use Rattle.std.specs.Io.KnownBytes.{Appends, WriteAppends};
 ghost use Rattle.outside.specs.Counts.{HasCause, next_count};
+ghost use Rattle.real_streams.specs.Used.{unused_writer};
 
+use crate::log::Log;
 use crate::logged_writer::LoggedWriter;
 use outside::{Failed, Output};
 use std::io::Write;
@@ -32,6 +34,7 @@ impl<B: Start, W: Write> ToWriter<B, W> {
     /// No write has been made yet.
     pub fn new(writer: W) -> ToWriter<B, W>
         requires { B.held ≡ W.contents writer }
+        ensures writer { result.to.writer ≡ writer }
         ensures taken { result.to.log.bytes ≡ [] }
         ensures faults { result.faults ≡ 0 }
     {
@@ -47,6 +50,44 @@ impl<B: Start, W: Write> ToWriter<B, W> {
         ensures { Appends B.held (W.contents result) self.to.log.bytes }
     {
         self.to.writer
+    }
+
+    /// The writer with what its writes took and how often one failed. It holds what it held at the
+    /// start and then what they took.
+    pub fn into_used(self) -> UsedWriter<W>
+        ensures log { result.log.bytes ≡ self.to.log.bytes }
+        ensures faults { result.faults ≡ self.faults }
+        ensures tied { Appends B.held (W.contents result.writer) result.log.bytes }
+        ensures untouched { self.to.log.bytes ≡ [] → self.faults ≡ 0
+            → result ≡ unused_writer self.to.writer }
+    {
+        UsedWriter {
+            writer: self.to.writer,
+            log: self.to.log,
+            faults: self.faults,
+        }
+    }
+}
+
+/// A writer that was an output. The bytes that its writes took, and how often one failed, are for
+/// proofs alone.
+#[derive(Drop)]
+pub struct UsedWriter<W> {
+    pub writer: W,
+    log: Log,
+    faults: u64,
+}
+
+impl<W> UsedWriter<W> {
+    /// No write has been made.
+    pub fn new(writer: W) -> UsedWriter<W>
+        ensures { result ≡ unused_writer writer }
+    {
+        UsedWriter {
+            writer,
+            log: Log::new(),
+            faults: 0,
+        }
     }
 }
 
