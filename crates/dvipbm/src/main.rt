@@ -3,16 +3,14 @@
 //! `DVIPBM_FONTS`; where that isn't set it is the current folder.
 #![tactic(auto)]
 
-use dvi_run::dvipbm_run;
-use real_outside::workers_over;
-use real_streams::{FromReader, ToWriter};
+use real_outside::{Outcome, draw_streams};
+use real_streams::FolderOpener;
 use std::env::{self, VarError};
 use std::io::ErrorKind;
-use std::marker::Brand;
 use std::path::PathBuf;
 use std::process::ExitCode;
 
-// Memory runs out for the arguments, for the folder's name or for the workers.
+// Memory runs out for the arguments or for the folder's name.
 const NO_MEMORY: u8 = 9;
 
 // The arguments or the folder's name can't be had. No run ends this way.
@@ -52,22 +50,8 @@ fn main(rt: HostRuntime) -> ExitCode {
         Ok(folder) => folder,
         Err(status) => return ExitCode::from(status),
     };
-    let Ok(mut workers) = workers_over(&rt, alloc, &folder) else {
-        return ExitCode::from(NO_MEMORY);
-    };
-    let mut input = FromReader::new(rt.stdin());
-    let mut out = ToWriter::<Brand, _>::new(rt.stdout());
-    let mut notes = ToWriter::<Brand, _>::new(rt.stderr());
-    let mut history = Vec::new(alloc);
-    let status = dvipbm_run(
-        &rt,
-        alloc,
-        &words,
-        &mut input,
-        &mut workers,
-        &mut out,
-        &mut notes,
-        &mut history,
-    );
+    let fonts = FolderOpener::new(&rt, alloc, &folder);
+    let (input, out, notes) = (rt.stdin(), rt.stdout(), rt.stderr());
+    let Outcome { status, .. } = draw_streams(&rt, alloc, &words, fonts, input, out, notes);
     ExitCode::from(status)
 }

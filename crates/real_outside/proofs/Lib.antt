@@ -1,0 +1,3 @@
+mod Ready
+mod Streams
+mod Words
