@@ -19,17 +19,21 @@ draw_by-requires g c κs within =
 
 pub returns-in-Ok-clause-promises : goal.returns-in-Ok-clause-promises
 returns-in-Ok-clause-promises g c =
-    inl (c.in-Ok.workers.items, c.in-Ok.ensures, subst
-    (λ (files : Option FileTable). KeepsWords (map string_bytes c.args.words.now) (record {
-      known = files;
-      streams = streams_of g.R.Read.remaining c.args.reader c.args.out c.args.notes c.draw_by.result;
-      sources = sources_by (λ o. option_map cut_files (g.O.Opener.files o));
-      before = c.in-Ok.workers.items;
-      after = c.draw_by.result.workers.items;
-      history = c.draw_by.result.history.items;
-    }) c.draw_by.result.status)
-    (known_by_new (λ o. option_map cut_files (g.O.Opener.files o)) c.args.opener c.in-Ok.workers.items c.in-Ok.ensures)
-    c.draw_by.ensures.promises)
+    inl (
+      c.in-Ok.workers.items,
+      c.in-Ok.ensures,
+      subst
+          (λ (files : Option FileTable). KeepsWords (map string_bytes c.args.words.now) (record {
+            known = files;
+            streams = streams_of g.R.Read.remaining c.args.reader c.args.out c.args.notes c.draw_by.result;
+            sources = sources_by (λ o. option_map cut_files (g.O.Opener.files o));
+            before = c.in-Ok.workers.items;
+            after = c.draw_by.result.workers.items;
+            history = c.draw_by.result.history.items;
+          }) c.draw_by.result.status)
+          (known_by_new (λ o. option_map cut_files (g.O.Opener.files o)) c.args.opener c.in-Ok.workers.items c.in-Ok.ensures)
+          c.draw_by.ensures.promises,
+    )
 
 pub returns-in-Err-clause-promises : goal.returns-in-Err-clause-promises
 returns-in-Err-clause-promises g c = inr (c.not_begun.ensures.promises g.R.Read.remaining)
