@@ -7,6 +7,7 @@ pub mod FontLists
 pub mod FontsFit
 pub mod Leaving
 pub mod Looks
+pub mod NotedHits
 pub mod OwnClaims
 pub mod Resident
 pub mod SameKeys

@@ -1,6 +1,7 @@
 pub mod Limits
 pub mod Codes
 pub mod Histories
+pub mod Hits
 pub mod Laws
 pub mod KeyCodes
 pub mod Machine

@@ -31,7 +31,7 @@ pub(crate) struct Resident<T: Drop> {
 }
 
 // The font of this key, if it is the newest: no other has to be looked for, and none moves.
-fn newest<'f, T: Drop>(fonts: &'f Fonts<T>, key: &Arc<FontKey>) -> Option<&'f Arc<T>>
+pub(crate) fn newest<'f, T: Drop>(fonts: &'f Fonts<T>, key: &Arc<FontKey>) -> Option<&'f Arc<T>>
     ensures found { IfSome result (λ font. lookup (passes (arc_value key.now)) fonts.now.entries
         ≡ Some font.now) }
     ensures first { OnSome result (promoted (passes (arc_value key.now)) fonts.now.entries

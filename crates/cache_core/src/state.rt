@@ -6,6 +6,7 @@ ghost use Rattle.std.specs.Map.{lookup};
 ghost use Rattle.cache_core.specs.declared.common.Common.{Common};
 ghost use Rattle.cache_core.specs.declared.calls.Done.TheVariants.{Filled, Released};
 ghost use Rattle.cache_core.specs.declared.limits.Limits.{Limits};
+ghost use Rattle.cache_core.specs.Hits.{NotedHits, FirstIsMissing};
 ghost use Rattle.cache_core.specs.Machine.{key_eq, claim_of, weights};
 ghost use Rattle.cache_core.specs.Views.{calls_of, claims_of, fonts_of, weighed, fonts_let_go};
 ghost use Rattle.cache_core.specs.States.{machine, machine_of, call, answered, GivesFont, IsReached, Takes, SameFonts, AddsFont, StateStands};
@@ -15,6 +16,7 @@ use crate::claims::{Claim, end};
 use crate::entry::{Act, Entry, Fill, Filling, Look};
 use crate::filling::take_in;
 use crate::fonts::Resident;
+use crate::hits::note_all;
 use crate::limits::Limits;
 use crate::looking::answer;
 use crate::stands::Stands;
@@ -22,6 +24,7 @@ use crate::told::Told;
 use lru::LruCache;
 use outside::FontKey;
 use std::alloc::{AllocError as NoMemory, Global};
+use std::collections::VecDeque;
 use std::marker::Model;
 use std::num::NonZeroUsize;
 use std::sync::Arc;
@@ -125,6 +128,37 @@ impl<T: Stands> CacheState<T> {
             seat,
             key,
         )
+    }
+
+    /// Notes, for a seat that holds no claim, that it looked these keys up and found their fonts:
+    /// from the front on, as far as the fonts are resident. Each key that is noted becomes the
+    /// newest and is taken out of the list. Room is made for all entries first, so that `NoMemory`
+    /// changes only the number of turns.
+    pub fn note_hits(
+        &mut self,
+        seat: u32,
+        keys: &mut VecDeque<Arc<FontKey>>,
+    ) -> Result<(), NoMemory>
+        requires few_turns { self.old.turns < 2 ^ 62 }
+        requires free { claim_of seat self.old.claims ≡ None }
+        ensures turns { self.new.turns ≡ self.old.turns + 1 }
+        ensures limits { self.new.limits ≡ self.old.limits }
+        ensures claims { self.new.claims ≡ self.old.claims }
+        ensures noted { OnOk result (NotedHits self.old.limits seat (machine T.weighs self.old)
+            (machine T.weighs self.new) self.old.history self.new.history
+            (map arc_value keys.old.items) (map arc_value keys.new.items)) }
+        ensures stops { OnOk result (FirstIsMissing (map arc_value keys.new.items)
+            (weighed T.weighs self.new.fonts)) }
+        ensures fonts { OnOk result (SameFonts self.old.fonts self.new.fonts) }
+        ensures refused { OnErr result ((self.new ≡ record self.old { turns = self.old.turns + 1 })
+            × (keys.new ≡ keys.old)) }
+        ensures reached { IsReached T.weighs self.new }
+        ensures stands { (part : Common) → StateStands T.stands_for T.weighs self.old part
+            → StateStands T.stands_for T.weighs self.new part }
+    {
+        self.turns += 1;
+        let fonts = &mut self.resident.fonts;
+        note_all(fonts, &mut self.entries, self.claims.len(), seat, keys)
     }
 
     /// Hands in the font of the key that the seat has claimed, which ends the claim. Where it
