@@ -1,5 +1,5 @@
 -- Each step of the lock keeps its rule, and tells what it says.
-use Rattle.std.proofs.Common.{◌≡◌, ◌≢◌, ℕ, zero, suc, ◌+◌, ◌%◌, ◌^◌, ◌<◌, ◌≤◌, Bool, true, false, true≢false, List, [], ◌∷◌, ◌++◌, get_or, set, Option, Some, refl, ap, sym, ◌∙◌, subst, ⊎_elim, arith}
+use Rattle.std.proofs.Common.{◌≡◌, ◌≢◌, ℕ, zero, suc, ◌+◌, ◌%◌, ◌^◌, ◌<◌, ◌≤◌, Bool, true, false, true≢false, List, [], ◌∷◌, ◌++◌, get_or, set, Option, Some, refl, ap, sym, ◌∙◌, subst, arith}
 use mathlib.Core.Option.{none, some, some-injective, some-ne-none}
 use mathlib.Core.Option as maybe
 use mathlib.Core.Logic.{dite}
@@ -187,7 +187,7 @@ module _ {T : Type 0} (history : T → List Call) (turns : T → ℕ) (stands : 
               let g = (q.first v at0).are_spent i n there in
               let other : n ≢ v.number = λ e. apart s.views n 0 g.0 v g.1 at0 (λ same. not_spent v g.0 (subst IsLive (sym is_holding) tt) (sym same) g.2) (e ∙ zero) in
               ap (λ (l : List (ℕ × Option T)). own n (carried_history history l)) full
-              ∙ ⊎_elim (λ e. ap (own n) e) (λ (more : (c : Call) × (c.seat ≡ v.number) × (history x ≡ v.seen ++ c ∷ [])). ap (own n) more.2 ∙ own_grew n v.seen more.0 (λ e. other (sym e ∙ more.1))) grows,
+              ∙ (ap (own n) grows.2 ∙ own_grew n v.number v.seen grows.0 grows.1 other),
         ),
       )
 

@@ -10,3 +10,4 @@ pub mod Keeps
 pub mod Says
 pub mod BetweenCalls
 pub mod TwoSeats
+pub mod NotedSeats

@@ -4,7 +4,6 @@ use Rattle.std.specs.List.{sum}
 use Rattle.std.proofs.lemmas.List.Sums.{sum_by-cons}
 use mathlib.Core.Option.{some, some-injective, some-ne-none}
 use mathlib.Core.Logic.{dite}
-use mathlib.Core.List.{IsPrefix}
 use native.Mathlib.Decide.{ℕ_discrete}
 use lib.ListN.{get_elem?}
 use Rattle.atomic_table.proofs.Lists.{at_set, set_here, set_else, at_longer, at_last}
@@ -13,7 +12,7 @@ use Rattle.cache_core.specs.declared.common.Common.{Common}
 use Rattle.cache_core.specs.Histories.{own}
 use Rattle.turn_lock.specs.Histories.{AllMade, Grows}
 use Rattle.turn_lock.proofs.Prefixes.{prefix_self}
-use Rattle.turn_lock.proofs.OwnCalls.{own_grew, made-append}
+use Rattle.turn_lock.proofs.OwnCalls.{own_grew, made-append, made_of}
 use Rattle.turn_lock.specs.declared.view.View.{View}
 use Rattle.turn_lock.specs.declared.view.Stage.{Stage}
 use Rattle.turn_lock.specs.declared.view.Stage.TheVariants.{Idle, Waiting, Holding, Comparing, Spent}
@@ -171,7 +170,7 @@ module _ (part : Common) (words : List ℕ) (views : List View) (log : List Call
       let now = k.ticket_is in
       let grown : Grows id log log' = subst (λ (x : ℕ × List Call). Grows x.0 x.1 log') (λ i. (f.number_is i, k.whole i)) grows in
       let inside = at_inside views id v at in
-      let same : (n : ℕ) → n ≢ id → own n log' ≡ own n log = λ n other. ⊎_elim (λ e. ap (own n) e) (λ (g : (c : Call) × (c.seat ≡ id) × (log' ≡ log ++ c ∷ [])). ap (own n) g.2 ∙ own_grew n log g.0 (λ e. other (sym e ∙ g.1))) grown in
+      let same : (n : ℕ) → n ≢ id → own n log' ≡ own n log = λ n other. ap (own n) grown.2 ∙ own_grew n id log grown.0 grown.1 other in
       moved part words (set words 1 new) views log log' out false serving (serving + 1) rest q.draws id v w q at live tt
       (ap (λ m. set m 1 new) q.words_are ∙ (λ i. (let e : serving + length q.line ≡ (serving + 1) + length rest = omega arith in e) i ∷ (let e : new ≡ serving + 1 = omega arith in e) i ∷ []))
       (let d = q.drew in omega arith)
@@ -181,10 +180,9 @@ module _ (part : Common) (words : List ℕ) (views : List View) (log : List Call
       let other : j ≢ id = λ e. let h : t ≡ serving + suc i = subst (HasTicket (serving + suc i)) is_holding (old_ticket id v at (HasTicket (serving + suc i)) j g.0 g.1 e g.2) in omega arith in
       (g.0, set_else views id j w other ∙ g.1, subst (λ (n : ℕ). HasTicket n g.0.stage) (let e : serving + suc i ≡ (serving + 1) + i = omega arith in e) g.2))
       (λ e. absurd (true≢false (sym e)))
-      (⊎_elim (λ e. subst (IsPrefix log) (sym e) (prefix_self log)) (λ (g : (c : Call) × (c.seat ≡ id) × (log' ≡ log ++ c ∷ [])). (g.0 ∷ [], sym g.2)) grown)
+      (grown.0, sym grown.2)
       same
-      (⊎_elim (λ e. subst (AllMade (length views)) (sym e) q.made)
-      (λ (g : (c : Call) × (c.seat ≡ id) × (log' ≡ log ++ c ∷ [])). subst (AllMade (length views)) (sym g.2) (made-append (length views) log (g.0 ∷ []) q.made ((let h = g.1 in omega arith), tt))) grown)
+      (subst (AllMade (length views)) (sym grown.2) (made-append (length views) log grown.0 q.made (made_of (length views) id grown.0 inside grown.1)))
       record { number_is = f.number_is; part_is = f.part_is; begins = prefix_self log'; after = refl; drew = f.drew; stage = tt }
       (λ j _. refl)
       (λ j u other there known. others rest l.1 j other u.seen u.stage known)

@@ -3,22 +3,29 @@ use Rattle.std.proofs.Common.{◌≡◌, ◌≢◌, ℕ, eqb, ◌<◌, ◌≤◌
 use Rattle.std.proofs.lemmas.List.Elements.{filter-append}
 use mathlib.Core.List.{IsPrefix}
 use Rattle.cache_core.specs.declared.calls.Call.{Call}
-use Rattle.cache_core.specs.Histories.{own}
+use Rattle.cache_core.specs.Histories.{own, AreOf}
 use Rattle.turn_lock.specs.Histories.{AllMade}
 
 pub own-append : (n : ℕ) (xs ys : List Call) → own n (xs ++ ys) ≡ own n xs ++ own n ys
 own-append n xs ys = filter-append (λ (c : Call). eqb c.seat n) xs ys
 
-pub own_other : (n : ℕ) (c : Call) → c.seat ≢ n → own n (c ∷ []) ≡ []
-own_other n c not = rw (ne_eqb c.seat n not)
+-- of another seat's calls none is a number's own
+pub own_others : (n m : ℕ) (calls : List Call) → AreOf m calls → n ≢ m → own n calls ≡ []
+own_others n m [] of other = refl
+own_others n m (c ∷ calls) of other = let not : c.seat ≢ n = λ e. other (sym e ∙ of.0) in rw (ne_eqb c.seat n not) (own_others n m calls of.1 other)
 
--- one more call of another seat
-pub own_grew : (n : ℕ) (xs : List Call) (c : Call) → c.seat ≢ n → own n (xs ++ c ∷ []) ≡ own n xs
-own_grew n xs c not = own-append n xs (c ∷ []) ∙ ap (λ l. own n xs ++ l) (own_other n c not) ∙ append-nil (own n xs)
+-- more calls of another seat
+pub own_grew : (n m : ℕ) (xs calls : List Call) → AreOf m calls → n ≢ m → own n (xs ++ calls) ≡ own n xs
+own_grew n m xs calls of other = own-append n xs calls ∙ ap (λ l. own n xs ++ l) (own_others n m calls of other) ∙ append-nil (own n xs)
 
 pub made-append : (n : ℕ) (xs ys : List Call) → AllMade n xs → AllMade n ys → AllMade n (xs ++ ys)
 made-append n [] ys p q = q
 made-append n (x ∷ xs) ys p q = (p.0, made-append n xs ys p.1 q)
+
+-- the calls of a number that was made
+pub made_of : (n m : ℕ) (calls : List Call) → m < n → AreOf m calls → AllMade n calls
+made_of n m [] lt of = tt
+made_of n m (c ∷ calls) lt of = (let is = of.0 in omega arith, made_of n m calls lt of.1)
 
 pub made_prefix : (n : ℕ) (xs ys : List Call) → AllMade n (xs ++ ys) → AllMade n xs
 made_prefix n [] ys p = tt

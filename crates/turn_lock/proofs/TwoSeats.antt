@@ -1,14 +1,11 @@
 -- Locks with one or two seats beside seat 0.
-use Rattle.std.proofs.Common.{◌≡◌, ◌≢◌, ℕ, zero, suc, ◌<◌, List, [], ◌∷◌, ◌++◌, refl, ap, sym, ◌∙◌, subst, arith, eq-eqb, ne_eqb}
+use Rattle.std.proofs.Common.{◌≡◌, ◌≢◌, ℕ, ◌<◌, List, [], ◌∷◌, ◌++◌, refl, ap, sym, ◌∙◌, subst, arith, eq-eqb, ne_eqb}
 use mathlib.Core.Logic.{dite}
 use mathlib.Core.List.{IsPrefix}
 use native.Mathlib.Decide.{ℕ_discrete}
-use lib.ListN.{get_elem?}
 use Rattle.cache_core.specs.declared.calls.Call.{Call}
 use Rattle.cache_core.specs.Histories.{own}
-use Rattle.turn_lock.specs.declared.view.View.{View}
 use Rattle.turn_lock.specs.Histories.{AllMade}
-use Rattle.turn_lock.specs.Seats.{AllJoined}
 use Rattle.turn_lock.proofs.OwnCalls.{own-append, append_same, made_prefix, made_back}
 
 -- of two numbers one has no calls, so all are the other's

@@ -1,18 +1,18 @@
 -- Histories of the calls of many seats.
-use Rattle.std.specs.Prelude.{◌≡◌, ◌⊎◌, ℕ, ◌<◌, leb, cond, List, [], ◌∷◌, ◌++◌, length}
+use Rattle.std.specs.Prelude.{◌≡◌, ℕ, ◌<◌, leb, cond, List, [], ◌∷◌, ◌++◌, length}
 use mathlib.Core.Option.{some}
 use lib.ListN.{get_elem?}
 use Rattle.cache_core.specs.declared.calls.Call.{Call}
-use Rattle.cache_core.specs.Histories.{own}
+use Rattle.cache_core.specs.Histories.{own, AreOf}
 
 -- each call is of a number below this one
 abbrev pub AllMade : ℕ → List Call → Type 0
 AllMade n [] = Unit {0}
 AllMade n (c ∷ calls) = (c.seat < n) × AllMade n calls
 
--- a history after one turn of a seat: the same, or with one call of this seat after it
+-- a history after one turn of a seat: the same with calls of this seat after it, if any
 abbrev pub Grows : ℕ → List Call → List Call → Type 0
-Grows n before after = (after ≡ before) ⊎ ((c : Call) × (c.seat ≡ n) × (after ≡ before ++ c ∷ []))
+Grows n before after = (calls : List Call) × AreOf n calls × (after ≡ before ++ calls)
 
 -- the longer of two histories
 abbrev pub longer_of : List Call → List Call → List Call

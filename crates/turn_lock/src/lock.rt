@@ -205,7 +205,7 @@ impl<T: Told> TurnLock<T> {
     }
 
     /// Gives the value back after one turn, and hands the turn on. The seat has then seen the
-    /// value's history, which is the one that it took, or that with one call of this seat after it.
+    /// value's history, which is the one that it took, or that with calls of this seat after it.
     /// No number that seat 0 joined is its own, so none of those has a call more.
     pub fn give(&self, seat: &mut Seat<T>, value: T)
         requires lock { seat.old.lock ≡ self.now }
