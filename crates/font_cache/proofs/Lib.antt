@@ -1,2 +1,3 @@
 pub mod LastCalls
+pub mod NotedLooks
 pub mod Turns

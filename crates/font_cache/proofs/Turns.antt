@@ -3,6 +3,7 @@
 use Rattle.std.proofs.Common.{◌≡◌, ℕ, ◌+◌, List, [], ◌∷◌, ◌++◌, Option, Some, None, IsSome, IsTrue, Result, Ok, Err, IfOk, OnErr, refl, sym, ap, ◌∙◌, subst, eq-eqb, append_assoc}
 use Rattle.std.specs.declared.alloc.Global.{Global}
 use Rattle.std.specs.declared.sync.Arc.{Arc}
+use Rattle.std.proofs.lemmas.List.{append-nil}
 use mathlib.Core.Option.{some}
 use mathlib.Core.List.{IsPrefix}
 use lib.ListN.{get_elem?}
@@ -18,7 +19,7 @@ use Rattle.cache_core.specs.declared.limits.Limits.{Limits}
 use Rattle.cache_core.specs.Machine.{Legal, claim_of, empty, machine_after, allows}
 use Rattle.cache_core.specs.States.{Cache, machine, call, Takes, IsReached, StateStands, limits_of}
 use Rattle.turn_lock.specs.declared.view.View.{View}
-use Rattle.turn_lock.specs.Histories.{OwnsSame}
+use Rattle.turn_lock.specs.Histories.{OwnsSame, Grows}
 use Rattle.turn_lock.specs.Seats.{SeatView}
 use Rattle.turn_lock.specs.Views.{view_with_turn, idle_view}
 use Rattle.font_cache.specs.Turns.{SawMore, NotedCall, told_of}
@@ -68,6 +69,16 @@ pub turn_begins : {T R E : Type 0} (f : R → Call) (before after : Cache T) (se
     → IfOk result (λ r. after.history ≡ before.history ++ f r ∷ []) → OnErr result (after ≡ record before { turns = before.turns + 1 }) → IsPrefix seen after.history
 turn_begins f before after seen (Ok r) p noted refused = longer_begins seen before.history after.history (f r ∷ []) p noted
 turn_begins f before after seen (Err e) p noted refused = subst (IsPrefix seen) (sym (ap (λ c. c.history) refused)) p
+
+-- one call more of the seat
+pub one_grows : (n : ℕ) (before after : List Call) (c : Call) → c.seat ≡ n → after ≡ before ++ c ∷ [] → Grows n before after
+one_grows n before after c mine is = (c ∷ [], (mine, tt), is)
+
+-- a turn that was noted, or refused
+pub turn_grows : {T R E : Type 0} (f : R → Call) (before after : Cache T) (n : ℕ) (result : Result R E) → ((r : R) → (f r).seat ≡ n)
+    → IfOk result (λ r. after.history ≡ before.history ++ f r ∷ []) → OnErr result (after ≡ record before { turns = before.turns + 1 }) → Grows n before.history after.history
+turn_grows f before after n (Ok r) mine noted refused = one_grows n before.history after.history (f r) (mine r) noted
+turn_grows f before after n (Err e) mine noted refused = ([], tt, ap (λ c. c.history) refused ∙ sym (append-nil before.history))
 
 own_this : (n : ℕ) (c : Call) → c.seat ≡ n → own n (c ∷ []) ≡ c ∷ []
 own_this n c e = rw (eq-eqb c.seat n e) refl

@@ -1,11 +1,12 @@
 -- What one turn at the cache tells its seat.
-use Rattle.std.specs.Prelude.{◌≡◌, ◌+◌, List, [], ◌∷◌, ◌++◌, Some, Result, Ok, Err, IsTrue}
+use Rattle.std.specs.Prelude.{◌≡◌, ◌+◌, List, [], ◌∷◌, ◌++◌, Some, None, Result, Ok, Err, IsTrue}
 use Rattle.std.specs.Arc.{arc_value}
 use Rattle.std.specs.declared.alloc.Global.{Global}
 use Rattle.std.specs.declared.sync.Arc.{Arc}
 use mathlib.Core.List.{IsPrefix}
 use Rattle.outside.specs.declared.keys.FontKey.{FontKey}
 use Rattle.cache_core.specs.Histories.{own, open_claim, left_by}
+use Rattle.cache_core.specs.Hits.{hits, TakesAll, FirstIsMissing}
 use Rattle.cache_core.specs.declared.limits.Limits.{Limits}
 use Rattle.cache_core.specs.Machine.{Machine, Legal, empty, machine_after, allows}
 use Rattle.cache_core.specs.States.{call, limits_of}
@@ -67,6 +68,36 @@ pub record NotedCall (k : FontKey) (d : Done) (before after : View) : Type 0 whe
   -- the seat's own calls grew by it alone
   pub own : own before.number after.seen ≡ own before.number before.seen ++ call before.number k d
       ∷ []
+
+-- the history that the seat has seen after the turn: it begins with what it had seen, other seats
+-- may have called since, and it ends with these calls, each of which the machine allows in the
+-- state that the calls before it have led to
+pub record EndsWithCalls (limits : Limits) (calls before after : List Call) : Type 0 where
+  pub log : List Call
+  pub begins : IsPrefix before log
+  pub state : Machine
+  pub reached : machine_after limits empty log ≡ Some state
+  pub later : Machine
+  pub taken : TakesAll limits state later calls
+  pub ends : after ≡ log ++ calls
+
+-- looks for the first of these keys were noted as hits, and the others are left
+pub record NotedLooks (keys left : List FontKey) (before after : View) : Type 0 where
+  pub noted : List FontKey
+  pub taken_out : keys ≡ noted ++ left
+  -- they are the last of the history that the seat has seen
+  pub last : EndsWithCalls (limits_of before.part) (hits before.number noted) before.seen after.seen
+  -- the seat holds no claim
+  pub claim : open_claim (own before.number after.seen) ≡ None
+  -- the seat's own calls grew by them alone
+  pub own : own before.number after.seen ≡ own before.number before.seen
+      ++ hits before.number noted
+
+-- the first of the keys, if there is one, isn't resident in the state after what the seat has seen
+abbrev pub StopsAtMissing : List FontKey → View → Type 0
+StopsAtMissing keys now = (state : Machine)
+    → machine_after (limits_of now.part) empty now.seen ≡ Some state
+    → FirstIsMissing keys state.resident
 
 -- the call was refused: the seat's own calls are as before
 abbrev pub NotedNothing : View → View → Type 0

@@ -1,5 +1,5 @@
 //! The cache, and its calls.
-ghost use Rattle.std.specs.Prelude.{◌≡◌, ◌^◌, ◌<◌, ◌≤◌, [], Some, None, IfOk, IfErr, OnErr};
+ghost use Rattle.std.specs.Prelude.{◌≡◌, ◌^◌, ◌<◌, ◌≤◌, [], Some, None, map, IfOk, IfErr, OnOk, OnErr};
 ghost use Rattle.std.specs.Arc.{arc_value};
 ghost use mathlib.Core.List.{IsPrefix};
 ghost use Rattle.cache_core.specs.declared.common.Common.{Common};
@@ -13,13 +13,14 @@ ghost use Rattle.turn_lock.specs.declared.view.Stage.TheVariants.{Idle};
 ghost use Rattle.turn_lock.specs.Histories.{AllMade, OwnsSame};
 ghost use Rattle.turn_lock.specs.Views.{opening_view, split_view, new_view, joined_view};
 ghost use Rattle.turn_lock.specs.Seats.{AllJoined};
-ghost use Rattle.font_cache.specs.Turns.{TookTurn, SawMore, NotedCall, NotedNothing, HitStands, told_of};
+ghost use Rattle.font_cache.specs.Turns.{TookTurn, SawMore, NotedCall, NotedLooks, StopsAtMissing, NotedNothing, HitStands, told_of};
 ghost use Rattle.cache_core.specs.Limits.{MAX_CACHED_FONTS};
 
 use cache_core::laws::{histories, own_calls};
 use cache_core::{CacheState, Entry, Fill, Filling, Look, Stands};
 use outside::FontKey;
 use std::alloc::{AllocError as NoMemory, Global};
+use std::collections::VecDeque;
 use std::marker::Model;
 use std::sync::{Arc, Wait};
 use turn_lock::{Seat, TurnLock};
@@ -145,6 +146,39 @@ impl<T: Stands> FontCache<T> {
         let reply = state.look(seat.number(), key);
         self.lock.give(seat, state);
         reply
+    }
+
+    /// Notes, in one turn, that a seat that holds no claim looked these keys up and found their
+    /// fonts, as from fonts that it keeps itself; waits for the turn. They are noted from the front
+    /// on, as far as the fonts are resident then, and each key that is noted is taken out of the
+    /// list: the first one left, if any, wasn't resident. `NoMemory` adds no call, and leaves the
+    /// list as it was.
+    pub fn note_hits<R: Wait>(
+        &self,
+        rt: &R,
+        seat: &mut CacheSeat<T>,
+        keys: &mut VecDeque<Arc<FontKey>>,
+    ) -> Result<(), NoMemory>
+        requires lock { seat.old.lock ≡ self.now }
+        requires idle { seat.old.view.stage ≡ Idle }
+        requires room { seat.old.view.drawn < 2 ^ 48 }
+        requires free { open_claim (own seat.old.view.number seat.old.view.seen) ≡ None }
+        ensures turn { TookTurn seat.old seat.new }
+        ensures seen { SawMore seat.old.view seat.new.view }
+        ensures noted { OnOk result (NotedLooks (map arc_value keys.old.items)
+            (map arc_value keys.new.items) seat.old.view seat.new.view) }
+        ensures stops { OnOk result (StopsAtMissing (map arc_value keys.new.items)
+            seat.new.view) }
+        ensures refused { OnErr result (NotedNothing seat.old.view seat.new.view) }
+        ensures same { OnErr result (keys.new ≡ keys.old) }
+    {
+        // For the proof: what a seat's own calls say about its claim.
+        histories();
+        own_calls();
+        let mut state = self.lock.take(rt, seat);
+        let result = state.note_hits(seat.number(), keys);
+        self.lock.give(seat, state);
+        result
     }
 
     /// Hands in, in one turn, the font of the key that the seat has claimed, which ends the claim;

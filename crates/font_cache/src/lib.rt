@@ -1,7 +1,7 @@
 //! The font cache that seats share: the cache's machine in a turn lock. Each look, fill and release
-//! is one turn, and nothing else is done while the turn is held. What a seat is answered is what
-//! the machine answers after the history that the seat has then seen, which continues what it had
-//! seen before.
+//! is one turn, and so are several looks that are noted together; nothing else is done while the
+//! turn is held. What a seat is answered is what the machine answers after the history that the
+//! seat has then seen, which continues what it had seen before.
 #![tactic(auto)]
 
 mod cache;
