@@ -4,6 +4,7 @@ ghost use Rattle.std.specs.Arc.{arc_value};
 
 mod caches;
 mod claims;
+mod hits;
 mod machine;
 mod turns;
 

@@ -17,6 +17,7 @@ use std::thread;
 use std::thread::Threads;
 
 mod eight;
+mod noted;
 mod one_key;
 mod shared;
 mod walk;

@@ -9,10 +9,10 @@ use std::sync::Arc;
 use std::test::Fail;
 
 // A font that is asked for: the name of its key, and what it weighs.
-type Wanted = (&'static [u8], u32);
+pub(super) type Wanted = (&'static [u8], u32);
 
 // Looks the key up. Where it was claimed, the claim is filled or given up.
-fn asked(
+pub(super) fn asked(
     alloc: Global,
     state: &mut CacheState<Sized>,
     wanted: &Wanted,
@@ -36,7 +36,7 @@ fn asked(
     Ok(())
 }
 
-fn second_letter(key: &Arc<FontKey>) -> char {
+pub(super) fn second_letter(key: &Arc<FontKey>) -> char {
     match key.name.bytes().get(1) {
         Some(byte) => *byte as char,
         None => '?',
@@ -65,7 +65,7 @@ fn letters(entry: &Entry) -> (char, char) {
     (second_letter(&entry.key), act)
 }
 
-fn told(alloc: Global, entries: &[Entry]) -> Result<Vec<(char, char)>, NoMemory> {
+pub(super) fn told(alloc: Global, entries: &[Entry]) -> Result<Vec<(char, char)>, NoMemory> {
     let mut told = Vec::new(alloc);
     for entry in entries {
         told.push(letters(entry))?;
