@@ -1,4 +1,10 @@
 pub mod Fonts
+pub mod Broken
+pub mod Hits
+pub mod Pending
+pub mod Settled
+pub mod Noted
+pub mod Ended
 pub mod AddedLoads
 pub mod Calls
 pub mod NothingDrawn

@@ -8,3 +8,5 @@ pub mod Laws
 pub mod SparePages
 pub mod Handing
 pub mod HandedParts
+pub mod HeldFonts
+pub mod PageDesks

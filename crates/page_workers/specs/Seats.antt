@@ -1,12 +1,18 @@
 -- What is known of a worker's seat at a cache, and when a bench is its own.
-use Rattle.std.specs.Prelude.{◌≡◌, ℕ, ◌-◌, ◌/◌, ◌^◌, min, List, Option, Some, None, IfSome, IsSome, refl}
+use Rattle.std.specs.Prelude.{◌≡◌, ℕ, ◌-◌, ◌/◌, ◌^◌, min, List, ◌++◌, length, map, Option, Some, None, IfSome, IsSome, refl}
+use Rattle.std.specs.Arc.{arc_value}
+use Rattle.std.specs.Option.{option_map}
+use Rattle.std.specs.declared.alloc.Global.{Global}
+use Rattle.std.specs.declared.sync.Arc.{Arc}
 use Rattle.outside.specs.Library.{FileTable}
 use Rattle.outside.specs.declared.keys.FontKey.{FontKey}
 use Rattle.pixel_round.specs.declared.units.Units.{Units}
 use Rattle.cache_core.specs.declared.calls.Call.{Call}
+use Rattle.cache_core.specs.declared.calls.Done.{Done}
 use Rattle.cache_core.specs.Histories.{own, open_claim, looks}
 use Rattle.turn_lock.specs.Seats.{SeatView}
 use Rattle.turn_lock.specs.declared.view.Stage.TheVariants.{Idle}
+use Rattle.font_cache.specs.Turns.{NotedCall, TookTurn}
 use Rattle.pixel_round.specs.Preamble.{AreUnits}
 use Rattle.font_decode.specs.Desks.{Trail}
 use Rattle.page_workers.specs.declared.bench.Bench.{Bench}
@@ -28,6 +34,10 @@ abbrev pub asked_at : Option SeatView → Option (List FontKey)
 asked_at None = None
 asked_at (Some s) = Some (looks (own_calls s))
 
+-- the keys asked are these and those whose looks aren't noted yet
+abbrev pub asked_with : Option SeatView → List (Arc FontKey Global) → Option (List FontKey)
+asked_with seat pending = option_map (λ noted. noted ++ map arc_value pending) (asked_at seat)
+
 -- with the loads that its source counts, and those that the worker has counted
 abbrev pub trail_at : ℕ → ℕ → Option SeatView → Option Trail
 trail_at loads counted None = None
@@ -44,6 +54,10 @@ trail_at loads counted (Some s) =
 abbrev pub room_at : ℕ → Option SeatView → ℕ
 room_at counted None = 0
 room_at counted (Some s) = min ((2 ^ 48 - s.view.drawn) / 3) ((2 ^ 62 - counted) / 8)
+
+-- and for how many besides those whose looks aren't noted yet
+abbrev pub room_with : ℕ → Option SeatView → List (Arc FontKey Global) → ℕ
+room_with counted seat pending = room_at counted seat - length pending
 
 -- ---- a bench and a seat
 
@@ -65,6 +79,11 @@ BenchFits known bench (Some s) = SeatFits known bench s
 abbrev pub HoldsNoClaim : Option SeatView → Type 0
 HoldsNoClaim None = Unit {0}
 HoldsNoClaim (Some s) = open_claim (own_calls s) ≡ None
+
+-- a look at a key, which did this, led from one seat to the other
+pub record LookedUp (k : FontKey) (d : Done) (before after : SeatView) : Type 0 where
+  pub turn : TookTurn before after
+  pub noted : NotedCall k d before.view after.view
 
 -- ---- what is known goes together
 

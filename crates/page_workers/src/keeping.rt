@@ -1,5 +1,5 @@
 //! How a seat ends a claim.
-ghost use Rattle.std.specs.Prelude.{◌≡◌, ◌+◌, ◌^◌, ◌<◌, ◌≤◌, ℕ, Bool, List, [], ◌∷◌, ◌++◌, None, Some, IfOk, OnErr, IsErrOf};
+ghost use Rattle.std.specs.Prelude.{◌≡◌, ◌+◌, ◌^◌, ◌<◌, ◌≤◌, ℕ, Bool, List, [], ◌∷◌, ◌++◌, None, Some, IfOk, OnErr, OnOk, IsErrOf};
 ghost use Rattle.std.specs.Arc.{arc_value};
 ghost use Rattle.outside.specs.declared.keys.FontKey.{FontKey};
 ghost use Rattle.cache_core.specs.Histories.{own, open_claim};
@@ -34,6 +34,7 @@ pub fn keep<R: Wait>(
     ensures idle { seat.new.view.stage ≡ Idle }
     ensures number { seat.new.view.number ≡ seat.old.view.number }
     ensures drawn { seat.new.view.drawn ≤ seat.old.view.drawn + 2 }
+    ensures drawn_once { OnOk result (seat.new.view.drawn ≤ seat.old.view.drawn + 1) }
     ensures part { seat.new.view.part ≡ seat.old.view.part }
     ensures free { open_claim (own seat.old.view.number seat.new.view.seen) ≡ None }
     ensures same { IfOk result (λ kept. arc_value kept ≡ arc_value font) }

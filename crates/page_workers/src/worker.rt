@@ -1,12 +1,19 @@
 //! A worker, and how it is asked for a font.
-ghost use Rattle.std.specs.Prelude.{◌≡◌, ◌+◌, ◌≤◌, [], ◌∷◌, Some, None, IfOk, IsErrOf, IsOk, OnErr, OnOk};
+ghost use Rattle.std.specs.Prelude.{◌≡◌, ◌+◌, ◌^◌, ◌≤◌, [], ◌∷◌, Some, None, IfOk, IfSome, IsErrOf, IsOk, OnErr, OnOk};
 ghost use Rattle.std.specs.Arc.{arc_value};
 ghost use Rattle.outside.specs.Counts.{HasCause};
 ghost use Rattle.outside.specs.FontKeys.{IsFontKey};
+ghost use Rattle.cache_core.specs.Histories.{left_by, open_claim};
+ghost use Rattle.cache_core.specs.States.{answered};
+ghost use Rattle.pixel_round.specs.Preamble.{AreUnits};
+ghost use Rattle.turn_lock.specs.Seats.{SeatView};
+ghost use Rattle.turn_lock.specs.declared.view.Stage.TheVariants.{Idle};
+ghost use Rattle.font_cache.specs.Turns.{HitStands};
 ghost use Rattle.font_decode.specs.Decoding.{IsFontOf};
 ghost use Rattle.font_decode.specs.Desks.{GrewBy, GrewByAtMost, TrailGrew};
+ghost use Rattle.font_decode.specs.Loads.{MAX_LOADS};
 ghost use Rattle.page_workers.specs.SparePages.{HasNoSparePages};
-ghost use Rattle.page_workers.specs.Seats.{SeatFits, asked_at, room_at, trail_at};
+ghost use Rattle.page_workers.specs.Seats.{LookedUp, SeatFits, asked_at, own_calls, room_at, trail_at};
 
 use crate::Bench;
 use crate::counting::load_counted;
@@ -127,8 +134,13 @@ impl<F: FontSource> Desk for Worker<F> {
     }
 }
 
-// The font of a key, from the cache or from its files. A seat that claimed the key fills it, or
-// releases it where the load was refused; one that found it busy loads the font for itself alone.
+/// A key that a seat looked up, and what its cache answered.
+pub(crate) struct Looked<'a> {
+    pub key: &'a Arc<FontKey>,
+    pub look: Look<Decoded>,
+}
+
+// The font of a key, from the cache or from its files.
 fn ask<R: Wait, F: FontSource>(
     rt: &R,
     alloc: Global,
@@ -157,6 +169,56 @@ fn ask<R: Wait, F: FontSource>(
         (trail_at (F.loads source.new) loads.new (Some seat.new)) }
 {
     let look = bench.cache.look(rt, seat, key)?;
+    let looked = Looked { key, look };
+    answer(rt, alloc, bench, seat, source, loads, looked)
+}
+
+/// The font of a key that was looked up. A seat that claimed the key fills it, or releases it where
+/// the load was refused; one that found it busy loads the font for itself alone. The clauses on the
+/// keys asked and on the trail say what the look and this made of the seat together, from what it
+/// was before the look. It takes two turns at most, and one where there is a font.
+pub(crate) fn answer<R: Wait, F: FontSource>(
+    rt: &R,
+    alloc: Global,
+    bench: &Bench,
+    seat: &mut CacheSeat<Decoded>,
+    source: &mut F,
+    loads: &mut u64,
+    looked: Looked,
+) -> Result<Arc<Decoded>, DeskStop>
+    requires lock { seat.old.lock ≡ bench.now.cache }
+    requires idle { seat.old.view.stage ≡ Idle }
+    requires claim { open_claim (own_calls seat.old)
+        ≡ left_by (arc_value looked.key.now) (answered looked.look) }
+    requires units { bench.now.units ≡ seat.old.view.part.units }
+    requires sound { AreUnits bench.now.units }
+    requires knows_library { IfSome seat.old.view.part.library (λ l.
+        F.library source.old ≡ Some l) }
+    requires turns { seat.old.view.drawn + 2 ≤ 2 ^ 48 }
+    requires loads { loads.old + MAX_LOADS ≤ 2 ^ 62 }
+    requires key { IsFontKey (arc_value looked.key.now) }
+    requires stands { HitStands (λ font k part. IsFontOf part.library (Some part.units) k font)
+        looked.look (arc_value looked.key.now) seat.old.view.part }
+    ensures found { IfOk result (λ font. IsFontOf seat.old.view.part.library
+        (Some seat.old.view.part.units) (arc_value looked.entry.key.now) (arc_value font)) }
+    ensures part { seat.new.view.part ≡ seat.old.view.part }
+    ensures fits { SeatFits (F.library source.new) bench.now seat.new }
+    ensures turns { seat.new.view.drawn ≤ seat.old.view.drawn + 2 }
+    ensures turns_with_font { OnOk result (seat.new.view.drawn ≤ seat.old.view.drawn + 1) }
+    ensures loads { loads.new ≤ loads.old + MAX_LOADS }
+    ensures cause { HasCause (F.faults source.old) (F.faults source.new)
+        (IsErrOf result DeskStop.SourceFault) }
+    ensures asked { (before : SeatView)
+        → LookedUp (arc_value looked.entry.key.now) (answered looked.entry.look) before seat.old
+        → GrewBy (asked_at (Some before)) (asked_at (Some seat.new))
+        (arc_value looked.entry.key.now ∷ []) }
+    ensures trail { (before : SeatView)
+        → LookedUp (arc_value looked.entry.key.now) (answered looked.entry.look) before seat.old
+        → TrailGrew (IsOk result) (asked_at (Some before)) (asked_at (Some seat.new))
+        (trail_at (F.loads source.old) loads.old (Some before))
+        (trail_at (F.loads source.new) loads.new (Some seat.new)) }
+{
+    let Looked { key, look } = looked;
     match look {
         Look::Hit(font) => Ok(font),
         Look::Busy => load_counted(alloc, source, loads, key, &bench.units),

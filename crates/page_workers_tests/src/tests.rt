@@ -1,8 +1,9 @@
-//! Rounds of workers over one cache, with documents at half a dot for a unit: a table, and one test
-//! that goes over it.
+//! Rounds of workers over one cache, with documents at half a dot for a unit: tables, and one test
+//! that goes over them.
 
 mod crew;
 mod files;
+mod late_rows;
 mod opening;
 mod outcome;
 mod rows;
@@ -11,6 +12,7 @@ mod spare_pages;
 
 use crew::{crew, one_round};
 use files::document;
+use late_rows::LATE_ROWS;
 use outcome::{OfRound, round_told};
 use page_index::Index;
 use rows::{Case, ROWS};
@@ -33,7 +35,7 @@ fn told<R: Threads + Wait + Sync>(rt: &R, alloc: Global, case: &Case) -> Result<
 
 #[test]
 fn rounds(rt: HostRuntime) -> Result<(), Fail> {
-    for (row, (case, expected)) in ROWS.iter().enumerate() {
+    for (row, (case, expected)) in ROWS.iter().chain(LATE_ROWS.iter()).enumerate() {
         assert_eq!(rt; told(&rt, rt.alloc(), case)?, *expected, "row {row}");
     }
     Ok(())

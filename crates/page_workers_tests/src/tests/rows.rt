@@ -16,11 +16,11 @@ pub type Case = (
 );
 
 // Pages with characters of these fonts.
-const DOT: &'static [u8] = &[0xab, 0x41];
+pub const DOT: &'static [u8] = &[0xab, 0x41];
 
 const BAR: &'static [u8] = &[0xac, 0x41];
 
-const THIN: &'static [u8] = &[0xad, 0x41];
+pub const THIN: &'static [u8] = &[0xad, 0x41];
 
 const BAR_DOT: &'static [u8] = &[0xac, 0x41, 0xab, 0x41];
 
@@ -31,15 +31,15 @@ const LACKING: &'static [u8] = &[0xab, 0x42];
 
 const DOT_TFM: &'static [u8] = b"dot.tfm";
 
-const BAR_TFM: &'static [u8] = b"bar.tfm";
+pub const BAR_TFM: &'static [u8] = b"bar.tfm";
 
-const THIN_TFM: &'static [u8] = b"thin.tfm";
+pub const THIN_TFM: &'static [u8] = b"thin.tfm";
 
 // Paper of which two pages have the sides of the sheet.
 const BLACK: [(u8, u8); 5] = [(8, 2), (2, 8), (8, 3), (9, 2), (8, 2)];
 
 // A page that was not drawn.
-const NONE: OfPage = (0, 0, 0, '-', 0, 0);
+pub const NONE: OfPage = (0, 0, 0, '-', 0, 0);
 
 pub static ROWS: [(Case, OfRound); 14] = [
     // Each page is drawn once.

@@ -1,0 +1,23 @@
+use Rattle.std.proofs.Common.{◌≡◌, Some, None, [], sym, subst, arith, rules, length, List, Global}
+use Rattle.std.specs.Prelude.{All, IsOk}
+use Rattle.std.specs.Arc.{arc_value}
+use Rattle.std.specs.declared.sync.Arc.{Arc}
+use Rattle.outside.specs.FontKeys.{IsFontKey}
+use Rattle.outside.specs.declared.keys.FontKey.{FontKey}
+use Rattle.page_workers.proofs.Noted.{draws_on, none_fails}
+use Rattle.page_workers.proofs.page_desk.PageDesk.ask.Goals as goal
+
+pub returns-in-Err-clause-draws : goal.returns-in-Err-clause-draws
+returns-in-Err-clause-draws g c =
+    let e = c.in_ok-settle.ensures in
+    let f = c.font-answer.ensures in
+    draws_on _ _ _ _ _ _ _ _ _ _ _ _ _ _ (Some c.in-Err.stop) e.draws e.goes_on (omega (arith, c.requires.room, e.same_room)) f.still_fits e.draws.keys (omega (arith, f.room)) f.cause
+    (λ is. rw c.in-Err.is (cc is)) f.trail (λ none. absurd cc)
+
+pub returns-in_default-clause-draws : goal.returns-in_default-clause-draws
+returns-in_default-clause-draws g c =
+    let e = c.in_ok-settle.ensures in
+    let f = c.font-answer.ensures in
+    let ok : IsOk c.font-answer.result = search rules in
+    draws_on _ _ _ _ _ _ _ _ _ _ _ _ _ _ c.settle.new.self.stop e.draws e.goes_on (omega (arith, c.requires.room, e.same_room)) f.still_fits e.draws.keys (omega (arith, f.room)) f.cause
+    (λ is. absurd (none_fails _ e.goes_on is)) f.trail (λ none. ok)
