@@ -9,6 +9,10 @@ use Rattle.font_decode.specs.Fonts.{FontValue, packet_of}
 use Rattle.vf_expand.specs.Faults.{Depth, NoPacket}
 use Rattle.vf_expand.specs.Course.{Course, Stops, lacking, InPacket, deeper, expand_list, expand_one, first_font, leave, number_of, packet, gives, virtual}
 
+-- what a packet that is entered gives
+abbrev pub entered : ℕ → FontKey → FontValue → Option ℤ → Course → ℕ → List ℕ → Course
+entered at k f advance after n text = gives flat.Enter at (expand_list (expand_one (deeper (n - 1) at) (InPacket k f) at) (first_font f) (commands_of text) (leave advance at after))
+
 module _ (at : ℕ) (k : FontKey) (f : FontValue) (c : ℤ) (advance : Option ℤ) (after : Course) where
   none_deeper : virtual (deeper zero at) at k f c advance after ≡ Stops (Depth k c) at
   unfolding deeper
@@ -29,8 +33,7 @@ module _ (at : ℕ) (k : FontKey) (f : FontValue) (c : ℤ) (advance : Option �
   no_packet (suc n) some none = one_deeper n ∙ ap (λ (o : Option (List ℕ)). packet (inner n) at k f c advance o after) none
 
   pub has_packet : (n : ℕ) (text : List ℕ) → 0 < n → packet_of f (number_of c) ≡ Some text
-      → virtual (deeper n at) at k f c advance after
-      ≡ gives flat.Enter at (expand_list (expand_one (deeper (n - 1) at) (InPacket k f) at) (first_font f) (commands_of text) (leave advance at after))
+      → virtual (deeper n at) at k f c advance after ≡ entered at k f advance after n text
   has_packet zero text some there = absurd (omega arith)
   has_packet (suc n) text some there =
       let less : n ≡ suc n - 1 = omega arith in

@@ -7,6 +7,7 @@ ghost use Rattle.vf_expand.specs.Course.{advance_of, first_font, no_font};
 ghost use Rattle.vf_expand.specs.Faults.{is_missing, value_of_fault};
 ghost use Rattle.vf_expand.specs.Course as course;
 ghost use Rattle.vf_expand.specs.Expansion.{font_of, glyph_in};
+ghost use Rattle.vf_expand.specs.declared.effect.Effect.TheVariants as effect;
 ghost use Rattle.vf_expand.specs.Effects.{CharacterHasEffect, EffectFits, DecodedHasEffect, HasKey, SetsNoPackedChar, SetsPackedChar, VirtualHasEffect, value_of_current, value_of_place};
 
 use crate::current::Current;
@@ -35,6 +36,28 @@ fn first_current(keys: &mut PageKeys, font: &Font) -> Result<Current, NoMemory>
     }
 }
 
+// The level of a packet at its first command.
+#[inline(always)]
+fn first_level(
+    keys: &mut PageKeys,
+    font: &Font,
+    code: u8,
+    advance: Option<i64>,
+) -> Result<Level, NoMemory>
+    ensures level { IfOk result (λ level. (level.code ≡ code) × (level.pos ≡ 0)
+        × (level.advance ≡ advance)) }
+    ensures first { IfOk result (λ level.
+        value_of_current level.current ≡ first_font font.now) }
+    ensures key { IfOk result (λ level. HasKey (value_of_current level.current)) }
+{
+    Ok(Level {
+        code,
+        pos: 0,
+        advance,
+        current: first_current(keys, font)?,
+    })
+}
+
 // A character of a virtual font, where n packets may be nested.
 #[inline(never)]
 fn virtual_character(
@@ -57,12 +80,7 @@ fn virtual_character(
     if font.packet(code as u32).is_none() {
         return Ok(Effect::Lack(PageFault::NoPacket(Arc::try_clone(key)?, code), advance));
     }
-    Ok(Effect::Enter(Level {
-        code: code as u8,
-        pos: 0,
-        advance,
-        current: first_current(keys, font)?,
-    }))
+    Ok(Effect::Enter(first_level(keys, font, code as u8, advance)?))
 }
 
 // How far a character moves after its packet, or in its place: not at all where it is put.
@@ -163,6 +181,38 @@ fn char_of_decoded(
         Decoded::Bare(font) => char_of_bare(key, font, code, put),
         Decoded::Font(font) => char_of_font(keys, room, key, font, code, put),
     }
+}
+
+/// The packet that a character of a virtual font that was found begins, where n packets may be
+/// nested. `None` where it gives anything else.
+#[inline(always)]
+pub fn entry(
+    keys: &mut PageKeys,
+    room: usize,
+    current: &Current,
+    code: i32,
+    put: bool,
+) -> Result<Option<Level>, NoMemory>
+    ensures enters { IfOk result (λ entry. IfSome entry (λ level. (place : course.Place)
+        → CharacterHasEffect place room (value_of_current current.now) code put
+        (effect.Enter level))) }
+    ensures fits { IfOk result (λ entry. IfSome entry (λ level.
+        EffectFits (effect.Enter level))) }
+{
+    let Current::Known(_, found) = current else {
+        return Ok(None);
+    };
+    let decoded: &Decoded = found;
+    let Decoded::Font(font) = decoded else {
+        return Ok(None);
+    };
+    let Some(width) = font.width(code) else {
+        return Ok(None);
+    };
+    if room == 0 || !font.is_virtual() || font.packet(code as u32).is_none() {
+        return Ok(None);
+    }
+    Ok(Some(first_level(keys, font, code as u8, advance_of(width, put))?))
 }
 
 // A character where no font is current.

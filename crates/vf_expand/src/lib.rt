@@ -10,6 +10,7 @@ mod character;
 mod current;
 mod current_level;
 mod effect;
+mod entry;
 mod expander;
 mod faults;
 mod keys;

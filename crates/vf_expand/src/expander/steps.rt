@@ -7,8 +7,10 @@ use super::Expander;
 use crate::current::Current;
 use crate::current_level::current_level;
 use crate::effect::{Effect, effect_of, flat_of};
+use crate::entry::enter_packet;
 use crate::outer_levels::MAX_DEPTH;
 use crate::pending::Pending;
+use crate::sets::character_at;
 use crate::{Lack, PageFault, Step};
 use drift_rules::Flat;
 use dvi_commands::command_at;
@@ -63,8 +65,8 @@ impl<'a> Expander<'a> {
         Step::Flat(Flat::Leave)
     }
 
-    // The next command, whatever it is, or the end. The end, and a command that gives a flat one by
-    // itself, are found here, where few locals need be cleared.
+    // The next command, whatever it is, or the end. The end, a command that gives a flat one by
+    // itself and a character that begins a packet are found here, where few locals need be cleared.
     #[inline(never)]
     pub(super) fn expand(&mut self) -> Result<Step, NoMemory>
         requires nothing_pending { self.old.pending ≡ None }
@@ -90,6 +92,15 @@ impl<'a> Expander<'a> {
                 self.level.pos = end;
                 self.progress = self.progress.after_flat(at, false);
                 return Ok(Step::Flat(flat));
+            }
+        } else if self.progress.budget > 0 {
+            let set = character_at(reading.text, self.level.pos, reading.context);
+            if let Some((code, put, end)) = set {
+                let keys = &mut self.keys;
+                if enter_packet(keys, &mut self.level, &mut self.outer, code, put, end)? {
+                    self.progress = self.progress.after_flat(at, false);
+                    return Ok(Step::Flat(Flat::Enter));
+                }
             }
         }
         // Taken out of its `Result`, so that a flat command is written where the caller reads it.

@@ -1,4 +1,4 @@
-use Rattle.std.proofs.Common.{◌≡◌, ◌∙◌, ℕ, ◌<◌, ℤ, Some, None, refl, sym, ap, subst, to_z, of_z, w32, arith}
+use Rattle.std.proofs.Common.{◌≡◌, ◌∙◌, ℕ, ◌<◌, ℤ, Option, Some, None, refl, sym, ap, subst, to_z, of_z, w32, arith}
 use Rattle.std.specs.Prelude.{unsigned_abs}
 use Rattle.std.proofs.lemmas.Int.{ints}
 use Rattle.std.specs.Arc.{arc_value}
@@ -6,8 +6,8 @@ use Rattle.outside.specs.declared.keys.FontKey.{FontKey}
 use Rattle.vf_expand.specs.Faults.{Depth, NoPacket}
 use Rattle.font_decode.specs.Fonts.{packet_of, IsProgram}
 use Rattle.font_decode.specs.declared.font_or_fault.Decoded.TheVariants as decoded
-use Rattle.vf_expand.specs.Course.{Known, Stops, lacking, number_of}
-use Rattle.vf_expand.proofs.Virtual.{at_none, at_some, has_packet, no_packet, too_deep}
+use Rattle.vf_expand.specs.Course.{Course, Current, Known, Stops, lacking, number_of}
+use Rattle.vf_expand.proofs.Virtual.{at_none, at_some, entered, has_packet, no_packet, too_deep}
 use Rattle.vf_expand.proofs.character.virtual_character.Goals as goal
 
 pub returns-then-room-eq0-clause-has_effect : goal.returns-then-room-eq0-clause-has_effect
@@ -34,15 +34,18 @@ returns-clause-has_effect c =
     let there = at_some (λ x. x.now) c.packet.result (packet_of c.args.font.now code) (IsProgram code) c.if-is_none.ensures c.packet.ensures.packet c.packet.ensures.commands in
     let own = subst (λ (n : ℕ). packet_of c.args.font.now n ≡ Some there.0) (number ∙ sym (ap number_of c.requires.byte.1)) there.1 in
     let some : 0 < c.args.room = omega (arith, c.if-room-eq0.false) in
+    let made = c.in_ok-first_level.ensures.level in
+    let after : (Current → Course) → Course = λ others. others (Known (arc_value c.args.key.now) (decoded.Font c.args.font.now)) in
     record {
       key = arc_value c.args.key.now;
       font = c.args.font.now;
       text = there.0;
       known = refl;
       some = some;
-      packet = there.1;
-      program = there.2;
-      prefix = refl;
-      first = c.in_ok-first_current.ensures.first;
-      gives = λ at others. has_packet at (arc_value c.args.key.now) c.args.font.now c.args.code c.args.advance _ c.args.room there.0 some own;
+      packet = subst (λ (n : ℕ). packet_of c.args.font.now n ≡ Some there.0) (sym made.0) there.1;
+      program = subst (λ (n : ℕ). IsProgram n there.0) (sym made.0) there.2;
+      prefix = made.1;
+      first = c.in_ok-first_level.ensures.first;
+      gives = λ at others. has_packet at (arc_value c.args.key.now) c.args.font.now c.args.code c.args.advance (after others) c.args.room there.0 some own
+          ∙ ap (λ (by : Option ℤ). entered at (arc_value c.args.key.now) c.args.font.now by (after others) c.args.room there.0) (sym made.2);
     }
