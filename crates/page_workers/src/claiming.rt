@@ -10,12 +10,15 @@ use crate::worker::Worker;
 use outside::FontSource;
 use page_counter::{CounterSeat, PageCounter};
 
-/// The pages of a round, and the counter from which they are claimed.
+/// The pages of a round, the counter from which they are claimed, and in how many threads they are
+/// drawn at most.
 #[derive(Drop)]
 pub struct Round {
     pub counter: PageCounter,
     pub pages: PageRange,
+    pub threads: usize,
     ghost end_fits: { pages.first + pages.count < 2 ^ 64 },
+    ghost some_thread: { 1 ≤ threads },
 }
 
 // Gives a worker a seat at the counter.

@@ -19,10 +19,10 @@ use crate::claiming::{Round, claim_page, join_at_counter, seat_at_counter};
 use crate::drawing::draw_page;
 use crate::job::{Job, PageRange};
 use crate::rings::{Inlet, close_rings, open_rings};
-use crate::round::{MAX_WORKERS, reserve_all};
+use crate::round::reserve_all;
 use crate::spare_pages::trim_spare_pages;
 use crate::taking::{PageTaker, take_meanwhile, take_rest};
-use crate::threads::drawn_alone;
+use crate::threads::{drawing_threads, drawn_alone};
 use crate::worker::Worker;
 use font_decode::Desk;
 use outside::FontSource;
@@ -160,8 +160,13 @@ pub fn hand_round<R: Threads + Wait + Sync, F: FontSource + Send, W: PageTaker<O
     prove!(pages.count <= job.index.pages() - pages.first);
     reserve_all(workers, pages.count)?;
     let (counter, seat) = PageCounter::make(alloc)?;
-    let mut inlets = open_rings(alloc, workers, pages.count)?;
-    let round = Round { counter, pages };
+    let threads = drawing_threads(rt, workers.len());
+    let round = Round {
+        counter,
+        pages,
+        threads,
+    };
+    let mut inlets = open_rings(alloc, workers, &round)?;
     let opened = Opened { job, round, seat };
     hand_opened(rt, alloc, workers, opened, &mut inlets, taker, out);
     trim_spare_pages(workers);
@@ -286,7 +291,7 @@ fn draw_and_take<R: Threads + Wait + Sync, F: FontSource + Send, W: PageTaker<O>
                 job.entry.now.index.now job.entry.now.sheet.now round.entry.now.counter
                 round.entry.now.pages.first round.entry.now.pages.count
                 workers.entry.now workers.exit.now }
-        { hand_parts(rt, alloc, workers, job, round, MAX_WORKERS, bells) },
+        { hand_parts(rt, alloc, workers, job, round, round.threads, bells) },
         &mut || take_meanwhile(rt, alloc, inlets, pages, taker, out, bells),
     );
     taken

@@ -8,6 +8,7 @@ ghost use Rattle.page_workers.specs.Handing.{AreLinked, AreNewlyLinked, HandedOn
 ghost use Rattle.page_workers.specs.SparePages.{SameButSparePages};
 
 use crate::bells::Bells;
+use crate::claiming::Round;
 use crate::worker::{PageResult, Worker};
 use outside::FontSource;
 use raster_page::Page;
@@ -47,10 +48,13 @@ pub struct Inlet {
     number: usize,
 }
 
-// How many pages each of n workers may have.
-fn most_pages(workers: usize) -> usize {
+// How many pages each of n workers may have in a round. Where fewer threads than workers draw, a
+// worker has no more than one beyond those that it keeps for the next round.
+fn most_pages(round: &Round, workers: usize) -> usize {
     let workers = workers.max(1);
-    (PAGES / workers).max(2).min((MOST_PAGES / workers).max(1))
+    let drawing = workers.min(round.threads).max(1);
+    let share = (PAGES / drawing).max(2).min((MOST_PAGES / drawing).max(1));
+    share.min(MOST_PAGES / workers + 1)
 }
 
 // Whose rings are made: the worker's number, from 0, and how many pages it may have.
@@ -90,24 +94,25 @@ fn link<F: FontSource>(worker: &mut Worker<F>, outlet: Outlet)
     worker.outlet = Some(outlet);
 }
 
-/// Gives each worker its ends of new rings, with room for n results, and answers the other ends.
+/// Gives each worker its ends of new rings, with room for the results of a round, and answers the
+/// other ends.
 pub(crate) fn open_rings<F: FontSource>(
     alloc: Global,
     workers: &mut [Worker<F>],
-    count: usize,
+    round: &Round,
 ) -> Result<Vec<Inlet>, NoMemory>
     ensures same { (k : ℕ) (d : _) → k < length workers.old
         → WithOutlet (slice_index_or workers.old k d) (slice_index_or workers.new k d) }
     ensures count { IfOk result (λ inlets. length inlets.items ≡ length workers.old) }
     ensures linked { IfOk result (λ inlets. (k : ℕ) (e : _) (d : _) → k < length workers.old
-        → AreNewlyLinked count (slice_index_or workers.new k d)
+        → AreNewlyLinked round.now.pages.count (slice_index_or workers.new k d)
         (slice_index_or inlets.items k e)) }
 {
     let mut inlets = Vec::new(alloc);
-    let most = most_pages(workers.len());
+    let most = most_pages(round, workers.len());
     for k in 0..workers.len() {
         let owner = Owner { number: k, most };
-        let (outlet, inlet) = open_ring(alloc, owner, count)?;
+        let (outlet, inlet) = open_ring(alloc, owner, round.pages.count)?;
         inlets.push(inlet)?;
         link(&mut workers[k], outlet);
     }

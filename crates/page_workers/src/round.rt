@@ -24,7 +24,7 @@ use std::sync::Wait;
 use std::thread;
 use std::thread::Threads;
 
-/// The most workers of a run. Each of them gets a thread of its own.
+/// The most workers of a run.
 pub const MAX_WORKERS: usize = 32;
 
 // Takes room for n results and pages more.
@@ -103,12 +103,13 @@ pub fn draw_round<R: Threads + Wait + Sync, F: FontSource + Send>(
     let round = Round {
         counter,
         pages: PageRange { first, count },
+        threads: MAX_WORKERS,
     };
     seat_at_counter(&round.counter, &mut seat, workers);
     thread::for_each_mut(
         rt,
         workers,
-        MAX_WORKERS,
+        round.threads,
         &|_, worker: &mut Worker<F>|
             requires { (round.pages.first + round.pages.count ≤ pages_begun job.index.now.reading)
                 × MayTakePart F.library job.bench.now round.counter round.pages.count worker.old }

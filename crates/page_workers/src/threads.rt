@@ -1,11 +1,17 @@
-//! Which rounds are drawn in the caller's thread alone.
+//! In how many threads a round is drawn, and which rounds in the caller's thread alone.
 ghost use Rattle.std.specs.Prelude.{◌+◌, ◌≤◌};
 ghost use Rattle.page_index.specs.Document.{pages_begun};
 
 use crate::claiming::Round;
 use crate::job::Job;
+use crate::round::MAX_WORKERS;
 use crate::worker::Worker;
 use outside::FontSource;
+use std::thread;
+use std::thread::Threads;
+
+// How many workers each have a thread, however few processors there are.
+const FEW_WORKERS: usize = 8;
 
 // How many dots all pages of a round have, and how many bytes of commands each of them, that one
 // thread draws sooner than others are started.
@@ -17,6 +23,20 @@ const FEW_BYTES: usize = 128;
 const FIRST_FONT: u8 = 171;
 
 const LAST_FONT: u8 = 238;
+
+/// In how many threads n workers draw a round at most: in one for each or, where they are more than
+/// eight, in one for each processor. More threads would only take turns, and draw on more memory.
+pub(crate) fn drawing_threads<R: Threads>(rt: &R, workers: usize) -> usize
+    ensures { 1 ≤ result }
+{
+    if workers <= FEW_WORKERS {
+        return MAX_WORKERS;
+    }
+    match thread::available_parallelism(rt) {
+        Ok(processors) => processors.get(),
+        Err(_) => MAX_WORKERS,
+    }
+}
 
 // Whether a page has few commands, and none that selects a font, as far as its bytes alone tell: so
 // it loads none.

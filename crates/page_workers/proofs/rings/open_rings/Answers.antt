@@ -30,13 +30,13 @@ loop-k-preserved g c =
     let ts = c.loop-k.inlets.items in
     let t = c.in_ok-outlet.inlet in
     let ends = c.in_ok-outlet.ensures in
-    let linked : AreNewlyLinked c.args.count v t = record { outlet = c.in_ok-outlet.outlet; is = ap (λ w. w.outlet) c.link.ensures; pair = ends.0; unsent = ends.1; unreceived = ends.2; room = ends.3 } in
+    let linked : AreNewlyLinked c.args.round.now.pages.count v t = record { outlet = c.in_ok-outlet.outlet; is = ap (λ w. w.outlet) c.link.ensures; pair = ends.0; unsent = ends.1; unreceived = ends.2; room = ends.3 } in
     let more : c.push.new.self.items ≡ ts ++ t ∷ [] = search rules in
     record {
       long = search rules;
       same = each_step xs ws i v inside (λ _ a b. WithOutlet a b)
           (λ d. subst (λ a. WithOutlet a v) (here xs ws i v inside inv.left c.index-workers-k.result d) (Some c.in_ok-outlet.outlet, c.link.ensures)) inv.same;
-      linked = subst (λ (l : List Inlet). (k : ℕ) (d : _) (e : _) → k < i + 1 → AreNewlyLinked c.args.count (get_or (set ws i v) k d) (get_or l k e)) (sym more)
-          (each_pair_step xs ws ts i v t inside inv.long (λ x _ b. AreNewlyLinked c.args.count b x) (λ d. linked) inv.linked);
+      linked = subst (λ (l : List Inlet). (k : ℕ) (d : _) (e : _) → k < i + 1 → AreNewlyLinked c.args.round.now.pages.count (get_or (set ws i v) k d) (get_or l k e)) (sym more)
+          (each_pair_step xs ws ts i v t inside inv.long (λ x _ b. AreNewlyLinked c.args.round.now.pages.count b x) (λ d. linked) inv.linked);
       left = left_step xs ws i v inside inv.left;
     }
