@@ -147,7 +147,8 @@ fn decode_locals(
             let widths = scaled_widths(alloc, tfm, key.size)?;
             let weight = file.weight() as u64;
             let shapes = Shapes::Virtual { file, keys };
-            Ok(Decoded::Font(Font::new(key.size, widths, shapes, weight)))
+            let font = Font::new(alloc, key.size, widths, shapes, weight)?;
+            Ok(Decoded::Font(font))
         }
         None => Ok(Decoded::Fault(FontFault::Size)),
     }
@@ -198,7 +199,8 @@ fn decode_bare(alloc: Global, key: &FontKey, tfm: &Tfm) -> Result<Decoded, NoMem
         DecodesBare key.now bytes d) }
 {
     let widths = scaled_widths(alloc, tfm, key.size)?;
-    Ok(Decoded::Bare(Font::new(key.size, widths, Shapes::Bare, 0)))
+    let font = Font::new(alloc, key.size, widths, Shapes::Bare, 0)?;
+    Ok(Decoded::Bare(font))
 }
 
 // Judges the PK file, and makes the font.
@@ -214,7 +216,9 @@ fn decode_pk(alloc: Global, key: &FontKey, tfm: &Tfm, pk: &[u8]) -> Result<Decod
         Ok(glyphs) => {
             let widths = scaled_widths(alloc, tfm, key.size)?;
             let weight = glyphs.weight();
-            Ok(Decoded::Font(Font::new(key.size, widths, Shapes::Packed(glyphs), weight)))
+            let shapes = Shapes::Packed(glyphs);
+            let font = Font::new(alloc, key.size, widths, shapes, weight)?;
+            Ok(Decoded::Font(font))
         }
         Err(PkStop::Fault(fault)) => Ok(Decoded::Fault(FontFault::Pk(fault))),
         Err(PkStop::NoMemory) => Err(NoMemory),
@@ -234,7 +238,9 @@ fn decode_gf(alloc: Global, key: &FontKey, tfm: &Tfm, gf: &[u8]) -> Result<Decod
         Ok(glyphs) => {
             let widths = scaled_widths(alloc, tfm, key.size)?;
             let weight = glyphs.weight();
-            Ok(Decoded::Font(Font::new(key.size, widths, Shapes::Generic(glyphs), weight)))
+            let shapes = Shapes::Generic(glyphs);
+            let font = Font::new(alloc, key.size, widths, shapes, weight)?;
+            Ok(Decoded::Font(font))
         }
         Err(GfStop::Fault(fault)) => Ok(Decoded::Fault(FontFault::Gf(fault))),
         Err(GfStop::NoMemory) => Err(NoMemory),

@@ -1,6 +1,9 @@
 //! What a key's files come to.
+ghost use Rattle.std.specs.Prelude.{◌≡◌, IfOk};
+
 use crate::{Font, FontFault};
 use cache_core::Stands;
+use std::alloc::AllocError as NoMemory;
 
 /// A font, or the first thing that is wrong with it.
 #[derive(Drop)]
@@ -11,6 +14,20 @@ pub enum Decoded {
     Bare(Font),
     /// Its first fault, where that is another one.
     Fault(FontFault),
+}
+
+impl Decoded {
+    /// The same again, with the font's widths and characters in common. `NoMemory` comes where no
+    /// more shares can be counted.
+    pub fn share(&self) -> Result<Decoded, NoMemory>
+        ensures { IfOk result (λ decoded. decoded ≡ self.now) }
+    {
+        match self {
+            Decoded::Font(font) => Ok(Decoded::Font(font.share()?)),
+            Decoded::Bare(font) => Ok(Decoded::Bare(font.share()?)),
+            Decoded::Fault(fault) => Ok(Decoded::Fault(*fault)),
+        }
+    }
 }
 
 /// A decoding stands for a key where it is what the key's files in the common library come to, at

@@ -1,5 +1,5 @@
 //! A font whose files were read.
-ghost use Rattle.std.specs.Prelude.{◌≡◌, ◌≤◌, ◌<◌, ◌^◌, ℕ, pos, length, unsigned_abs, IfSome, IsSome, MatchOption, None, Some};
+ghost use Rattle.std.specs.Prelude.{◌≡◌, ◌≤◌, ◌<◌, ◌^◌, ℕ, pos, length, unsigned_abs, IfOk, IfSome, IsSome, MatchOption, None, Some};
 ghost use Rattle.std.specs.Arc.{arc_value};
 ghost use Rattle.outside.specs.FontKeys.{IsFontKey};
 ghost use Rattle.outside.specs.Limits.{SIZES};
@@ -9,8 +9,16 @@ ghost use Rattle.font_decode.specs.Fonts.{AreShapes, AreWidths, IsProgram, first
 use crate::shapes::Shapes;
 use outside::FontKey;
 use pk_runs::Glyph;
+use std::alloc::{AllocError as NoMemory, Global};
 use std::marker::Model;
 use std::sync::Arc;
+
+// What the shares of a font have in common.
+#[derive(Drop)]
+struct Tables {
+    widths: Vec<Option<i64>>,
+    shapes: Shapes,
+}
 
 /// A font at a size: its widths, and its glyphs in dots, of which a bare font has none, or, of a
 /// virtual font, its packets of commands and its local fonts. A contract sees it as its size, the
@@ -19,40 +27,67 @@ use std::sync::Arc;
 #[derive(Drop)]
 pub struct Font {
     size: u32,
-    widths: Vec<Option<i64>>,
-    shapes: Shapes,
     weight: u64,
+    tables: Arc<Tables>,
 }
 
 impl Model for Font {
+    ghost use Rattle.std.specs.Arc.{arc_value};
     ghost use Rattle.font_decode.specs.Fonts.{FontValue};
     ghost use Rattle.font_decode.specs.FontWeights.{IsWeighedFont};
 
     ghost Value = { FontValue };
 
-    ghost view = { λ f. record { size = f.size; widths = f.widths.items; shapes = f.shapes } };
+    ghost view = { λ f. record {
+      size = f.size;
+      widths = (arc_value f.tables).widths.items;
+      shapes = (arc_value f.tables).shapes;
+    } };
 
     ghost invariant = { λ f. IsWeighedFont
-        (record { size = f.size; widths = f.widths.items; shapes = f.shapes }) f.weight };
+        (record {
+          size = f.size;
+          widths = (arc_value f.tables).widths.items;
+          shapes = (arc_value f.tables).shapes;
+        }) f.weight };
 }
 
 impl Font {
     // A font of this size, with these widths and characters, which weigh so many bytes.
-    pub(crate) fn new(size: u32, widths: Vec<Option<i64>>, shapes: Shapes, weight: u64) -> Font
+    pub(crate) fn new(
+        alloc: Global,
+        size: u32,
+        widths: Vec<Option<i64>>,
+        shapes: Shapes,
+        weight: u64,
+    ) -> Result<Font, NoMemory>
         requires some { 1 ≤ size }
         requires fits { size < SIZES }
         requires codes { length widths.items ≤ 256 }
         requires widths { AreWidths widths.items }
         requires shapes { AreShapes shapes }
         requires weight { weight ≡ shapes_weight shapes }
-        ensures { result ≡ record { size = size; widths = widths.items; shapes = shapes } }
+        ensures { IfOk result (λ font.
+            font ≡ record { size = size; widths = widths.items; shapes = shapes }) }
     {
-        Font {
+        let tables = Arc::new(alloc, Tables { widths, shapes })?;
+        Ok(Font {
             size,
-            widths,
-            shapes,
             weight,
-        }
+            tables,
+        })
+    }
+
+    /// The same font again. The two have their widths and characters in common, which lie in memory
+    /// until the last of them is dropped. `NoMemory` comes where no more shares can be counted.
+    pub fn share(&self) -> Result<Font, NoMemory>
+        ensures { IfOk result (λ font. font ≡ self.now) }
+    {
+        Ok(Font {
+            size: self.size,
+            weight: self.weight,
+            tables: Arc::try_clone(&self.tables)?,
+        })
     }
 
     /// The width of a character, in DVI units: its width by the TFM file, scaled to the font's size
@@ -65,7 +100,7 @@ impl Font {
         ensures byte { IfSome result (λ _. (n : ℕ) × (c ≡ pos n) × (n < 256)) }
     {
         let code = usize::try_from(c).ok()?;
-        *self.widths.get(code)?
+        *self.tables.widths.get(code)?
     }
 
     /// Whether the font is a virtual one, whose characters are packets of commands (Knuth, VFtoVP,
@@ -74,7 +109,7 @@ impl Font {
     pub fn is_virtual(&self) -> bool
         ensures { result ≡ is_virtual_of self.now }
     {
-        match &self.shapes {
+        match &self.tables.shapes {
             Shapes::Packed(_) | Shapes::Generic(_) | Shapes::Bare => false,
             Shapes::Virtual { .. } => true,
         }
@@ -88,7 +123,7 @@ impl Font {
         ensures { MatchOption result (glyph_at self.now c ≡ None)
             (λ g. glyph_at self.now c ≡ Some g.now) }
     {
-        match &self.shapes {
+        match &self.tables.shapes {
             Shapes::Packed(glyphs) => glyphs.glyph(c),
             Shapes::Generic(glyphs) => glyphs.glyph(c),
             Shapes::Bare | Shapes::Virtual { .. } => None,
@@ -104,7 +139,7 @@ impl Font {
             (λ packet. packet_of self.now c ≡ Some packet.now) }
         ensures commands { IfSome result (λ packet. IsProgram c packet.now) }
     {
-        match &self.shapes {
+        match &self.tables.shapes {
             Shapes::Packed(_) | Shapes::Generic(_) | Shapes::Bare => None,
             Shapes::Virtual { file, .. } => file.packet(c),
         }
@@ -117,7 +152,7 @@ impl Font {
             (λ key. local_of self.now k ≡ Some (arc_value key.now)) }
         ensures fits { IfSome result (λ key. IsFontKey (arc_value key.now)) }
     {
-        match &self.shapes {
+        match &self.tables.shapes {
             Shapes::Packed(_) | Shapes::Generic(_) | Shapes::Bare => None,
             Shapes::Virtual { keys, .. } => keys.get(k),
         }
@@ -129,7 +164,7 @@ impl Font {
         ensures number { result ≡ first_local_of self.now }
         ensures there { IfSome result (λ k. IsSome (local_of self.now k)) }
     {
-        match &self.shapes {
+        match &self.tables.shapes {
             Shapes::Packed(_) | Shapes::Generic(_) | Shapes::Bare => None,
             Shapes::Virtual { file, .. } => file.first_local(),
         }

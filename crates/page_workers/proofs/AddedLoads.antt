@@ -1,5 +1,5 @@
 -- Loads that are added to a count.
-use Rattle.std.proofs.Common.{◌≡◌, ℕ, ◌+◌, ◌^◌, ◌≤◌, Option, Some, None, Result, Ok, Err, arith}
+use Rattle.std.proofs.Common.{ℕ, ◌+◌, ◌^◌, ◌≤◌, Option, Some, None, Result, Ok, Err, arith}
 use Rattle.std.specs.Prelude.{IfSome, OnOk}
 use Rattle.outside.specs.Library.{FileTable}
 use Rattle.font_decode.specs.Loads.{RoseBy, RoseUpTo, MAX_LOADS}

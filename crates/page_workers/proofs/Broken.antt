@@ -1,12 +1,12 @@
 -- A page of which only the first look-ups were noted was broken off at one of them.
-use Rattle.std.proofs.Common.{◌≡◌, inl, inr, ◌⊎◌, ℕ, List, [], ◌∷◌, ◌++◌, Option, Some, None, Result, Ok, Err, refl, sym, ap, subst, ◌∙◌, append_assoc, append-nil}
+use Rattle.std.proofs.Common.{◌≡◌, inl, inr, ◌⊎◌, ℕ, List, [], ◌∷◌, ◌++◌, Option, Some, Result, Ok, Err, refl, sym, ap, subst, ◌∙◌, append_assoc}
 use Rattle.std.proofs.lemmas.List.{append_cancel_left}
 use Rattle.outside.specs.declared.keys.FontKey.{FontKey}
 use Rattle.pixel_round.specs.Pixels.{Fraction, conversion}
-use Rattle.drift_rules.specs.Position.{State, state_after, at_origin}
+use Rattle.drift_rules.specs.Position.{State, state_after}
 use Rattle.page_index.specs.Pages.{Indexed}
 use Rattle.font_decode.specs.Desks.{GrewBy}
-use Rattle.vf_expand.specs.Course.{Course, course_of}
+use Rattle.vf_expand.specs.Course.{Course}
 use Rattle.page_draw.specs.Drawn.{IsBroken, IsDrawn}
 use Rattle.page_draw.specs.Members.{Member, Flat, LookUp, Lack, Finding, Unfolds, and_then, last_state, looks_of}
 use Rattle.page_draw.specs.Values.{PageValue}

@@ -1,5 +1,5 @@
 -- What came of a page whose looks were noted at its end.
-use Rattle.std.proofs.Common.{◌≡◌, ◌⊎◌, inl, inr, ℕ, List, [], Option, Some, None, Result, Ok, Err, refl, sym, ap, subst, ◌∙◌, arith, Global}
+use Rattle.std.proofs.Common.{◌≡◌, inl, inr, ℕ, List, [], Option, Some, None, Result, Ok, Err, refl, sym, ap, subst, ◌∙◌, arith, Global}
 use Rattle.std.specs.Prelude.{All, IfOk, IfErr, length}
 use Rattle.std.specs.Arc.{arc_value}
 use Rattle.std.specs.declared.sync.Arc.{Arc}
@@ -10,7 +10,7 @@ use Rattle.outside.specs.declared.keys.FontKey.{FontKey}
 use Rattle.turn_lock.specs.Seats.{SeatView}
 use Rattle.page_index.specs.Pages.{Indexed}
 use Rattle.cache_core.specs.Histories.{looks}
-use Rattle.font_decode.specs.Desks.{GrewBy, Trail, TrailGrew}
+use Rattle.font_decode.specs.Desks.{Trail, TrailGrew}
 use Rattle.font_decode.specs.declared.desk.DeskStop.{DeskStop}
 use Rattle.font_decode.specs.declared.desk.DeskStop.TheVariants as desk
 use Rattle.font_decode.proofs.Trails.{trail_none}

@@ -1,6 +1,5 @@
 -- What a seat did for keys that were noted as hits.
-use Rattle.std.proofs.Common.{◌≡◌, inl, inr, ℕ, ◌+◌, ◌*◌, List, [], ◌∷◌, ◌++◌, Some, refl, sym, ap, subst, ◌∙◌, arith}
-use Rattle.std.specs.Prelude.{IfSome}
+use Rattle.std.proofs.Common.{◌≡◌, inl, inr, ℕ, ◌+◌, ◌*◌, List, [], ◌∷◌, Some, refl, sym, ap, subst, arith}
 use Rattle.outside.specs.Library.{FileTable}
 use Rattle.outside.specs.declared.keys.FontKey.{FontKey}
 use Rattle.pixel_round.specs.declared.units.Units.{Units}
@@ -9,7 +8,7 @@ use Rattle.cache_core.specs.Hits.{hits}
 use Rattle.cache_core.specs.States.{call}
 use Rattle.cache_core.specs.declared.calls.Done.TheVariants.{Hit}
 use Rattle.turn_lock.specs.Seats.{SeatView}
-use Rattle.font_decode.specs.Desks.{IsWeightIn, LoadedFiles, ReleasedLast, files_loaded, misses, Loaded, TrailGrew}
+use Rattle.font_decode.specs.Desks.{IsWeightIn, ReleasedLast, files_loaded, misses, Loaded, TrailGrew}
 use Rattle.font_decode.specs.Loads.{MAX_LOADS}
 use Rattle.font_decode.proofs.FilesLoaded.{none_loaded}
 use Rattle.page_workers.specs.Seats.{asked_at, trail_at}

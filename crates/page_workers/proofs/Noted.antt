@@ -1,29 +1,24 @@
 -- A worker that draws a page, once looks were noted or one is left for later, and when the page ends.
-use Rattle.std.proofs.Common.{◌≡◌, ◌⊎◌, inl, inr, ℕ, ◌+◌, ◌<◌, ◌≤◌, List, [], ◌∷◌, ◌++◌, map, length, Option, Some, None, Result, Ok, Err, refl, sym, ap, subst, ◌∙◌, arith, length-append, Global}
-use Rattle.std.specs.Prelude.{All, IfOk, IsErrOf, OnErr, OnOk}
+use Rattle.std.proofs.Common.{◌≡◌, ℕ, ◌+◌, ◌≤◌, List, length, Option, Some, None, arith, Global}
+use Rattle.std.specs.Prelude.{All}
 use Rattle.std.specs.Arc.{arc_value}
 use Rattle.std.specs.declared.sync.Arc.{Arc}
-use Rattle.std.proofs.lemmas.List.Elements.{All-push}
-use Rattle.outside.specs.Counts.{HasCause, Rose}
+use Rattle.outside.specs.Counts.{HasCause}
 use Rattle.outside.specs.FontKeys.{IsFontKey}
 use Rattle.outside.specs.Library.{FileTable}
 use Rattle.outside.specs.declared.keys.FontKey.{FontKey}
-use Rattle.turn_lock.specs.Seats.{SeatView}
-use Rattle.font_decode.specs.Desks.{GrewBy, GrewByAtMost, Trail, TrailGrew}
+use Rattle.font_decode.specs.Desks.{Trail, TrailGrew}
 use Rattle.font_decode.specs.declared.desk.DeskStop.{DeskStop}
 use Rattle.font_decode.specs.declared.desk.DeskStop.TheVariants as desk
-use Rattle.font_decode.proofs.Trails.{asked_none, asked_more, trail_as, trail_more}
-use Rattle.page_draw.specs.Drawn.{IsOwnStop, IsWhole}
+use Rattle.font_decode.proofs.Trails.{trail_as, trail_more}
+use Rattle.page_draw.specs.Drawn.{IsOwnStop}
 use Rattle.page_draw.specs.Stops.{stop_of_desk}
-use Rattle.page_draw.specs.declared.stop.PageStop.{PageStop}
-use Rattle.page_draw.specs.declared.stop.PageStop.TheVariants as stop
 use Rattle.page_draw.proofs.Ends.{rose_on}
 use Rattle.page_workers.specs.PageDesks.{DrawsPage}
 use Rattle.page_workers.specs.Rounds.{trail_of}
-use Rattle.page_workers.specs.Seats.{BenchFits, asked_at, asked_with, room_at, room_with}
+use Rattle.page_workers.specs.Seats.{BenchFits, asked_at, room_at, room_with}
 use Rattle.page_workers.specs.declared.bench.Bench.{Bench}
 use Rattle.page_workers.specs.declared.worker.Worker.{Worker}
-use Rattle.page_workers.proofs.Pending.{with_none, with_one}
 
 -- ---- causes
 
@@ -52,17 +47,6 @@ module _ {F : Type 0} (library : F → Option FileTable) (faults loads : F → �
         (trail_as (Unit {0}) (before ≡ None) asked (asked_at v.seat) began (trail_of loads v) (λ u. going) draws.trail)
         (trail_as (after ≡ None) W (asked_at v.seat) (asked_at w.seat) (trail_of loads v) (trail_of loads w) answered grew);
     cause = caused_after failed (faults v.source) (faults w.source) draws.cause.never_falls cause failing;
-  }
-
-  -- a look is left for later
-  pub draws_later : (w : Worker F) (pending : List (Arc FontKey Global)) (k : Arc FontKey Global) (stop : Option DeskStop) → At w pending stop → 1 ≤ room_with w.loads w.seat pending
-      → IsFontKey (arc_value k) → At w (pending ++ k ∷ []) stop
-  draws_later w pending k stop draws room key = record {
-    fits = draws.fits;
-    keys = All-push (λ (j : Arc FontKey Global). IsFontKey (arc_value j)) pending k draws.keys key;
-    room = omega (arith, room, length-append pending (k ∷ []));
-    trail = draws.trail;
-    cause = draws.cause;
   }
 
   -- the page ends, when the looks were noted

@@ -1,25 +1,16 @@
 -- The keys asked with those whose looks aren't noted yet.
-use Rattle.std.proofs.Common.{◌≡◌, inl, inr, ℕ, ◌+◌, ◌-◌, ◌≤◌, List, [], ◌∷◌, ◌++◌, map, length, Option, Some, None, refl, sym, ap, subst, ◌∙◌, arith, append_assoc, append-nil, Global}
-use Rattle.std.proofs.lemmas.List.{map-append}
+use Rattle.std.proofs.Common.{◌≡◌, List, [], ◌∷◌, ◌++◌, map, Option, Some, None, refl, sym, ap, subst, ◌∙◌, append-nil, Global}
 use Rattle.std.specs.Arc.{arc_value}
 use Rattle.std.specs.declared.sync.Arc.{Arc}
 use Rattle.outside.specs.declared.keys.FontKey.{FontKey}
-use Rattle.cache_core.specs.Histories.{looks}
 use Rattle.turn_lock.specs.Seats.{SeatView}
-use Rattle.font_decode.specs.Desks.{GrewBy, GrewByAtMost}
+use Rattle.font_decode.specs.Desks.{GrewBy}
 use Rattle.font_decode.proofs.Trails.{asked_more}
-use Rattle.page_workers.specs.Seats.{asked_at, asked_with, own_calls}
+use Rattle.page_workers.specs.Seats.{asked_at, asked_with}
 
 pub with_none : (seat : Option SeatView) → asked_with seat [] ≡ asked_at seat
 with_none None = refl
 with_none (Some s) = ap Some (append-nil _)
-
--- one more look that isn't noted yet
-pub with_one : (seat : Option SeatView) (pending : List (Arc FontKey Global)) (k : Arc FontKey Global) → GrewBy (asked_with seat pending) (asked_with seat (pending ++ k ∷ [])) (arc_value k ∷ [])
-with_one None pending k = refl
-with_one (Some s) pending k =
-    let noted = looks (own_calls s) in
-    ap Some (ap (λ (l : List FontKey). noted ++ l) (map-append arc_value pending (k ∷ [])) ∙ sym (append_assoc noted (map arc_value pending) (arc_value k ∷ [])))
 
 -- one look was noted, the first of those that weren't
 pub one_noted : (s t : Option SeatView) (k : Arc FontKey Global) (left : List (Arc FontKey Global)) → GrewBy (asked_at s) (asked_at t) (arc_value k ∷ []) → asked_with t left ≡ asked_with s (k ∷ left)

@@ -226,8 +226,12 @@ impl<F: FontSource, K: PageStart> Desk for PageDesk<'_, F, K> {
             self.note_later(rt, alloc, shared, key)?;
             return Ok(font);
         }
+        let loads = self.worker.loads;
         let font = self.ask(rt, alloc, shared, key)?;
-        self.held.add(key, &font)?;
-        Ok(font)
+        // A font that came in may have driven others out of the cache.
+        if self.worker.loads != loads {
+            self.held.clear();
+        }
+        Ok(self.held.add(alloc, key, &font)?)
     }
 }

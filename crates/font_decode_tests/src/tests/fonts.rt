@@ -87,9 +87,9 @@ static CHARACTERS: [(Named, &'static [File; 4], i32, Character<'static>); 20] = 
     ),
 ];
 
-// The font of these files, or the bare font.
+// The font of these files, or the bare font: a share of it that outlives the others.
 fn font(alloc: Global, named: &Named, files: &[File; 4]) -> Result<Font, Fail> {
-    match decoded_of_four(alloc, named, files)? {
+    match decoded_of_four(alloc, named, files)?.share()? {
         Decoded::Font(font) => Ok(font),
         Decoded::Bare(font) => Ok(font),
         Decoded::Fault(_) => Err("a fault")?,

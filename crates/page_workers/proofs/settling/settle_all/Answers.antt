@@ -1,7 +1,7 @@
-use Rattle.std.proofs.Common.{rules, ◌≡◌, ◌+◌, ◌<◌, ◌≤◌, Some, length, refl, ap, ◌∙◌, arith}
+use Rattle.std.proofs.Common.{rules, Some, refl, ap, ◌∙◌, arith}
 use Rattle.std.specs.Prelude.{IsOk, is_ok}
 use Rattle.font_decode.proofs.Trails.{trail_as, trail_more, trail_none}
-use Rattle.page_workers.specs.Seats.{asked_at, room_at, trail_at}
+use Rattle.page_workers.specs.Seats.{asked_at, trail_at}
 use Rattle.page_workers.proofs.settling.settle_all.Goals as goal
 
 pub loop-alloc-init : goal.loop-alloc-init

@@ -1,6 +1,5 @@
-use Rattle.std.proofs.Common.{◌≡◌, ◌+◌, ◌≤◌, All, Some, length, ℕ}
+use Rattle.std.proofs.Common.{◌≡◌, ◌+◌, ◌≤◌, All, Some, length}
 use Rattle.std.specs.Arc.{arc_value}
-use Rattle.outside.specs.Counts.{HasCause}
 use Rattle.outside.specs.FontKeys.{IsFontKey}
 use Rattle.font_decode.specs.Desks.{TrailGrew}
 use Rattle.page_workers.specs.Seats.{SeatFits, asked_at, asked_with, room_at, trail_at}

@@ -1,9 +1,5 @@
-use Rattle.std.proofs.Common.{◌≡◌, Some, None, [], sym, subst, arith, rules, length, List, Global}
-use Rattle.std.specs.Prelude.{All, IsOk}
-use Rattle.std.specs.Arc.{arc_value}
-use Rattle.std.specs.declared.sync.Arc.{Arc}
-use Rattle.outside.specs.FontKeys.{IsFontKey}
-use Rattle.outside.specs.declared.keys.FontKey.{FontKey}
+use Rattle.std.proofs.Common.{Some, arith, rules}
+use Rattle.std.specs.Prelude.{IsOk}
 use Rattle.page_workers.proofs.Noted.{draws_on, none_fails}
 use Rattle.page_workers.proofs.page_desk.PageDesk.ask.Goals as goal
 

@@ -1,6 +1,5 @@
-use Rattle.std.proofs.Common.{◌≡◌, Some, None, rules, sym, ◌∙◌}
-use Rattle.std.specs.Prelude.{IsOk, IsErrOf}
-use Rattle.font_decode.specs.declared.desk.DeskStop.TheVariants.{SourceFault}
+use Rattle.std.proofs.Common.{Some, rules}
+use Rattle.std.specs.Prelude.{IsOk}
 use Rattle.page_workers.proofs.Noted.{draws_on, none_fails}
 use Rattle.page_workers.proofs.page_desk.PageDesk.settle.Goals as goal
 
