@@ -12,6 +12,10 @@ use outside::{Failed, Gather, Output, PIECE};
 use raster_page::Page;
 use std::alloc::Global;
 
+// The rows of a page of at most so many bytes are gathered one by one: memory for a piece would be
+// taken and given back with each page.
+const SMALL: usize = PIECE / 2;
+
 /// The output failed. What it took before is a prefix of the page's text, and not all of it.
 #[derive(Clone, Copy, Debug, PartialEq, Eq, thiserror::Error)]
 #[error("the output failed")]
@@ -43,7 +47,11 @@ pub fn write_page_gathered<O: Output>(
         (page_text page.now) result }
 {
     let row = page.width() as usize / 8 + 1;
-    let piece = Vec::with_capacity(alloc, PIECE + row).ok();
+    let piece = if row.saturating_mul(page.height() as usize) <= SMALL {
+        None
+    } else {
+        Vec::with_capacity(alloc, PIECE + row).ok()
+    };
     write_by(Gather::new(alloc), piece, out, page)
 }
 
