@@ -1,5 +1,5 @@
 """The program as the system sees it: what each stream, the folder of fonts and the environment do to a run."""
-import os, resource, shutil, signal, subprocess, tempfile, threading, unittest
+import os, resource, shutil, signal, subprocess, tempfile, threading, time, unittest
 
 from common import PROGRAM, SAMPLE, definition, document, needs_program, run
 
@@ -393,6 +393,29 @@ class Memory(unittest.TestCase):
         limit = lambda: resource.setrlimit(resource.RLIMIT_AS, (48 << 20, 48 << 20))
         data = document(b'', filler=b'\xdf' * (60 << 20))
         self.assertEqual(called(stdin=held(data), preexec_fn=limit), (9, b'', 'dvipbm: out of memory\n'))
+
+
+@needs_program
+@unittest.skipUnless(os.path.exists('/proc/self/task'), 'no /proc tells how many threads a process has')
+class Threads(unittest.TestCase):
+    def most_threads(self, workers, wanted):
+        """How many threads a run on one processor has at most, while nobody reads its pages: at the latest when it has those wanted."""
+        how = {'stdin': held(document([b'\xabT'] * 32, definition(0))), 'stdout': subprocess.PIPE, 'stderr': subprocess.DEVNULL}
+        how |= {'env': environment(DVIPBM_FONTS=SAMPLE), 'preexec_fn': lambda: os.sched_setaffinity(0, [min(os.sched_getaffinity(0))])}
+        seen, end = [], time.monotonic() + 20
+        with subprocess.Popen([PROGRAM, '--workers', str(workers)], **how) as process:
+            while len(seen) < 20 or max(seen) < wanted and time.monotonic() < end:
+                time.sleep(0.02)
+                seen.append(len(os.listdir(f'/proc/{process.pid}/task')))
+            process.kill()
+        how['stdin'].close()
+        return max(seen)
+
+    def test_more_than_eight_workers_share_the_processors(self):
+        # (who takes the pages has a thread too)
+        for workers, wanted in (1, 1), (2, 3), (8, 9), (9, 2), (32, 2):
+            with self.subTest(workers=workers):
+                self.assertEqual(self.most_threads(workers, wanted), wanted)
 
 
 if __name__ == '__main__':

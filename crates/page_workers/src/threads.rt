@@ -24,8 +24,9 @@ const FIRST_FONT: u8 = 171;
 
 const LAST_FONT: u8 = 238;
 
-/// In how many threads n workers draw a round at most: in one for each or, where they are more than
-/// eight, in one for each processor. More threads would only take turns, and draw on more memory.
+/// In how many threads n workers draw a round: in one for each or, where they are more than eight,
+/// in one for each processor and fewer than two. More would only take turns, and draw on more
+/// memory.
 pub(crate) fn drawing_threads<R: Threads>(rt: &R, workers: usize) -> usize
     ensures { 1 ≤ result }
 {
@@ -33,7 +34,8 @@ pub(crate) fn drawing_threads<R: Threads>(rt: &R, workers: usize) -> usize
         return MAX_WORKERS;
     }
     match thread::available_parallelism(rt) {
-        Ok(processors) => processors.get(),
+        // As many workers to a thread as leave no processor without one.
+        Ok(processors) => workers.div_ceil((workers / processors.get()).max(1)).max(1),
         Err(_) => MAX_WORKERS,
     }
 }
